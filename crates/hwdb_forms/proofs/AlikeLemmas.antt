@@ -1,9 +1,8 @@
 -- Bytes that forms don't tell apart: in a pattern the one matches as the other one does.
-use Rattle.std.proofs.Common.{◌≡◌, ℕ, ◌+◌, ◌<◌, ◌≤◌, Bool, true, false, List, [], ◌∷◌, ◌++◌, refl, sym, ap, subst, ◌∙◌, ◌||◌, ◌==◌, append_assoc, arith, cond, drop, get_or, length, map, suc, zero}
+use Rattle.std.proofs.Common.{◌≡◌, ℕ, ◌<◌, ◌≤◌, Bool, true, false, List, [], ◌∷◌, ◌++◌, refl, sym, ap, subst, ◌∙◌, ◌||◌, ◌==◌, append_assoc, cond, drop, get_or, length, map, suc, zero}
 use Rattle.std.proofs.Math.Seq.{drop-cons}
 use Rattle.std.proofs.lemmas.List.{drop_all}
 use Rattle.std.specs.Prelude.{if◌then◌else◌}
-use Rattle.std.specs.List.{list_any}
 use Rattle.hwdb_spec.specs.declared.ByteSet.{ByteSet}
 use Rattle.hwdb_spec.specs.declared.ByteSet.TheVariants.{Only}
 use Rattle.hwdb_spec.specs.Patterns.{Token, literal, one, star, token_at, tokens}

@@ -1,5 +1,5 @@
 -- Some of the forms that are asked, each at its place.
-use Rattle.std.proofs.Common.{◌≡◌, ℕ, ◌||◌, Bool, true, false, List, [], ◌∷◌, ◌++◌, refl, sym, ap, ◌∙◌, drop, suc, take}
+use Rattle.std.proofs.Common.{◌≡◌, ℕ, ◌||◌, Bool, true, false, List, [], ◌∷◌, ◌++◌, refl, ap, ◌∙◌, ◌<◌, arith, drop, get_or, length, map, suc, take, zero}
 use Rattle.std.specs.List.{list_any}
 use Rattle.hwdb_spec.specs.Patterns.{Token}
 use Rattle.hwdb_spec.specs.Forms.{Form, can_match, meets_form}
@@ -37,3 +37,9 @@ bluetooth_asked = asked_at 2 FormTable.bluetooth refl
 pub oui_asked : IsAsked FormTable.oui
 unfolding known
 oui_asked = asked_at 23 FormTable.oui refl
+
+-- one of some forms, which Rust's values stand for
+pub form_among : (A : Type 0) (f : A → Form) (l : List A) (i : ℕ) (d : A) (ts : List Token) → i < length l → meets_form ts (f (get_or l i d)) ≡ true → can_match (map f l) ts ≡ true
+form_among A f [] i d ts h e = absurd (omega arith)
+form_among A f (x ∷ l) zero d ts h e = true_or (meets_form ts (f x)) (can_match (map f l) ts) e
+form_among A f (x ∷ l) (suc i) d ts h e = ap (λ b. meets_form ts (f x) || b) (form_among A f l i d ts (omega arith) e) ∙ or_true (meets_form ts (f x))

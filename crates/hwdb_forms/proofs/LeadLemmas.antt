@@ -240,11 +240,11 @@ led_first (p ∷ ps) [] rows f = refl
 led_first [] (t ∷ ts) rows f = refl
 led_first (p ∷ ps) (t ∷ ts) rows f = refl
 
-next_piece : (ps : List Piece) (done : ℕ) (d p : Piece) (us : List Token) (row : List Bool) → done < length ps → p ≡ get_or ps done d → pieces_row (drop done ps) us row ≡ piece_row p us (pieces_row (drop (suc done) ps) us row)
+pub next_piece : (ps : List Piece) (done : ℕ) (d p : Piece) (us : List Token) (row : List Bool) → done < length ps → p ≡ get_or ps done d → pieces_row (drop done ps) us row ≡ piece_row p us (pieces_row (drop (suc done) ps) us row)
 unfolding pieces_row
 next_piece ps done d p us row h e = rw (drop-cons ps done d h, e) refl
 
-dropped : (ts : List Token) (at n m : ℕ) → m ≡ at + n → drop n (drop at ts) ≡ drop m ts
+pub dropped : (ts : List Token) (at n m : ℕ) → m ≡ at + n → drop n (drop at ts) ≡ drop m ts
 dropped ts at n m e = drop-drop n at ts ∙ ap (λ (i : ℕ). drop i ts) (sym e)
 
 pub led_more : (ps : List Piece) (ts us : List Token) (done next at to : ℕ) (d p : Piece) → done < length ps → next ≡ suc done → us ≡ drop at ts → to ≡ at + piece_size p → p ≡ get_or ps done d → passed p us ≡ Yes → Led ps ts done at → Led ps ts next to

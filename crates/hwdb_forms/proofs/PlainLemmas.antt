@@ -1,20 +1,18 @@
 -- Texts that are compared with a form byte by byte.
-use Rattle.std.proofs.Common.{◌≡◌, ℕ, ◌+◌, ◌<◌, ◌≤◌, ◌==◌, Bool, true, false, List, [], ◌∷◌, refl, sym, ap, subst, ◌∙◌, Bor, arith, cond, drop, ◌-◌, get_or, length, map, nat_le, suc, zero}
+use Rattle.std.proofs.Common.{◌≡◌, ℕ, ◌+◌, ◌<◌, inl, inr, ◌≤◌, ◌==◌, Bool, true, false, List, [], ◌∷◌, refl, sym, ap, subst, ◌∙◌, arith, cond, drop, ◌-◌, eqb-true, get_or, length, map, nat_le, suc, zero}
 use Rattle.std.proofs.Math.Seq.{drop-cons}
-use Rattle.std.proofs.lemmas.List.{drop-drop, length-drop}
+use Rattle.std.proofs.lemmas.List.{drop-drop, drop_all, length-drop}
 use Rattle.std.proofs.lemmas.Bool.{le-leb}
 use Rattle.std.specs.Prelude.{if◌then◌else◌}
-use Rattle.std.specs.List.{list_any}
 use Rattle.hwdb_spec.specs.declared.ByteSet.{ByteSet}
 use Rattle.hwdb_spec.specs.declared.ByteSet.TheVariants.{Only}
 use Rattle.hwdb_spec.specs.Patterns.{Token, literal, one, star, token_at, token_size, tokens, tokens_from}
-use Rattle.hwdb_spec.specs.Forms.{Piece, counted, is_in, is_wild, fields_row}
+use Rattle.hwdb_spec.specs.Forms.{Piece, counted, end_row, either_row, field_row, fields_row, fixed, head, is_in, is_star, is_wild, many_cell, many_row, meets, pieces_row, repeated, tail}
 use Rattle.hwdb_forms.specs.declared.leads.Passed.TheVariants.{No, Yes}
 use Rattle.hwdb_forms.specs.declared.leads.Passed.{Passed}
-use Rattle.hwdb_forms.specs.declared.pieces.Piece as Rust
-use Rattle.hwdb_forms.specs.Internal.{HaveWays, IsCut, StarEnds, passed_counted, passed_fixed, piece_of, way_met}
-use Rattle.hwdb_forms.proofs.EndLemmas.{counted_ended, seen, seen_at_once}
-use Rattle.hwdb_forms.proofs.LeadLemmas.{Led, fields_family, mapped_drop}
+use Rattle.hwdb_forms.specs.Internal.{GoesThrough, GoesThroughField, GoesThroughWay, IsCut, IsFamily, IsOfMany, passed_counted, passed_fixed}
+use Rattle.hwdb_forms.proofs.EndLemmas.{counted_ended, if_either, if_first, many_next, star_pieces}
+use Rattle.hwdb_forms.proofs.LeadLemmas.{dropped, fields_family, led_first, next_piece, piece_tells, pieces_family}
 
 -- a byte that stands for itself is a token
 plain_by : (s o t : Bool) (b : ℕ) (x : Token) (more : ℕ → List Token) → cond s true (cond o true t) ≡ false
@@ -139,21 +137,179 @@ counted_more set text at n h e own w before = λ m more.
 pub counted_through : (set : ByteSet) (text : List ℕ) (at : ℕ) → GoesOn set text at → passed_counted set at (tokens text) ≡ Yes
 counted_through set text at before = let same : at ≡ at + 0 = omega arith in ap (λ (i : ℕ). passed_counted set i (tokens text)) same ∙ before 0 refl
 
-pub counted_star : (set : ByteSet) (count taken : ℕ) (text rest : List ℕ) → taken ≤ count → rest ≡ drop taken text → passed_counted set taken (tokens text) ≡ Yes → IsCut text taken → tokens rest ≡ star ∷ []
-    → StarEnds (counted set count) (tokens text)
-counted_star set count taken text rest h is passed cut ends = counted_ended set count taken (tokens text) h passed (sym cut ∙ ap tokens (sym is) ∙ ends)
+-- ---- a piece
+pub fixed_goes : (bytes : List ℕ) (ts : List Token) → passed_fixed bytes ts ≡ Yes → GoesThrough (fixed bytes) ts (length bytes)
+fixed_goes bytes ts e = λ rows f h. ((piece_tells (fixed bytes) ts rows f).1 e).1 ∙ h
 
--- the whole way, if its rest is met
-way_plain : (ps : List Piece) (fields : List (List (List Piece))) (ts us : List Token) (done at : ℕ) → Led ps ts done at → us ≡ drop at ts → way_met (drop done ps) fields us ≡ true → way_met ps fields ts ≡ true
-way_plain ps fields ts us done at led u h =
-    led (fields_row fields) (fields_family fields) ∙ subst (λ (vs : List Token). way_met (drop done ps) fields vs ≡ true) u h
+counted_goes : (set : ByteSet) (n : ℕ) (ts : List Token) → passed_counted set n ts ≡ Yes → GoesThrough (counted set n) ts n
+counted_goes set n ts e = λ rows f h. ((piece_tells (counted set n) ts rows f).1 e).1 ∙ h
 
-pub way_starred : (ps : List Piece) (fields : List (List (List Piece))) (ts us : List Token) (done at : ℕ) → Led ps ts done at → us ≡ drop at ts → us ≡ star ∷ [] → HaveWays fields → way_met ps fields ts ≡ true
-way_starred ps fields ts us done at led u e have = way_plain ps fields ts us done at led u (seen_at_once (drop done ps) fields us e have)
+pub counted_whole : (set : ByteSet) (count taken : ℕ) (ts : List Token) → taken ≡ count → passed_counted set taken ts ≡ Yes → GoesThrough (counted set count) ts taken
+counted_whole set count taken ts e passed = subst (λ (n : ℕ). GoesThrough (counted set n) ts taken) e (counted_goes set taken ts passed)
 
-pub way_ended : (way : List Rust.Piece) (fields : List (List (List Piece))) (ts us : List Token) (done at : ℕ) (d : Rust.Piece) → done < length way → Led (map piece_of way) ts done at → us ≡ drop at ts
-    → StarEnds (piece_of (get_or way done d)) us → HaveWays fields → way_met (map piece_of way) fields ts ≡ true
-way_ended way fields ts us done at d h led u ends have =
-    let rest : drop done (map piece_of way) ≡ map piece_of (get_or way done d ∷ drop (suc done) way) = sym (mapped_drop way done) ∙ ap (map piece_of) (drop-cons way done d h) in
-    way_plain (map piece_of way) fields ts us done at led u
-    (subst (λ (ps : List Piece). way_met ps fields us ≡ true) (sym rest) (seen (get_or way done d ∷ drop (suc done) way) d fields us (omega arith) ends have))
+pub counted_partly : (set : ByteSet) (count taken : ℕ) (text rest : List ℕ) → taken ≤ count → rest ≡ drop taken text → passed_counted set taken (tokens text) ≡ Yes → IsCut text taken → tokens rest ≡ star ∷ []
+    → GoesThrough (counted set count) (tokens text) taken
+counted_partly set count taken text rest h is passed cut ends =
+    let d : drop taken (tokens text) ≡ star ∷ [] = sym cut ∙ ap tokens (sym is) ∙ ends in
+    λ rows f t. counted_ended set count taken (tokens text) h passed d rows f (subst (λ (us : List Token). head (rows us) ≡ true) d t)
+
+-- ---- any number of bytes, and stars
+star_cons : (rest : List ℕ) → tokens (42 ∷ rest) ≡ star ∷ tokens rest
+unfolding tokens_from token_at
+star_cons rest = refl
+
+pub cut_star : (text : List ℕ) (at n : ℕ) → at < length text → n ≡ suc at → get_or text at 0 ≡ 42 → IsCut text at → IsCut text n
+cut_star text at n h e w cut =
+    let parted : tokens (drop at text) ≡ star ∷ tokens (drop (suc at) text) =
+    ap tokens (drop-cons text at 0 h ∙ ap (λ (b : ℕ). b ∷ drop (suc at) text) w) ∙ star_cons (drop (suc at) text) in
+    ap (λ (i : ℕ). tokens (drop i text)) e ∙ ap rest_of (sym parted ∙ cut) ∙ rest_drop (tokens text) at ∙ sym (ap (λ (i : ℕ). drop i (tokens text)) e)
+
+pub cut_any : (set : ByteSet) (text : List ℕ) (at n : ℕ) → at < length text → n ≡ suc at → IsOfMany set (get_or text at 0) → IsCut text at → IsCut text n
+cut_any set text at n h e of cut = elim of [
+  | inl starred ↦ cut_star text at n h e starred cut
+  | inr both ↦ cut_more text at n h e both.1 cut
+]
+
+here_cell : (s met here next : Bool) → here ≡ true → many_cell s met here next ≡ true
+here_cell true met true next e = refl
+here_cell true met false next e = cc
+here_cell false met true next e = refl
+here_cell false met false next e = cc
+
+next_cell : (met here next : Bool) → next ≡ true → many_cell true met here next ≡ true
+next_cell met true next e = refl
+next_cell met false next e = e
+
+many_here : (set : ByteSet) (ts : List Token) (row : List Bool) → head row ≡ true → head (many_row set ts row) ≡ true
+unfolding many_row
+many_here set [] row h = h
+many_here set (t ∷ ts) row h = here_cell (is_star t) (meets t set) (head row) (head (many_row set ts (tail row))) h
+
+star_next : (set : ByteSet) (ts : List Token) (rows : List Token → List Bool) → IsFamily rows → head (many_row set ts (rows ts)) ≡ true → head (many_row set (star ∷ ts) (rows (star ∷ ts))) ≡ true
+unfolding many_row
+star_next set ts rows f h =
+    next_cell true (head (rows (star ∷ ts))) (head (many_row set ts (tail (rows (star ∷ ts))))) (ap (λ (r : List Bool). head (many_row set ts r)) (f star ts) ∙ h)
+
+-- what any number of bytes match from a place on is matched from the beginning
+abbrev pub ManyTo : ByteSet → List ℕ → ℕ → Type 0
+ManyTo set text at =
+    (rows : List Token → List Bool) → IsFamily rows → head (many_row set (tokens (drop at text)) (rows (tokens (drop at text)))) ≡ true → head (many_row set (tokens text) (rows (tokens text))) ≡ true
+
+pub many_first : (set : ByteSet) (text : List ℕ) → ManyTo set text 0
+many_first set text = λ rows f h. subst (λ (l : List ℕ). head (many_row set (tokens l) (rows (tokens l))) ≡ true) (none_dropped ℕ text) h
+
+one_more : (set : ByteSet) (b : ℕ) (rest : List ℕ) (rows : List Token → List Bool) → IsFamily rows → IsOfMany set b → head (many_row set (tokens rest) (rows (tokens rest))) ≡ true
+    → head (many_row set (tokens (b ∷ rest)) (rows (tokens (b ∷ rest)))) ≡ true
+one_more set b rest rows f of h = elim of [
+  | inl starred ↦ subst (λ (ts : List Token). head (many_row set ts (rows ts)) ≡ true) (sym (ap (λ (c : ℕ). tokens (c ∷ rest)) starred ∙ star_cons rest)) (star_next set (tokens rest) rows f h)
+  | inr both ↦ subst (λ (ts : List Token). head (many_row set ts (rows ts)) ≡ true) (sym (plain_token b rest both.1)) (many_next set (literal b) (tokens rest) rows f refl both.0 h)
+]
+
+pub many_more : (set : ByteSet) (text : List ℕ) (at n : ℕ) → at < length text → n ≡ suc at → IsOfMany set (get_or text at 0) → ManyTo set text at → ManyTo set text n
+many_more set text at n h e of before = λ rows f more.
+    before rows f (subst (λ (l : List ℕ). head (many_row set (tokens l) (rows (tokens l))) ≡ true) (sym (drop-cons text at 0 h))
+    (one_more set (get_or text at 0) (drop (suc at) text) rows f of (subst (λ (i : ℕ). head (many_row set (tokens (drop i text)) (rows (tokens (drop i text)))) ≡ true) e more)))
+
+pub many_done : (set : ByteSet) (text : List ℕ) (at : ℕ) → IsCut text at → ManyTo set text at → GoesThrough (repeated set) (tokens text) at
+many_done set text at cut before = λ rows f h.
+    before rows f (many_here set (tokens (drop at text)) (rows (tokens (drop at text))) (subst (λ (us : List Token). head (rows us) ≡ true) (sym cut) h))
+
+-- ---- a way
+abbrev pub LedTo : List Piece → List Token → ℕ → ℕ → Type 0
+LedTo ps ts done at =
+    (rows : List Token → List Bool) → IsFamily rows → head (pieces_row (drop done ps) (drop at ts) (rows (drop at ts))) ≡ true → head (pieces_row ps ts (rows ts)) ≡ true
+
+pub led_to_first : (ps : List Piece) (ts : List Token) → LedTo ps ts 0 0
+led_to_first ps ts = λ rows f h. led_first ps ts rows f ∙ h
+
+pub led_on : (ps : List Piece) (ts us : List Token) (done next at to n : ℕ) (d p : Piece) → done < length ps → next ≡ suc done → us ≡ drop at ts → to ≡ at + n → p ≡ get_or ps done d → GoesThrough p us n → LedTo ps ts done at → LedTo ps ts next to
+led_on ps ts us done next at to n d p h e u t k through led = λ rows f more.
+    let inner : List Token → List Bool = λ vs. pieces_row (drop (suc done) ps) vs (rows vs) in
+    let goes : GoesThrough p (drop at ts) n = subst (λ (vs : List Token). GoesThrough p vs n) u through in
+    led rows f
+    (ap head (next_piece ps done d p (drop at ts) (rows (drop at ts)) h k)
+    ∙ goes inner (pieces_family (drop (suc done) ps) rows f)
+    (ap (λ (vs : List Token). head (inner vs)) (dropped ts at n to t)
+    ∙ ap (λ (i : ℕ). head (pieces_row (drop i ps) (drop to ts) (rows (drop to ts)))) (sym e)
+    ∙ more))
+
+pub led_starred : (ps : List Piece) (ts us : List Token) (done at : ℕ) → us ≡ drop at ts → us ≡ star ∷ [] → LedTo ps ts done at → GoesThroughWay ps ts at
+led_starred ps ts us done at u e led = λ rows f h.
+    let alone : drop at ts ≡ star ∷ [] = sym u ∙ e in
+    led rows f (subst (λ (vs : List Token). head (pieces_row (drop done ps) vs (rows vs)) ≡ true) (sym alone)
+    (star_pieces (drop done ps) (rows (star ∷ [])) (subst (λ (vs : List Token). head (rows vs) ≡ true) alone h)))
+
+pub led_whole : (ps : List Piece) (ts : List Token) (done at : ℕ) → length ps ≤ done → LedTo ps ts done at → GoesThroughWay ps ts at
+unfolding pieces_row
+led_whole ps ts done at h led = λ rows f t.
+    led rows f (subst (λ (l : List Piece). head (pieces_row l (drop at ts) (rows (drop at ts))) ≡ true) (sym (drop_all done ps h)) t)
+
+-- ---- a field
+field_first : (ts : List Token) (left other : List Bool) → head left ≡ true → head (either_row ts left other) ≡ true
+unfolding either_row
+field_first [] left other h = if_first (head left) (head other) h
+field_first (t ∷ ts) left other h = if_first (head left) (head other) h
+
+field_later : (ts : List Token) (left other : List Bool) → head other ≡ true → head (either_row ts left other) ≡ true
+unfolding either_row
+field_later [] left other h = if_either (head left) (head other) h
+field_later (t ∷ ts) left other h = if_either (head left) (head other) h
+
+way_in : (field : List (List Piece)) (i : ℕ) (d : List Piece) (ts : List Token) (row : List Bool) → i < length field → head (pieces_row (get_or field i d) ts row) ≡ true → head (field_row field ts row) ≡ true
+unfolding field_row
+way_in [] i d ts row h e = absurd (omega arith)
+way_in (way ∷ more) zero d ts row h e = field_first ts (pieces_row way ts row) (field_row more ts row) e
+way_in (way ∷ more) (suc i) d ts row h e = field_later ts (pieces_row way ts row) (field_row more ts row) (way_in more i d ts row (omega arith) e)
+
+map_at : (A B : Type 0) (f : A → B) (l : List A) (i : ℕ) (d : A) → f (get_or l i d) ≡ get_or (map f l) i (f d)
+map_at A B f [] zero d = refl
+map_at A B f [] (suc i) d = refl
+map_at A B f (x ∷ l) zero d = refl
+map_at A B f (x ∷ l) (suc i) d = map_at A B f l i d
+
+map_long : (A B : Type 0) (f : A → B) (l : List A) → length (map f l) ≡ length l
+map_long A B f [] = refl
+map_long A B f (x ∷ l) = ap suc (map_long A B f l)
+
+pub field_through : (A : Type 0) (f : A → List Piece) (field : List A) (i : ℕ) (d : A) (ts : List Token) (n : ℕ) → i < length field → GoesThroughWay (f (get_or field i d)) ts n → GoesThroughField (map f field) ts n
+field_through A f field i d ts n h through = λ rows g t.
+    way_in (map f field) i (f d) ts (rows ts) (omega (arith, h, map_long A (List Piece) f field))
+    (subst (λ (way : List Piece). head (pieces_row way ts (rows ts)) ≡ true) (map_at A (List Piece) f field i d) (through rows g t))
+
+-- ---- fields
+abbrev pub FieldsTo : List (List (List Piece)) → List Token → ℕ → ℕ → Type 0
+FieldsTo fields ts done at = head (fields_row (drop done fields) (drop at ts)) ≡ true → head (fields_row fields ts) ≡ true
+
+pub fields_first : (fields : List (List (List Piece))) (ts : List Token) → FieldsTo fields ts 0 0
+fields_first fields ts = λ h. subst (λ (fs : List (List (List Piece))). head (fields_row fs ts) ≡ true) (none_dropped (List (List Piece)) fields)
+    (subst (λ (us : List Token). head (fields_row (drop 0 fields) us) ≡ true) (none_dropped Token ts) h)
+
+next_field : (fields : List (List (List Piece))) (done : ℕ) (d field : List (List Piece)) (us : List Token) → done < length fields → field ≡ get_or fields done d → fields_row (drop done fields) us ≡ field_row field us (fields_row (drop (suc done) fields) us)
+unfolding fields_row
+next_field fields done d field us h e = rw (drop-cons fields done d h, e) refl
+
+pub fields_on : (A : Type 0) (f : A → List (List Piece)) (all : List A) (d : A) (ts us : List Token) (done next at to n : ℕ) → done < length all → next ≡ suc done → us ≡ drop at ts → to ≡ at + n
+    → GoesThroughField (f (get_or all done d)) us n → FieldsTo (map f all) ts done at → FieldsTo (map f all) ts next to
+fields_on A f all d ts us done next at to n h e u t through before more =
+    let fields : List (List (List Piece)) = map f all in
+    let inner : List Token → List Bool = fields_row (drop (suc done) fields) in
+    let goes : GoesThroughField (f (get_or all done d)) (drop at ts) n = subst (λ (vs : List Token). GoesThroughField (f (get_or all done d)) vs n) u through in
+    before
+    (ap head (next_field fields done (f d) (f (get_or all done d)) (drop at ts) (omega (arith, h, map_long A (List (List Piece)) f all)) (map_at A (List (List Piece)) f all done d))
+    ∙ goes inner (fields_family (drop (suc done) fields))
+    (ap (λ (vs : List Token). head (inner vs)) (dropped ts at n to t) ∙ ap (λ (i : ℕ). head (fields_row (drop i fields) (drop to ts))) (sym e) ∙ more))
+
+pub fields_done : (A : Type 0) (f : A → List (List Piece)) (all : List A) (ts us : List Token) (done at : ℕ) → length all ≤ done → us ≡ drop at ts → head (end_row us) ≡ true → FieldsTo (map f all) ts done at → head (fields_row (map f all) ts) ≡ true
+unfolding fields_row
+fields_done A f all ts us done at h u e before =
+    before (subst (λ (fs : List (List (List Piece))). head (fields_row fs (drop at ts)) ≡ true) (sym (drop_all done (map f all) (omega (arith, h, map_long A (List (List Piece)) f all))))
+    (subst (λ (vs : List Token). head (end_row vs) ≡ true) u e))
+
+pub nothing_ends : (text : List ℕ) → true ≡ (length text == 0) → head (end_row (tokens text)) ≡ true
+unfolding end_row tokens_from
+nothing_ends [] e = refl
+nothing_ends (b ∷ text) e = absurd (let none : suc (length text) ≡ 0 = eqb-true (suc (length text)) 0 (sym e) in omega (arith, none))
+
+pub star_ends : (ts : List Token) → ts ≡ star ∷ [] → head (end_row ts) ≡ true
+unfolding end_row
+star_ends ts e = subst (λ (us : List Token). head (end_row us) ≡ true) (sym e) refl

@@ -1,5 +1,5 @@
 -- What the proofs of this crate speak of: forms and languages as they are computed, from the left to the right.
-use Rattle.std.specs.Prelude.{ℕ, Bool, false, true, List, [], ◌∷◌, ◌++◌, IsTrue, ◌≡◌, ◌⊎◌, if◌then◌else◌, drop, length, map, suc, zero}
+use Rattle.std.specs.Prelude.{ℕ, Bool, false, true, List, [], ◌∷◌, ◌++◌, IsTrue, ◌≡◌, ◌≤◌, ◌⊎◌, if◌then◌else◌, drop, length, map, suc, zero}
 use Rattle.std.proofs.Common.{Bor}
 use Rattle.hwdb_spec.specs.FormTable.{asked}
 use Rattle.hwdb_spec.specs.Patterns.{Token, admits_byte, Matches, star, token_at, tokens}
@@ -158,6 +158,39 @@ way_met ps fields ts = Forms.head (Forms.pieces_row ps ts (Forms.fields_row fiel
 -- A text is cut after some bytes: its tokens after as many are those of its rest.
 abbrev pub IsCut : List ℕ → ℕ → Type 0
 IsCut text n = tokens (drop n text) ≡ drop n (tokens text)
+
+-- Tokens go through a piece, a way and a field by their first ones: they match it and what comes after it, if the others match that.
+abbrev pub GoesThrough : Forms.Piece → List Token → ℕ → Type 0
+GoesThrough p ts n =
+    (rows : List Token → List Bool) → IsFamily rows → Forms.head (rows (drop n ts)) ≡ true → Forms.head (Forms.piece_row p ts (rows ts)) ≡ true
+
+abbrev pub GoesThroughWay : List Forms.Piece → List Token → ℕ → Type 0
+GoesThroughWay way ts n =
+    (rows : List Token → List Bool) → IsFamily rows → Forms.head (rows (drop n ts)) ≡ true → Forms.head (Forms.pieces_row way ts (rows ts)) ≡ true
+
+abbrev pub GoesThroughField : List (List Forms.Piece) → List Token → ℕ → Type 0
+GoesThroughField field ts n =
+    (rows : List Token → List Bool) → IsFamily rows → Forms.head (rows (drop n ts)) ≡ true → Forms.head (Forms.field_row field ts (rows ts)) ≡ true
+
+-- A text goes through a piece, a way and a field by its first bytes.
+pub record IsThrough (p : Forms.Piece) (text : List ℕ) (n : ℕ) : Type 0 where
+  pub within : n ≤ length text
+  pub cut : IsCut text n
+  pub through : GoesThrough p (tokens text) n
+
+pub record IsThroughWay (way : List Forms.Piece) (text : List ℕ) (n : ℕ) : Type 0 where
+  pub within : n ≤ length text
+  pub cut : IsCut text n
+  pub through : GoesThroughWay way (tokens text) n
+
+pub record IsThroughField (field : List (List Forms.Piece)) (text : List ℕ) (n : ℕ) : Type 0 where
+  pub within : n ≤ length text
+  pub cut : IsCut text n
+  pub through : GoesThroughField field (tokens text) n
+
+-- a byte is a star, or is of a set and stands for itself
+abbrev pub IsOfMany : ByteSet → ℕ → Type 0
+IsOfMany set b = (b ≡ 42) ⊎ ((is_in set b ≡ true) × (Forms.is_wild b ≡ false))
 
 -- A text that is asked has the form: what matches one of the form's texts matches one that is asked.
 abbrev pub IsAsked : Forms.Form → Type 0

@@ -43,7 +43,7 @@ fn ends_in_star(piece: Piece, tokens: &[&[u8]]) -> bool
 }
 
 /// Whether each field has a way.
-pub(crate) fn have_ways(fields: &[&[&[Piece]]]) -> bool
+fn have_ways(fields: &[&[&[Piece]]]) -> bool
     ensures { result ≡ true → HaveWays (fields_of fields.now) }
 {
     for field in fields {

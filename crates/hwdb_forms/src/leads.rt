@@ -74,7 +74,7 @@ fn pass(piece: Piece, tokens: &[&[u8]]) -> Passed
 }
 
 /// How many bytes the piece has, if each of its texts has as many.
-pub(crate) fn size(piece: Piece) -> usize
+fn size(piece: Piece) -> usize
     ensures { result ≡ piece_size (piece_of piece) }
 {
     match piece {

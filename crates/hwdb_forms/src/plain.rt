@@ -1,14 +1,12 @@
-//! Patterns that are compared with a form byte by byte, so that no tokens are made and no rows: their bytes stand for themselves,
-//! and a star is the last one. Most patterns of large files are so.
-ghost use Rattle.std.specs.Prelude.{◌≡◌, ◌≤◌, ◌∷◌, [], false, length, map, true};
+//! Patterns that are compared with a form byte by byte, so that no tokens are made and no rows. Their bytes stand for themselves,
+//! but for stars where a form has any number of bytes, and for a star at the end. Most patterns are so.
+ghost use Rattle.std.specs.Prelude.{◌≡◌, ◌≤◌, ◌∷◌, [], IfSome, length, map, true};
 ghost use Rattle.hwdb_spec.specs.Patterns.{star, tokens};
-ghost use Rattle.hwdb_spec.specs.Forms.{is_in, is_wild};
+ghost use Rattle.hwdb_spec.specs.Forms.{is_wild};
 ghost use Rattle.hwdb_spec.specs.Forms;
-ghost use Rattle.hwdb_forms.specs.Internal.{IsCut, StarEnds, fields_of, form_of, passed, passed_counted, passed_fixed, piece_of, piece_size, way_met};
+ghost use Rattle.hwdb_forms.specs.Internal.{GoesThrough, IsCut, IsOfMany, IsThrough, IsThroughField, IsThroughWay, fields_of, form_of, passed_counted, passed_fixed, piece_of};
 ghost use Rattle.hwdb_forms.specs.declared.leads.Passed.TheVariants.{Yes};
 
-use crate::endings::have_ways;
-use crate::leads::size;
 use crate::pieces::{FormRow, Piece};
 use crate::sets::has;
 use hwdb_spec::ByteSet;
@@ -43,6 +41,7 @@ fn begins_plainly(bytes: &[u8], text: &[u8]) -> bool
 }
 
 /// How many of the text's first bytes, at most so many, are of the set and stand for themselves.
+#[inline(always)]
 fn plain_count(set: ByteSet, most: usize, text: &[u8]) -> usize
     ensures most { result ≤ most }
     ensures within { result ≤ length text.now }
@@ -54,15 +53,28 @@ fn plain_count(set: ByteSet, most: usize, text: &[u8]) -> usize
         if at >= text.len() {
             return at;
         }
-        if is_wild(text[at]) {
+        if !has(set, text[at]) {
             return at;
         }
-        if !has(set, text[at]) {
+        if is_wild(text[at]) {
             return at;
         }
         at += 1;
     }
     at
+}
+
+/// As `plain_count`. The set that most forms have gets a loop of its own.
+fn count_plain(set: ByteSet, most: usize, text: &[u8]) -> usize
+    ensures most { result ≤ most }
+    ensures within { result ≤ length text.now }
+    ensures passed { passed_counted set result (tokens text.now) ≡ Yes }
+    ensures cut { IsCut text.now result }
+{
+    match set {
+        ByteSet::UpperHex => plain_count(ByteSet::UpperHex, most, text),
+        _ => plain_count(set, most, text),
+    }
 }
 
 /// Whether the text is a star, and no more.
@@ -72,114 +84,159 @@ fn is_lone_star(text: &[u8]) -> bool
     text.len() == 1 && text[0] == b'*'
 }
 
-/// How far a text goes along with a piece.
-#[derive(Clone, Copy)]
-pub(crate) enum Reach {
-    /// Its first bytes are the piece's.
-    Through,
-    /// It ends in the piece, with a star.
-    Ended,
-    /// It isn't seen.
-    Unknown,
-}
-
-/// How far the text goes along with these bytes.
-fn step_fixed(bytes: &[u8], text: &[u8]) -> Reach
-    ensures passed { result ≡ Reach.Through → passed_fixed bytes.now (tokens text.now) ≡ Yes }
-    ensures cut { result ≡ Reach.Through → IsCut text.now (length bytes.now) }
-    ensures within { result ≡ Reach.Through → length bytes.now ≤ length text.now }
-    ensures open { result ≡ Reach.Ended → ⊥ }
+/// How many of the text's first bytes are stars, or are of the set and stand for themselves. It stops at a byte, and before a
+/// star that is the last one.
+fn many_count(set: ByteSet, stop: u8, text: &[u8]) -> usize
+    ensures within { result ≤ length text.now }
+    ensures cut { IsCut text.now result }
+    ensures through { GoesThrough (Forms.repeated set) (tokens text.now) result }
 {
-    if begins_plainly(bytes, text) {
-        return Reach::Through;
+    let mut at = 0;
+    while at < text.len() {
+        if is_lone_star(&text[at..]) {
+            return at;
+        }
+        if text[at] == stop {
+            return at;
+        }
+        if !is_of_many(set, text[at]) {
+            return at;
+        }
+        at += 1;
     }
-    Reach::Unknown
+    at
 }
 
-/// How far the text goes along with so many bytes of the set.
-fn step_counted(set: ByteSet, count: usize, text: &[u8]) -> Reach
-    ensures passed { result ≡ Reach.Through → passed_counted set count (tokens text.now) ≡ Yes }
-    ensures cut { result ≡ Reach.Through → IsCut text.now count }
-    ensures within { result ≡ Reach.Through → count ≤ length text.now }
-    ensures ended { result ≡ Reach.Ended → StarEnds (Forms.counted set count) (tokens text.now) }
+/// Whether the byte is a star, or is of the set and stands for itself.
+fn is_of_many(set: ByteSet, byte: u8) -> bool
+    ensures { result ≡ true → IsOfMany set byte }
 {
-    let taken = plain_count(set, count, text);
+    if byte == b'*' {
+        return true;
+    }
+    if is_wild(byte) {
+        return false;
+    }
+    has(set, byte)
+}
+
+/// How many of the text's first bytes go through so many bytes of the set. A star after some of them goes through the rest.
+fn through_counted(set: ByteSet, count: usize, text: &[u8]) -> Option<usize>
+    ensures { IfSome result (λ taken. IsThrough (Forms.counted set count) text.now taken) }
+{
+    let taken = count_plain(set, count, text);
     if taken == count {
-        return Reach::Through;
+        return Some(taken);
     }
     if is_lone_star(&text[taken..]) {
-        return Reach::Ended;
+        return Some(taken);
     }
-    Reach::Unknown
+    None
 }
 
-/// How far the text goes along with the piece.
-fn step(piece: Piece, text: &[u8]) -> Reach
-    ensures passed { result ≡ Reach.Through → passed (piece_of piece) (tokens text.now) ≡ Yes }
-    ensures cut { result ≡ Reach.Through → IsCut text.now (piece_size (piece_of piece)) }
-    ensures within { result ≡ Reach.Through → piece_size (piece_of piece) ≤ length text.now }
-    ensures ended { result ≡ Reach.Ended → StarEnds (piece_of piece) (tokens text.now) }
+/// How many of the text's first bytes go through these bytes: they are these.
+fn through_fixed(bytes: &[u8], text: &[u8]) -> Option<usize>
+    ensures { IfSome result (λ taken. IsThrough (Forms.fixed bytes.now) text.now taken) }
+{
+    if begins_plainly(bytes, text) {
+        return Some(bytes.len());
+    }
+    None
+}
+
+/// How many of the text's first bytes go through the piece, after which `stop` may come.
+fn through_piece(piece: Piece, stop: u8, text: &[u8]) -> Option<usize>
+    ensures { IfSome result (λ taken. IsThrough (piece_of piece) text.now taken) }
 {
     match piece {
-        Piece::Fixed(bytes) => step_fixed(bytes, text),
-        Piece::Counted(set, count) => step_counted(set, count, text),
-        Piece::Repeated(_) => Reach::Unknown,
+        Piece::Fixed(bytes) => through_fixed(bytes, text),
+        Piece::Counted(set, count) => through_counted(set, count, text),
+        Piece::Repeated(set) => Some(many_count(set, stop, text)),
     }
 }
 
-/// Whether a text ends in its piece.
-fn is_ended(went: Reach) -> bool
-    ensures { result ≡ true → went ≡ Reach.Ended }
-{
-    matches!(went, Reach::Ended)
+/// The first byte of the pieces, if it is told; else a newline.
+fn first_byte(pieces: &[Piece]) -> u8 {
+    if pieces.is_empty() {
+        return b'\n';
+    }
+    match pieces[0] {
+        Piece::Fixed(bytes) if !bytes.is_empty() => bytes[0],
+        _ => b'\n',
+    }
 }
 
-/// Whether it is seen byte by byte that the text matches the pieces in order, and then some text of the fields.
-fn meets_way(way: &[Piece], fields: &[&[&[Piece]]], text: &[u8]) -> bool
-    ensures { result ≡ true
-        → way_met (map piece_of way.now) (fields_of fields.now) (tokens text.now) ≡ true }
+/// How many of the text's first bytes go through the pieces. A lone star goes through all.
+fn through_way(way: &[Piece], text: &[u8]) -> Option<usize>
+    ensures { IfSome result (IsThroughWay (map piece_of way.now) text.now) }
 {
     let mut done = 0;
     let mut at = 0;
     while done < way.len() {
         let rest = &text[at..];
         if is_lone_star(rest) {
-            return have_ways(fields);
+            return Some(at);
         }
         let piece = way[done];
-        let went = step(piece, rest);
-        if let Reach::Through = went {
-            at += size(piece);
-            done += 1;
-        } else {
-            if !is_ended(went) {
-                return false;
+        match through_piece(piece, first_byte(&way[done + 1..]), rest) {
+            Some(taken) => {
+                at += taken;
+                done += 1;
             }
-            return have_ways(fields);
+            None => return None,
         }
     }
-    if !is_lone_star(&text[at..]) {
-        return false;
+    Some(at)
+}
+
+/// How many of the text's first bytes go through the first of the ways that they go through.
+fn through_field(field: &[&[Piece]], text: &[u8]) -> Option<usize>
+    ensures { IfSome result
+        (IsThroughField (map (λ way. map piece_of way.now) field.now) text.now) }
+{
+    for way in field {
+        if let Some(taken) = through_way(way, text) {
+            return Some(taken);
+        }
     }
-    have_ways(fields)
+    None
+}
+
+/// Whether it is seen byte by byte that the text matches some text of the fields.
+fn meets_fields(fields: &[&[&[Piece]]], text: &[u8]) -> bool
+    ensures { result ≡ true
+        → Forms.head (Forms.fields_row (fields_of fields.now) (tokens text.now)) ≡ true }
+{
+    let mut done = 0;
+    let mut at = 0;
+    while done < fields.len() {
+        match through_field(fields[done], &text[at..]) {
+            Some(taken) => {
+                at += taken;
+                done += 1;
+            }
+            None => return false,
+        }
+    }
+    ends(&text[at..])
+}
+
+/// Whether the text is nothing, or a star alone.
+fn ends(text: &[u8]) -> bool
+    ensures { result ≡ true → Forms.head (Forms.end_row (tokens text.now)) ≡ true }
+{
+    if text.is_empty() {
+        return true;
+    }
+    is_lone_star(text)
 }
 
 /// Whether it is seen byte by byte that the pattern matches a text of the form.
 pub(crate) fn meets_plainly(form: FormRow, pattern: &[u8]) -> bool
     ensures { result ≡ true → Forms.meets_form (tokens pattern.now) (form_of form) ≡ true }
 {
-    if form.fields.is_empty() {
-        return false;
-    }
-    if form.fields[0].len() != 1 {
-        return false;
-    }
     if !begins_plainly(form.prefix, pattern) {
         return false;
     }
-    meets_way(
-        form.fields[0][0],
-        &form.fields[1..],
-        &pattern[form.prefix.len()..],
-    )
+    meets_fields(form.fields, &pattern[form.prefix.len()..])
 }

@@ -1,6 +1,6 @@
-use Rattle.std.proofs.Common.{ℕ, List, drop, map}
+use Rattle.std.proofs.Common.{List, drop}
 use Rattle.hwdb_spec.specs.Forms
-use Rattle.hwdb_forms.specs.Internal.{AreAlikeInField, Every, fields_of, piece_of}
+use Rattle.hwdb_forms.specs.Internal.{AreAlikeInField, Every, fields_of}
 use Rattle.hwdb_forms.proofs.alike.alike_in_fields.Given as goal
 
 abbrev pub invariant-loop-field : goal.invariant-loop-field

@@ -1,6 +1,6 @@
-use Rattle.std.proofs.Common.{ℕ, List, ◌+◌, add-one, arith, map}
+use Rattle.std.proofs.Common.{◌+◌, add-one, arith}
 use Rattle.hwdb_spec.specs.Forms
-use Rattle.hwdb_forms.specs.Internal.{AreAlikeInPiece, Every, piece_of}
+use Rattle.hwdb_forms.specs.Internal.{AreAlikeInPiece, piece_of}
 use Rattle.hwdb_forms.proofs.AlikeLemmas.{every_all, every_more}
 use Rattle.hwdb_forms.proofs.alike.alike_in_way.Goals as goal
 

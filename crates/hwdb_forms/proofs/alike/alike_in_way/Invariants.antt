@@ -1,4 +1,4 @@
-use Rattle.std.proofs.Common.{ℕ, List, drop, map}
+use Rattle.std.proofs.Common.{drop, map}
 use Rattle.hwdb_spec.specs.Forms
 use Rattle.hwdb_forms.specs.Internal.{AreAlikeInPiece, Every, piece_of}
 use Rattle.hwdb_forms.proofs.alike.alike_in_way.Given as goal
