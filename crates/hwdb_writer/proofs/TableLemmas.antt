@@ -1,16 +1,16 @@
 -- A sort of numbered strings: each offset is filled in by a string's number.
-use Rattle.std.proofs.Common.{◌≡◌, ◌≤◌, ◌<◌, ◌≢◌, ℕ, zero, suc, ◌+◌, ◌-◌, ◌^◌, List, [], ◌∷◌, ◌++◌, length, get_or, set, min, map, cond, Bool, true, false, refl, sym, ◌∙◌, ap, subst, arith, nat_eq, ◌⊎◌, inl, inr, ⊎_elim}
+use Rattle.std.proofs.Common.{◌≡◌, ◌<◌, ◌≢◌, ℕ, zero, suc, ◌+◌, ◌-◌, ◌^◌, List, [], ◌∷◌, ◌++◌, length, get_or, set, map, cond, Bool, true, false, refl, sym, ◌∙◌, ap, subst, arith, nat_eq, ◌⊎◌, ⊎_elim}
 use Rattle.std.specs.Ordering.{nat_cmp, on}
 use Rattle.std.specs.List.{dedup, dedup_from}
 use Rattle.std.specs.List.Sorted.{IsSorted, IsPermutation}
 use Rattle.std.specs.Cmp.Lexicographic.{slice_cmp, pointwise, same_text, nat_list_eq_equiv}
-use Rattle.std.proofs.lemmas.List.{get_or_default, get_or-map, length-map, get_or-set_same, get_or-set_other, ext_get_or, length-set}
+use Rattle.std.proofs.lemmas.List.{get_or_default, get_or-map, length-map, get_or-set_same, get_or-set_other, ext_get_or}
 use Rattle.std.proofs.lemmas.List.Sorted.{Contains-permutation, IsPermutation-sym, IsPermutation-map, length_permutation}
 use Rattle.core.proofs.str.Laws.{order}
 use Rattle.hwdb_spec.specs.Assignment.{ascending}
 use Rattle.hwdb_spec.specs.Written.{place_of, section_of}
 use Rattle.hwdb_writer.specs.declared.numbered.NumberedStr.{NumberedStr}
-use Rattle.hwdb_writer.specs.Internal.Numbered.{word_of, texts, distinct, IsNumbered, IsNew, IsOld, IsReached, IsFilled, IsFilledTo, bounded_place, bounded_end}
+use Rattle.hwdb_writer.specs.Internal.Numbered.{word_of, texts, distinct, IsNumbered, IsNew, IsOld, IsReached, IsFilledTo, bounded_place}
 use Rattle.hwdb_writer.specs.Internal.Stored.{IsUnder}
 use Rattle.hwdb_writer.proofs.PlaceLemmas.{place_within, nothing}
 use Rattle.hwdb_text.specs.Lemmas.Ascending.{ordered_is}
@@ -119,16 +119,6 @@ fitting first table (w ∷ ws) fits =
 pub texts_more : (ws : List NumberedStr) (w : NumberedStr) → texts (ws ++ w ∷ []) ≡ texts ws ++ w.word ∷ []
 texts_more [] w = refl
 texts_more (v ∷ ws) w = ap (λ l. v.word ∷ l) (texts_more ws w)
-
-pub numbered_more : (ws next : List NumberedStr) (w : NumberedStr) → next ≡ ws ++ w ∷ [] → w.number ≡ length ws → IsNumbered ws → IsNumbered next
-numbered_more ws next w e n h = subst IsNumbered (sym e) (λ j c k. let r = more ws 0 w (omega (arith, n)) (λ i d lt. let q = h i d lt in omega (arith, q)) j c k in omega (arith, r))
-  where
-    more : (vs : List NumberedStr) (m : ℕ) (v : NumberedStr) → v.number ≡ m + length vs → ((i : ℕ) (d : NumberedStr) → i < length vs → (get_or vs i d).number ≡ m + i) → (i : ℕ) (d : NumberedStr) → i < length (vs ++ v ∷ []) →
-        (get_or (vs ++ v ∷ []) i d).number ≡ m + i
-    more [] m v e g zero d lt = omega (arith, e)
-    more [] m v e g (suc i) d lt = absurd (omega (arith, lt))
-    more (u ∷ us) m v e g zero d lt = g 0 d (omega arith)
-    more (u ∷ us) m v e g (suc i) d lt = let r = more us (suc m) v (omega (arith, e)) (λ j c k. let q = g (suc j) c (omega (arith, k)) in omega (arith, q)) i d (omega (arith, lt)) in omega (arith, r)
 
 -- the string that has a number
 pub known_at : (ws inside : List NumberedStr) (now : List (List ℕ)) (n : ℕ) (w : NumberedStr) (s : List ℕ) → ws ≡ inside → now ≡ texts inside → n < length ws → w ≡ get_or ws n w → w.word ≡ s → IsUnder now n s

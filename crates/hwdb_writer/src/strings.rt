@@ -1,5 +1,5 @@
 //! The string section: the distinct strings in order, and the offset of each.
-ghost use Rattle.std.specs.Prelude.{◌≡◌, ◌<◌, ◌≤◌, ◌+◌, ◌^◌, ◌-◌, ℕ, List, IfOk, IsTrue, IsFalse, min, map, length, get_or, set};
+ghost use Rattle.std.specs.Prelude.{◌≡◌, ◌<◌, List, IfOk, length, set};
 ghost use Rattle.std.specs.Bool.{OnTrue, OnFalse};
 ghost use Rattle.std.specs.Ordering.{nat_cmp, on};
 ghost use Rattle.std.specs.Cmp.Lexicographic.{slice_cmp};
@@ -36,7 +36,7 @@ fn is_new(ordered: &[NumberedStr<'_>], i: usize) -> bool
     true
 }
 
-/// Has this value at this place.
+/// Puts a value at a place.
 #[inline(always)]
 fn put(places: &mut [usize], at: usize, value: usize)
     requires { at < length places.old }

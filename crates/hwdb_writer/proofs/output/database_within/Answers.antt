@@ -1,6 +1,6 @@
-use Rattle.std.proofs.Common.{◌≡◌, ◌∙◌, ◌+◌, ◌<◌, ◌^◌, ap, subst, sym, arith, List, length}
+use Rattle.std.proofs.Common.{◌∙◌, ap, subst, sym, arith, List, length}
 use Rattle.hwdb_spec.specs.Assignment.{ascending}
-use Rattle.hwdb_spec.specs.Written.{table_of, section_of}
+use Rattle.hwdb_spec.specs.Written.{section_of}
 use Rattle.hwdb_writer.specs.Internal.Numbered.{texts, bounded_end}
 use Rattle.hwdb_writer.specs.Internal.PostOrder.{tree_of}
 use Rattle.hwdb_writer.specs.Internal.Stored.{IsUnder, AreNodes}

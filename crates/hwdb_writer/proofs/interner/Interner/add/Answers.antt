@@ -1,9 +1,9 @@
-use Rattle.std.proofs.Common.{◌≡◌, ◌∙◌, ◌++◌, [], ◌∷◌, ap, length, sym}
+use Rattle.std.proofs.Common.{◌∙◌, ◌++◌, [], ◌∷◌, ap, length, sym}
 use Rattle.std.proofs.lemmas.List.{length-map}
 use Rattle.hwdb_writer.specs.Internal.Numbered.{texts, word_of}
 use Rattle.hwdb_writer.proofs.MembershipLemmas.{same_path}
 use Rattle.hwdb_writer.proofs.StoredLemmas.{grows_by, last_under}
-use Rattle.hwdb_writer.proofs.TableLemmas.{texts_more, numbered_more}
+use Rattle.hwdb_writer.proofs.TableLemmas.{texts_more}
 use Rattle.hwdb_writer.proofs.interner.Interner.add.Goals as goal
 
 pub returns-clause-grows : goal.returns-clause-grows
