@@ -1,49 +1,55 @@
 //! `dump`: a database as text of the form that hwdb(7) describes.
-ghost use Rattle.std.specs.Prelude.{◌≡◌, None, flat_map, OnOk, IfOk, IfErr};
+ghost use Rattle.std.specs.Prelude.{◌≡◌, [], None, flat_map, map, OnOk, IfOk, IfErr};
 ghost use Rattle.hwdb_spec.specs.Assignment.{assignment_cmp};
 ghost use Rattle.hwdb_spec.specs.Dump.{dumped, dump_text, record_text, first_unsaid};
+ghost use Rattle.hwdb_spec.specs.Tree.{members_under};
 ghost use Rattle.hwdb_spec.specs.Databases.{IsTextOf, IsSayable};
 ghost use Rattle.hwdb_spec.specs.DumpErrors.{IsDumpRefusal, IsUnsaidRefusal};
-ghost use Rattle.hwdb_inspect.specs.Internal.Holding.{all_held, held_in};
+ghost use Rattle.hwdb_inspect.specs.Internal.Holding.{held_in, slot_in};
 
-use crate::holding::{Held, Kept, by_position, keep};
-use crate::records::{Shown, push_said};
+use crate::holding::{Held, Kept, Slot, by_position, keep, slots_of};
+use crate::records::push_said;
 use hwdb_reader::{Db, check};
 use hwdb_spec::DumpError;
 use std::alloc::{AllocError, Global};
 use std::cmp::Ordering;
 
 /// All that the database assigns, by priority, line, pattern and key. The only error is `AllocError`.
-fn ordered<'a>(alloc: Global, db: &Db<'a>) -> Result<Kept<'a>, AllocError>
-    ensures { IfOk result (λ kept. all_held kept ≡ dumped db.now) }
+fn ordered<'k, 'a>(
+    alloc: Global,
+    db: &Db<'a>,
+    patterns: &[u8],
+    list: &'k [Held<'a>],
+) -> Result<Vec<Slot<'k, 'a>>, AllocError>
+    requires { map (held_in patterns.now) list.now ≡ members_under [] db.now }
+    ensures { IfOk result (λ slots. map (slot_in patterns.now) slots.items ≡ dumped db.now) }
 {
     let _root = db.root();
-    let kept = keep(alloc, db)?;
-    let Kept { patterns, mut list } = kept;
-    let text = patterns.as_slice();
-    let compare = |x: &Held<'_>, y: &Held<'_>| -> Ordering
-        ensures { result
-            ≡ assignment_cmp (held_in text.entry.now x.now) (held_in text.entry.now y.now) }
-    { by_position(text, x, y) };
-    list.sort_unstable_by(compare);
-    Ok(Kept { patterns, list })
+    let mut slots = slots_of(alloc, patterns, list)?;
+    let compare = |x: &Slot<'_, '_>, y: &Slot<'_, '_>| -> Ordering
+        ensures { result ≡ assignment_cmp (slot_in patterns.entry.now x.now)
+            (slot_in patterns.entry.now y.now) }
+    { by_position(patterns, x, y) };
+    slots.sort_unstable_by(compare);
+    Ok(slots)
 }
 
 /// The record of each assignment. The first assignment that its record doesn't say is an error.
-fn said_records(alloc: Global, kept: &Kept<'_>) -> Result<Vec<u8>, DumpError>
-    ensures text { IfOk result (λ text. text.items ≡ flat_map record_text (all_held kept.now)) }
-    ensures said { OnOk result (first_unsaid (all_held kept.now) ≡ None) }
-    ensures unsaid { IfErr result (IsUnsaidRefusal (all_held kept.now)) }
+fn said_records(
+    alloc: Global,
+    patterns: &[u8],
+    slots: &[Slot<'_, '_>],
+) -> Result<Vec<u8>, DumpError>
+    ensures text { IfOk result (λ text. text.items
+        ≡ flat_map record_text (map (slot_in patterns.now) slots.now)) }
+    ensures said { OnOk result (first_unsaid (map (slot_in patterns.now) slots.now) ≡ None) }
+    ensures unsaid { IfErr result (IsUnsaidRefusal (map (slot_in patterns.now) slots.now)) }
 {
     let mut text = Vec::new(alloc);
-    for one in &kept.list {
-        let pattern = one.pattern(&kept.patterns);
-        let shown = Shown {
-            pattern,
-            member: one.member,
-        };
+    for slot in slots {
+        let shown = slot.shown(patterns);
         if !push_said(alloc, &mut text, &shown)? {
-            return Err(DumpError::Unsayable(pattern.to_vec(alloc)?));
+            return Err(DumpError::Unsayable(shown.pattern.to_vec(alloc)?));
         }
     }
     Ok(text)
@@ -67,6 +73,8 @@ pub fn dump(alloc: Global, bytes: &[u8]) -> Result<Vec<u8>, DumpError>
         Ok(db) => db,
         Err(fault) => return Err(DumpError::Database(fault)),
     };
-    let kept = ordered(alloc, &db)?;
-    said_records(alloc, &kept)
+    let kept = keep(alloc, &db)?;
+    let Kept { patterns, list } = kept;
+    let slots = ordered(alloc, &db, &patterns, &list)?;
+    said_records(alloc, &patterns, &slots)
 }

@@ -3,6 +3,7 @@ use Rattle.std.specs.Prelude.{All, List, ℕ, ◌+◌, ◌≤◌, drop, length, 
 use Rattle.hwdb_spec.specs.Assignment.{Assignment}
 use Rattle.hwdb_inspect.specs.declared.holding.Held.{Held}
 use Rattle.hwdb_inspect.specs.declared.holding.Kept.{Kept}
+use Rattle.hwdb_inspect.specs.declared.holding.Slot.{Slot}
 use Rattle.hwdb_inspect.specs.declared.records.Shown.{Shown}
 use Rattle.hwdb_inspect.specs.Internal.Meeting.{member_of}
 
@@ -20,6 +21,14 @@ IsWithin patterns h = h.from + h.length ≤ length patterns
 
 abbrev pub AllWithin : Kept → Type 0
 AllWithin k = All (IsWithin k.patterns.items) k.list.items
+
+-- the same with the priority and the line that are beside it
+abbrev pub slot_in : (patterns : List ℕ) → Slot → Assignment
+slot_in patterns s = record {
+  position = record { priority = s.priority; line = s.line; pattern = take s.held.now.length (drop s.held.now.from patterns); key = s.held.now.member.key.now };
+  value = s.held.now.member.value.now;
+  path = s.held.now.member.path.now;
+}
 
 -- an assignment that is shown with its pattern
 abbrev pub shown_of : Shown → Assignment
