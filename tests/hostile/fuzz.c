@@ -227,7 +227,7 @@ int main(int count, char **words) {
     unsigned long inputs = 0;
     time_t end = time(NULL) + atoi(words[1]);
     /* So many seconds of the processor for one input: a signal ends it then. */
-    struct itimerval longest = {{0, 0}, {10, 0}};
+    struct itimerval longest = {{0, 0}, {30, 0}};
 
     while (time(NULL) < end) {
         FILE *file = fopen(words[3 + below(&seed, (size_t)count - 3)], "re");
