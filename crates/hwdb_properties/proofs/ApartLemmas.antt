@@ -35,7 +35,7 @@ word_first : (space : Bool) (k r : ℕ) (row : List ℕ) → take (cond (not spa
 word_first true k r row = refl
 word_first false k r row = let one : 1 + k ≡ suc k = omega arith in ap (λ (n : ℕ). take n (r ∷ row)) one
 
-pub apart : (row name : List ℕ) → false ≡ (length row == 0) → false ≡ (length name == 0) → (get_or row 0 0 ≡ get_or name 0 0 → ⊥) → is_for row name ≡ false
+pub apart : (text name : List ℕ) → false ≡ (length text == 0) → false ≡ (length name == 0) → (get_or text 0 0 ≡ get_or name 0 0 → ⊥) → is_for text name ≡ false
 apart [] name h k d = cc
 apart (r ∷ row) [] h k d = cc
 apart (r ∷ row) (n ∷ name) h k d =
