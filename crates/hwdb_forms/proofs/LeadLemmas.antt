@@ -121,7 +121,7 @@ many_family : (set : ByteSet) (rows : List Token → List Bool) → IsFamily row
 unfolding many_row
 many_family set rows f t ts = ap (many_row set ts) (f t ts)
 
-fixed_family : (bytes : List ℕ) (rows : List Token → List Bool) → IsFamily rows → IsFamily (λ ts. fixed_row bytes ts (rows ts))
+pub fixed_family : (bytes : List ℕ) (rows : List Token → List Bool) → IsFamily rows → IsFamily (λ ts. fixed_row bytes ts (rows ts))
 unfolding fixed_row
 fixed_family [] rows f t ts = f t ts
 fixed_family (b ∷ bytes) rows f t ts = byte_family (Only b) (λ us. fixed_row bytes us (rows us)) (fixed_family bytes rows f) t ts

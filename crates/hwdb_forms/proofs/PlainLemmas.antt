@@ -7,12 +7,12 @@ use Rattle.std.specs.Prelude.{if◌then◌else◌}
 use Rattle.hwdb_spec.specs.declared.ByteSet.{ByteSet}
 use Rattle.hwdb_spec.specs.declared.ByteSet.TheVariants.{Only}
 use Rattle.hwdb_spec.specs.Patterns.{Token, literal, one, star, token_at, token_size, tokens, tokens_from}
-use Rattle.hwdb_spec.specs.Forms.{Piece, counted, end_row, either_row, field_row, fields_row, fixed, head, is_in, is_star, is_wild, many_cell, many_row, meets, pieces_row, repeated, tail}
+use Rattle.hwdb_spec.specs.Forms.{Piece, byte_cell, byte_row, counted, counted_row, end_row, either_row, field_row, fields_row, fixed, fixed_row, head, is_in, is_star, is_wild, many_cell, many_row, meets, pieces_row, repeated, tail}
 use Rattle.hwdb_forms.specs.declared.leads.Passed.TheVariants.{No, Yes}
 use Rattle.hwdb_forms.specs.declared.leads.Passed.{Passed}
 use Rattle.hwdb_forms.specs.Internal.{GoesThrough, GoesThroughField, GoesThroughWay, IsCut, IsFamily, IsOfMany, passed_counted, passed_fixed}
 use Rattle.hwdb_forms.proofs.EndLemmas.{counted_ended, if_either, if_first, many_next, star_pieces}
-use Rattle.hwdb_forms.proofs.LeadLemmas.{dropped, fields_family, led_first, next_piece, piece_tells, pieces_family}
+use Rattle.hwdb_forms.proofs.LeadLemmas.{dropped, fields_family, fixed_family, led_first, next_piece, piece_tells, pieces_family}
 
 -- a byte that stands for itself is a token
 plain_by : (s o t : Bool) (b : ℕ) (x : Token) (more : ℕ → List Token) → cond s true (cond o true t) ≡ false
@@ -189,6 +189,57 @@ star_next : (set : ByteSet) (ts : List Token) (rows : List Token → List Bool) 
 unfolding many_row
 star_next set ts rows f h =
     next_cell true (head (rows (star ∷ ts))) (head (many_row set ts (tail (rows (star ∷ ts))))) (ap (λ (r : List Bool). head (many_row set ts r)) (f star ts) ∙ h)
+
+-- a star takes bytes and stays, or takes none
+star_here : (set : ByteSet) (us : List Token) (row : List Bool) → head row ≡ true → head (byte_row set (star ∷ us) row) ≡ true
+unfolding byte_row
+star_here set us row h = taken (head row) (head (tail row)) (head (byte_row set us (tail row))) h
+  where
+    taken : (here behind next : Bool) → here ≡ true → byte_cell true true here behind next ≡ true
+    taken true behind true e = refl
+    taken true behind false e = refl
+    taken false behind next e = cc
+
+fixed_here : (bytes : List ℕ) (us : List Token) (row : List Bool) → head row ≡ true → head (fixed_row bytes (star ∷ us) row) ≡ true
+unfolding fixed_row
+fixed_here [] us row h = h
+fixed_here (b ∷ bytes) us row h = star_here (Only b) us (fixed_row bytes (star ∷ us) row) (fixed_here bytes us row h)
+
+counted_here : (set : ByteSet) (n : ℕ) (us : List Token) (row : List Bool) → head row ≡ true → head (counted_row set n (star ∷ us) row) ≡ true
+unfolding counted_row
+counted_here set zero us row h = h
+counted_here set (suc n) us row h = star_here set us (counted_row set n (star ∷ us) row) (counted_here set n us row h)
+
+pub fixed_stays : (bytes : List ℕ) (ts us : List Token) → ts ≡ star ∷ us → GoesThrough (fixed bytes) ts 0
+fixed_stays bytes ts us e = subst (λ (vs : List Token). GoesThrough (fixed bytes) vs 0) (sym e) (λ rows f h. fixed_here bytes us (rows (star ∷ us)) h)
+
+pub counted_stays : (set : ByteSet) (n : ℕ) (ts us : List Token) → ts ≡ star ∷ us → GoesThrough (counted set n) ts 0
+counted_stays set n ts us e = subst (λ (vs : List Token). GoesThrough (counted set n) vs 0) (sym e) (λ rows f h. counted_here set n us (rows (star ∷ us)) h)
+
+star_first : (b : ℕ) (bytes : List ℕ) (us : List Token) (rows : List Token → List Bool) → IsFamily rows → head (fixed_row (b ∷ bytes) us (rows us)) ≡ true → head (fixed_row (b ∷ bytes) (star ∷ us) (rows (star ∷ us))) ≡ true
+unfolding fixed_row byte_row
+star_first b bytes us rows f h =
+    let row : List Bool = fixed_row bytes (star ∷ us) (rows (star ∷ us)) in
+    passed (head row) (head (tail row)) (head (byte_row (Only b) us (tail row))) (ap (λ (r : List Bool). head (byte_row (Only b) us r)) (fixed_family bytes rows f star us) ∙ h)
+  where
+    passed : (here behind next : Bool) → next ≡ true → byte_cell true true here behind next ≡ true
+    passed here behind true e = refl
+    passed here behind false e = cc
+
+pub fixed_skips : (bytes : List ℕ) (ts us vs : List Token) (n : ℕ) → false ≡ (length bytes == 0) → ts ≡ star ∷ us → vs ≡ us → n ≡ suc (length bytes) → passed_fixed bytes vs ≡ Yes → GoesThrough (fixed bytes) ts n
+fixed_skips [] ts us vs n h e i k p = cc
+fixed_skips (b ∷ bytes) ts us vs n h e i k p =
+    let yes : passed_fixed (b ∷ bytes) us ≡ Yes = ap (passed_fixed (b ∷ bytes)) (sym i) ∙ p in
+    subst (λ (ws : List Token). GoesThrough (fixed (b ∷ bytes)) ws n) (sym e)
+    (subst (λ (m : ℕ). GoesThrough (fixed (b ∷ bytes)) (star ∷ us) m) (sym k) (λ rows f t. star_first b bytes us rows f (fixed_goes (b ∷ bytes) us yes rows f t)))
+
+pub star_text : (text : List ℕ) → false ≡ (length text == 0) → get_or text 0 0 ≡ 42 → tokens text ≡ star ∷ tokens (drop 1 text)
+star_text [] h e = cc
+star_text (b ∷ rest) h e = ap (λ (c : ℕ). tokens (c ∷ rest)) e ∙ star_cons rest ∙ ap (λ (l : List ℕ). star ∷ tokens l) (sym (none_dropped ℕ rest))
+
+pub star_cut : (text : List ℕ) → false ≡ (length text == 0) → get_or text 0 0 ≡ 42 → IsCut text 1
+star_cut [] h e = cc
+star_cut (b ∷ rest) h e = cut_star (b ∷ rest) 0 1 (omega arith) refl e (cut_first (b ∷ rest))
 
 -- what any number of bytes match from a place on is matched from the beginning
 abbrev pub ManyTo : ByteSet → List ℕ → ℕ → Type 0

@@ -1,6 +1,6 @@
 //! Patterns that are compared with a form byte by byte, so that no tokens are made and no rows. Their bytes stand for themselves,
 //! but for stars where a form has any number of bytes, and for a star at the end. Most patterns are so.
-ghost use Rattle.std.specs.Prelude.{◌≡◌, ◌≤◌, ◌∷◌, [], IfSome, length, map, true};
+ghost use Rattle.std.specs.Prelude.{◌≡◌, ◌≤◌, ◌∷◌, [], IfSome, drop, length, map, true};
 ghost use Rattle.hwdb_spec.specs.Patterns.{star, tokens};
 ghost use Rattle.hwdb_spec.specs.Forms.{is_wild};
 ghost use Rattle.hwdb_spec.specs.Forms;
@@ -120,10 +120,26 @@ fn is_of_many(set: ByteSet, byte: u8) -> bool
     has(set, byte)
 }
 
-/// How many of the text's first bytes go through so many bytes of the set. A star after some of them goes through the rest.
+/// Whether a star begins the text.
+fn starts_star(text: &[u8]) -> bool
+    ensures star { result ≡ true → tokens text.now ≡ star ∷ tokens (drop 1 text.now) }
+    ensures cut { result ≡ true → IsCut text.now 1 }
+    ensures within { result ≡ true → 1 ≤ length text.now }
+{
+    if text.is_empty() {
+        return false;
+    }
+    text[0] == b'*'
+}
+
+/// How many of the text's first bytes go through so many bytes of the set. A star before them takes them all and stays; one after
+/// some of them takes the rest.
 fn through_counted(set: ByteSet, count: usize, text: &[u8]) -> Option<usize>
     ensures { IfSome result (λ taken. IsThrough (Forms.counted set count) text.now taken) }
 {
+    if starts_star(text) {
+        return Some(0);
+    }
     let taken = count_plain(set, count, text);
     if taken == count {
         return Some(taken);
@@ -134,12 +150,32 @@ fn through_counted(set: ByteSet, count: usize, text: &[u8]) -> Option<usize>
     None
 }
 
-/// How many of the text's first bytes go through these bytes: they are these.
+/// How many of the text's first bytes go through these bytes, if a star begins it. They are after the star, or the star takes
+/// them and stays.
+fn through_starred(bytes: &[u8], text: &[u8]) -> Option<usize>
+    requires star { tokens text.now ≡ star ∷ tokens (drop 1 text.now) }
+    requires cut { IsCut text.now 1 }
+    requires within { 1 ≤ length text.now }
+    ensures { IfSome result (λ taken. IsThrough (Forms.fixed bytes.now) text.now taken) }
+{
+    if bytes.is_empty() {
+        return Some(0);
+    }
+    if begins_plainly(bytes, &text[1..]) {
+        return Some(1 + bytes.len());
+    }
+    Some(0)
+}
+
+/// How many of the text's first bytes go through these bytes.
 fn through_fixed(bytes: &[u8], text: &[u8]) -> Option<usize>
     ensures { IfSome result (λ taken. IsThrough (Forms.fixed bytes.now) text.now taken) }
 {
     if begins_plainly(bytes, text) {
         return Some(bytes.len());
+    }
+    if starts_star(text) {
+        return through_starred(bytes, text);
     }
     None
 }

@@ -1,7 +1,15 @@
+use Rattle.std.proofs.Common.{arith}
 use Rattle.std.proofs.lemmas.List.{take_rest}
 use Rattle.hwdb_spec.specs.Patterns.{tokens}
-use Rattle.hwdb_forms.proofs.PlainLemmas.{counted_partly, counted_whole}
+use Rattle.hwdb_forms.proofs.PlainLemmas.{counted_partly, counted_stays, counted_whole, cut_first}
 use Rattle.hwdb_forms.proofs.plain.through_counted.Goals as goal
+
+pub returns-then-starts_star : goal.returns-then-starts_star
+returns-then-starts_star c = record {
+  within = omega arith;
+  cut = cut_first c.args.text.now;
+  through = counted_stays c.args.set c.args.count (tokens c.args.text.now) _ (c.starts_star.ensures.star c.if-starts_star.true);
+}
 
 pub returns-then-taken-count : goal.returns-then-taken-count
 returns-then-taken-count c = record {
