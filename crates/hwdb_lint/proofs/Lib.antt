@@ -10,3 +10,4 @@ pub mod RunLemmas
 pub mod SoughtLemmas
 pub mod LawLemmas
 pub mod BracketLemmas
+pub mod CalmLemmas

@@ -64,7 +64,7 @@ pub stands_by : (x : List ℕ) (ks : List (Bor (List ℕ))) → list_any (λ (k 
 stands_by x [] = refl
 stands_by x (k ∷ ks) = ap (λ (r : Bool). same x k.now || r) (stands_by x ks)
 
-match_first : (above : List (List ℕ)) (l : Line) (more : List Line) → is_match l ≡ true
+pub match_first : (above : List (List ℕ)) (l : Line) (more : List Line) → is_match l ≡ true
     → repeated_from above (l ∷ more) ≡ cond (list_any (same l.text) above) (l.number ∷ repeated_from (l.text ∷ above) more) (repeated_from (l.text ∷ above) more)
 unfolding repeated_from
 match_first above l more e = go (is_match l) _ _ e
@@ -73,7 +73,7 @@ match_first above l more e = go (is_match l) _ _ e
     go true x y e = refl
     go false x y e = cc
 
-other_first : (above : List (List ℕ)) (l : Line) (more : List Line) → is_match l ≡ false → repeated_from above (l ∷ more) ≡ repeated_from [] more
+pub other_first : (above : List (List ℕ)) (l : Line) (more : List Line) → is_match l ≡ false → repeated_from above (l ∷ more) ≡ repeated_from [] more
 unfolding repeated_from
 other_first above l more e = go (is_match l) _ _ e
   where

@@ -1,5 +1,5 @@
 -- What the proofs of this crate speak of.
-use Rattle.std.specs.Prelude.{Bool, not, false, ℕ, List, Option, None, Some, [], ◌∷◌, ◌++◌, codes, drop, filter, length, map, max, nat_lt, ◌+◌, ◌≡◌, ◌≤◌, if◌then◌else◌}
+use Rattle.std.specs.Prelude.{Bool, not, false, true, ◌==◌, ℕ, List, Option, None, Some, [], ◌∷◌, ◌++◌, codes, drop, filter, length, map, max, nat_lt, ◌+◌, ◌≡◌, ◌≤◌, if◌then◌else◌}
 use Rattle.std.specs.Borrow.{Bor}
 use Rattle.std.specs.Fmt.{decimal}
 use Rattle.std.specs.List.{list_all, list_any}
@@ -20,7 +20,7 @@ use Rattle.hwdb_spec.specs.Unmatched.{judgement_of}
 use Rattle.hwdb_spec.specs.Warnings.{gives_value, greatest, last_with, misused, repeated_from, repeated_lines, replaces, replacing}
 use Rattle.hwdb_spec.specs.declared.WarningKind.{WarningKind}
 use Rattle.hwdb_spec.specs.declared.WarningKind.TheVariants.{Misused, Replaced, Unmatched, Unpaired, Unread}
-use Rattle.hwdb_spec.specs.Lines.{Line, byte, clean_line, is, is_none, lines, numbered, pieces}
+use Rattle.hwdb_spec.specs.Lines.{Line, byte, clean_line, has, is, is_none, lines, numbered, pieces}
 use Rattle.hwdb_spec.specs.Reports.{text_of_line}
 use Rattle.hwdb_text.specs.declared.outcome.Given.{Given}
 use Rattle.hwdb_lint.specs.declared.companions.Companions.{Companions}
@@ -87,6 +87,20 @@ above_texts r = last_texts r.last ++ texts r.above.keys
 -- the match lines that repeat one of their run: those found so far, and those of the clean lines after them
 abbrev pub found_with : Run → List Line → List ℕ
 found_with r more = r.numbers.items ++ repeated_from (above_texts r) more
+
+-- Among lines with these texts no match line may be directly above another one. `after` says whether the last line may be one.
+unfoldable pub calm : (after : Bool) → List (List ℕ) → Bool
+calm after [] = true
+calm after ([] ∷ more) = calm false more
+calm after ((first ∷ rest) ∷ more) =
+    if first == 35 then calm after more
+    else (if first == 32 then (if has 0 (first ∷ rest) then false else calm false more)
+    else (if after then false else calm true more))
+
+-- what is said of more lines, after a line of which it is told whether it may be a match line, or that nothing can be said
+abbrev pub calm_on : Option Bool → List (List ℕ) → Bool
+calm_on None more = false
+calm_on (Some after) more = calm after more
 
 -- a set of these numbers
 abbrev pub IsSetOf : List ℕ → BTreeSet ℕ → Type 0

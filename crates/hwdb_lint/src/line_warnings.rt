@@ -108,6 +108,25 @@ fn has_empty_range(clean: &[u8]) -> bool
     range_place(part) < part.len()
 }
 
+/// Whether a match line has a `[` that begins no closed bracket, or a range without members. Most match lines have no `[`.
+fn has_odd_bracket(clean: &[u8]) -> bool
+    ensures open { result ≡ false
+        → warns [] WarningKind.OpenBracket (line_of 0 []) (line_of 0 clean.now) ≡ false }
+    ensures range { result ≡ false
+        → warns [] WarningKind.EmptyRange (line_of 0 []) (line_of 0 clean.now) ≡ false }
+{
+    if !is_match(clean) {
+        return false;
+    }
+    if !holds_bracket(clean) {
+        return false;
+    }
+    if has_open_bracket(clean) {
+        return true;
+    }
+    has_empty_range(clean)
+}
+
 /// Whether a text has a space or a tab.
 fn has_blank(text: &[u8]) -> bool
     ensures { result ≡ list_any is_indent text.now }
@@ -170,7 +189,13 @@ fn has_cut_value(text: &[u8], clean: &[u8]) -> bool
     ensures { result
         ≡ warns [] WarningKind.CutValue (line_of 0 text.now) (line_of 0 clean.now) }
 {
-    is_property(clean) && has_equals(clean) && is_cut(text, clean)
+    if !is_property(clean) {
+        return false;
+    }
+    if !is_cut(text, clean) {
+        return false;
+    }
+    has_equals(clean)
 }
 
 /// Whether a pattern matches no text that udev asks.
@@ -244,10 +269,7 @@ pub fn is_warned_at_all(line: &Read<'_>) -> bool
     if has_return(line.clean) {
         return true;
     }
-    if has_open_bracket(line.clean) {
-        return true;
-    }
-    if has_empty_range(line.clean) {
+    if has_odd_bracket(line.clean) {
         return true;
     }
     if has_spaced_equals(line.clean) {

@@ -6,10 +6,10 @@ ghost use Rattle.hwdb_spec.specs.Surroundings.{unpaired_hint, unread_hint};
 ghost use Rattle.hwdb_spec.specs.Warnings.{misused};
 ghost use Rattle.hwdb_lint.specs.Internal.{line_of};
 
-use crate::line_warnings::{has_equals, is_property, is_spaced};
+use crate::line_warnings::{is_property, is_spaced};
 use hwdb_properties::{after, before, companions_of, misuse_of, prefixes_of, push_misuse_hint};
 use hwdb_spec::Misuse;
-use hwdb_text::unindented;
+use hwdb_text::{end_of, unindented};
 use std::alloc::AllocError;
 
 /// The key of a clean property line.
@@ -33,14 +33,16 @@ pub fn misuse_in(clean: &[u8]) -> Option<Misuse>
     if !is_property(clean) {
         return None;
     }
-    if !has_equals(clean) {
+    let body = unindented(clean);
+    let equals = end_of(b'=', body);
+    if equals == body.len() {
         return None;
     }
-    let key = key_of(clean);
-    let value = value_of(clean);
-    if key.is_empty() {
+    if equals == 0 {
         return None;
     }
+    let key = &body[..equals];
+    let value = &body[equals + 1..];
     if is_spaced(key, value) {
         return None;
     }

@@ -6,9 +6,9 @@ ghost use Rattle.std.specs.BTreeSet as tree;
 ghost use Rattle.hwdb_spec.specs.Lines;
 ghost use Rattle.hwdb_spec.specs.Lines.{Line};
 ghost use Rattle.hwdb_spec.specs.Warnings.{repeated_lines};
-ghost use Rattle.hwdb_lint.specs.Internal.{AreAlike, above_texts, found_with, line_of, texts, IsSetOf};
+ghost use Rattle.hwdb_lint.specs.Internal.{AreAlike, above_texts, calm, calm_on, found_with, line_of, texts, IsSetOf};
 
-use hwdb_text::{Content, content_of};
+use hwdb_text::{Content, content_of, end_of};
 use std::alloc::{AllocError, Global};
 use std::collections::BTreeSet;
 
@@ -110,10 +110,58 @@ pub fn set_of(alloc: Global, numbers: &[u64]) -> Result<BTreeSet<u64>, AllocErro
     Ok(set)
 }
 
+/// Whether a text has a byte 0.
+fn holds_zero(text: &[u8]) -> bool
+    ensures { result ≡ Lines.has 0 text.now }
+{
+    end_of(0, text) < text.len()
+}
+
+/// Whether a line may be a match line, if the line before it, of which `after` says this, isn't one above it. Nothing if it may
+/// be one below another one, or if that isn't seen.
+fn next_calm(after: bool, text: &[u8]) -> Option<bool>
+    ensures { (more : List (List ℕ)) → calm_on result more ≡ calm after (text.now ∷ more) }
+{
+    if text.is_empty() {
+        return Some(false);
+    }
+    if text[0] == b'#' {
+        return Some(after);
+    }
+    if text[0] == b' ' {
+        if holds_zero(text) {
+            return None;
+        }
+        return Some(false);
+    }
+    if after {
+        return None;
+    }
+    Some(true)
+}
+
+/// Whether it is seen by the first bytes of its lines that in a file no match line is directly below another one, as in
+/// most large files.
+fn is_calm(bytes: &[u8]) -> bool
+    ensures { result ≡ true → repeated_lines bytes.now ≡ [] }
+{
+    let mut after = false;
+    for text in hwdb_text::Lines::new(bytes) {
+        match next_calm(after, text) {
+            Some(next) => after = next,
+            None => return false,
+        }
+    }
+    true
+}
+
 /// The set of the numbers of the match lines of a file that their record has already.
 pub fn repeated_lines(alloc: Global, bytes: &[u8]) -> Result<BTreeSet<u64>, AllocError>
     ensures { IfOk result (λ set. IsSetOf (repeated_lines bytes.now) set) }
 {
+    if is_calm(bytes) {
+        return Ok(BTreeSet::new(alloc));
+    }
     let numbers = repeated_numbers(alloc, bytes)?;
     set_of(alloc, &numbers)
 }

@@ -20,9 +20,9 @@ returns c = λ e allowed.
         (
           sym c.has_return.ensures ∙ c.if-has_return.false,
           (
-            sym c.has_open_bracket.ensures ∙ c.if-has_open_bracket.false,
+            c.has_odd_bracket.ensures.open c.if-has_odd_bracket.false,
             (
-              sym c.has_empty_range.ensures ∙ c.if-has_empty_range.false,
+              c.has_odd_bracket.ensures.range c.if-has_odd_bracket.false,
               (
                 sym c.has_spaced_equals.ensures ∙ c.if-has_spaced_equals.false,
                 (
