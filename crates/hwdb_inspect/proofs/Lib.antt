@@ -10,7 +10,7 @@ pub mod DepthLemmas
 pub mod DifferentLemmas
 pub mod TallyLemmas
 pub mod FewLemmas
-pub mod HoldingLemmas
+pub mod InventoryLemmas
 pub mod MeetingLemmas
 pub mod OrderedLemmas
 pub mod SaidLemmas

@@ -10,7 +10,7 @@ ghost use Rattle.hwdb_spec.specs.Tree.{members_under};
 ghost use Rattle.hwdb_show.specs.JsonTokens.{tokens_of_member, tokens_of_members};
 ghost use Rattle.hwdb_inspect.specs.Views.{amount_shown};
 
-use crate::holdings::Holdings;
+use crate::inventory::Inventory;
 use crate::members::Members;
 use hwdb_reader::{Db, check};
 use hwdb_show::put_count;
@@ -44,7 +44,7 @@ pub(crate) fn amount_in(alloc: Global, bytes: usize, db: &Db<'_>) -> Result<Amou
         (λ amount. amount_shown amount ≡ Status.amount_of (summary_of bytes db.now)) }
 {
     let mut members = Members::start(alloc, db)?;
-    let mut held = Holdings::new(alloc);
+    let mut held = Inventory::new(alloc);
     'members: while let Some(member) = members.next {
         held.add(member.path)?;
         members.pass()?;

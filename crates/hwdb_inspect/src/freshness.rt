@@ -12,7 +12,7 @@ ghost use Rattle.hwdb_inspect.specs.Internal.Counting.{files_in, first_kept};
 ghost use Rattle.hwdb_inspect.specs.Internal.Meeting.{changes_at, old_by};
 
 use crate::amounts::{Amount, amount_in, amount_of};
-use crate::holdings::Holdings;
+use crate::inventory::Inventory;
 use crate::meeting::{Side, is_change, least, pass_over, tell};
 use crate::members::Members;
 use crate::texts::is_same;
@@ -80,7 +80,7 @@ impl ChangeCount {
 }
 
 /// Counts the old database's assignment on a side, if it has one there.
-fn count_old<'a>(held: &mut Holdings<'a>, side: Side<'a, '_>) -> Result<(), AllocError>
+fn count_old<'a>(held: &mut Inventory<'a>, side: Side<'a, '_>) -> Result<(), AllocError>
     requires { held.old.assignments + length (old_by [] side) < 2 ^ 64 }
     ensures files { OnOk result ((p : List ℕ) (rest : List (List ℕ))
         → different (files_in held.new ++ rest) ≡ different
@@ -107,7 +107,7 @@ fn compared(alloc: Global, size: usize, old: &Db<'_>, new: &Db<'_>) -> Result<St
 {
     let mut before = Members::start(alloc, old)?;
     let mut after = Members::start(alloc, new)?;
-    let mut held = Holdings::new(alloc);
+    let mut held = Inventory::new(alloc);
     let mut tally = ChangeCount {
         changes: 0,
         first: Vec::new(alloc),

@@ -17,7 +17,7 @@
 //! | `summary` | how much is in a database |
 //! | `texts` | whether texts are one; `ordering`: texts in order, each once |
 //! | `freshness` | `status`: how a database is beside what the text files make |
-//! | `amounts` | how much is in a database, as `status` says it; `holdings`: what is counted for it |
+//! | `amounts` | how much is in a database, as `status` says it; `inventory`: what is counted for it |
 //! | `reports` | the lines of `status`; `json_reports`: the same as JSON |
 //! | `verification` | `verify`: whether bytes are a database, and how much is in it |
 //! | `members` | the assignments of a database, one after another while it is walked |
@@ -33,7 +33,7 @@ mod device_lines;
 mod difference;
 mod freshness;
 mod gifts;
-mod holdings;
+mod inventory;
 mod json_changes;
 mod json_reports;
 mod laws;

@@ -4,7 +4,7 @@ use Rattle.std.specs.Prelude.{List, Option, None, Some, [], ◌∷◌, ◌++◌,
 use Rattle.hwdb_spec.specs.Differences.{Change}
 use Rattle.hwdb_spec.specs.Folders.{same}
 use Rattle.hwdb_spec.specs.Status.{first_text}
-use Rattle.hwdb_inspect.specs.declared.holdings.Holdings.{Holdings}
+use Rattle.hwdb_inspect.specs.declared.inventory.Inventory.{Inventory}
 
 -- the text that was counted last, if one was
 abbrev pub last_of : (count : ℕ) → (last : List ℕ) → Option (List ℕ)
@@ -32,5 +32,5 @@ last_file None = []
 last_file (Some path) = path.now ∷ []
 
 -- the files of those that were counted
-abbrev pub files_in : Holdings → List (List ℕ)
+abbrev pub files_in : Inventory → List (List ℕ)
 files_in h = map (λ t. t.now) h.files.items ++ last_file h.last

@@ -2,7 +2,7 @@ use Rattle.std.proofs.Common.{◌∙◌, ◌∷◌, [], map}
 use Rattle.std.proofs.lemmas.Result.{IfOk-weaker}
 use Rattle.hwdb_inspect.specs.Internal.Counting.{files_in}
 use Rattle.hwdb_inspect.specs.Internal.Meeting.{left_of, member_of}
-use Rattle.hwdb_inspect.proofs.HoldingLemmas.{all_held, count_on, files_on, path_of, room}
+use Rattle.hwdb_inspect.proofs.InventoryLemmas.{all_counted, count_on, files_on, path_of, room}
 use Rattle.hwdb_inspect.proofs.MeetingLemmas.{next_is, none_left, passed}
 use Rattle.hwdb_inspect.proofs.amounts.amount_in.Goals as goal
 
@@ -31,5 +31,5 @@ returns c =
     let m = c.members.members in
     let none = none_left m c.args.db.now c.members.invariant.walk c.members.invariant.end c.in_default.is in
     IfOk-weaker c.amount.result _ _
-    (λ amount is. is ∙ all_held c.args.bytes c.args.db.now (files_in c.members.held) c.members.held.assignments (left_of m) none c.members.invariant.files c.members.invariant.count)
+    (λ amount is. is ∙ all_counted c.args.bytes c.args.db.now (files_in c.members.held) c.members.held.assignments (left_of m) none c.members.invariant.files c.members.invariant.count)
     c.amount.ensures

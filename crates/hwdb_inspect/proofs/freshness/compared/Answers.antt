@@ -2,7 +2,7 @@ use Rattle.std.proofs.Common.{◌∙◌, [], ap, length, map, sym, Some}
 use Rattle.hwdb_spec.specs.Status.{stale_by}
 use Rattle.hwdb_inspect.specs.Internal.Counting.{files_in}
 use Rattle.hwdb_inspect.specs.Internal.Meeting.{changes_at, left_of, old_by, to_meet}
-use Rattle.hwdb_inspect.proofs.HoldingLemmas.{all_held, bound_on, changes_on, count_on, files_on, first_on, fits, fits_first, fits_one, path_of, stale_is}
+use Rattle.hwdb_inspect.proofs.InventoryLemmas.{all_counted, bound_on, changes_on, count_on, files_on, first_on, fits, fits_first, fits_one, path_of, stale_is}
 use Rattle.hwdb_inspect.proofs.MeetingLemmas.{next_old, next_some}
 use Rattle.hwdb_inspect.proofs.MergeLemmas.{merged_trees}
 use Rattle.hwdb_inspect.proofs.freshness.compared.Goals as goal
@@ -55,4 +55,4 @@ pub returns-clause-holds : goal.returns-clause-holds
 returns-clause-holds c =
     let none = rw c.in_default.is at c.least.ensures.none_old in
     ap Some (c.in_ok-amount.ensures
-    ∙ all_held c.args.size c.args.old.now (files_in c.pairs.held) c.pairs.held.assignments (left_of c.pairs.before) none c.pairs.invariant.files c.pairs.invariant.count)
+    ∙ all_counted c.args.size c.args.old.now (files_in c.pairs.held) c.pairs.held.assignments (left_of c.pairs.before) none c.pairs.invariant.files c.pairs.invariant.count)

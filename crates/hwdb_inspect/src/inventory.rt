@@ -12,7 +12,7 @@ use std::alloc::{AllocError, Global};
 
 /// What was counted so far. Most assignments come from the file of the one before them, so that few files are held.
 #[derive(Drop)]
-pub(crate) struct Holdings<'a> {
+pub(crate) struct Inventory<'a> {
     /// The files but the last.
     files: Vec<&'a [u8]>,
     /// The file of the assignment that was counted last.
@@ -20,12 +20,12 @@ pub(crate) struct Holdings<'a> {
     pub assignments: usize,
 }
 
-impl<'a> Holdings<'a> {
-    pub(crate) fn new(alloc: Global) -> Holdings<'a>
+impl<'a> Inventory<'a> {
+    pub(crate) fn new(alloc: Global) -> Inventory<'a>
         ensures files { files_in result ≡ [] }
         ensures assignments { result.assignments ≡ 0 }
     {
-        Holdings {
+        Inventory {
             files: Vec::new(alloc),
             last: None,
             assignments: 0,
@@ -67,7 +67,7 @@ impl<'a> Holdings<'a> {
     fn all_files(self) -> Result<Vec<&'a [u8]>, AllocError>
         ensures { IfOk result (λ all. map (λ t. t.now) all.items ≡ files_in self.entry) }
     {
-        let Holdings {
+        let Inventory {
             files,
             last,
             assignments: _,

@@ -71,10 +71,10 @@ pub room : (count limit : ℕ) (left more all : List Assignment) (x : Assignment
 room count limit left more all x split is few = let sizes = ap length split in omega (arith, sizes, is, few)
 
 -- nothing is left
-pub all_held : (bytes : ℕ) (t : Tree) (files : List (List ℕ)) (count : ℕ) (left : List Assignment) → left ≡ []
+pub all_counted : (bytes : ℕ) (t : Tree) (files : List (List ℕ)) (count : ℕ) (left : List Assignment) → left ≡ []
     → different (files ++ map path_of left) ≡ different (map path_of (members_under [] t)) → count + length left ≡ length (members_under [] t)
     → Amount.Counted (different files) count bytes ≡ amount_of (summary_of bytes t)
-all_held bytes t files count left empty is counted =
+all_counted bytes t files count left empty is counted =
     let found : different files ≡ different (map path_of (members_under [] t)) =
     ap different (sym (append-nil files)) ∙ ap (λ l. different (files ++ map path_of l)) (sym empty) ∙ is in
     let size = ap length empty in

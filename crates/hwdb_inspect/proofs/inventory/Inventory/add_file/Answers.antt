@@ -2,8 +2,8 @@ use Rattle.std.proofs.Common.{◌≡◌, ◌∙◌, ◌++◌, ◌∷◌, List, O
 use Rattle.std.specs.Borrow.{Bor}
 use Rattle.hwdb_spec.specs.Summary.{different}
 use Rattle.hwdb_inspect.specs.Internal.Counting.{last_file}
-use Rattle.hwdb_inspect.proofs.HoldingLemmas.{last_again}
-use Rattle.hwdb_inspect.proofs.holdings.Holdings.add_file.Goals as goal
+use Rattle.hwdb_inspect.proofs.InventoryLemmas.{last_again}
+use Rattle.hwdb_inspect.proofs.inventory.Inventory.add_file.Goals as goal
 
 pub returns-then-is_same-clause-files : goal.returns-then-is_same-clause-files
 returns-then-is_same-clause-files c rest =
