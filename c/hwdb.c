@@ -40,12 +40,27 @@
  * are for nothing. Whatever a file's bytes are, some hundred reads are enough for all of it. */
 #define FEW_BLOCKS 64
 
+/* How many bytes of a header are known. */
+#define HEADER 80
+
+/* How many bytes of the nodes are read at once by hwdb_check, and how many nodes may wait for their parents there. In Debian's
+ * database 76 do, and no record has more than 1,784 bytes. */
+#define PIECE (64 << 10)
+#define ROWS 8192
+
 /* What hwdb_c_lookup and hwdb_c_properties answer. */
 enum { WRITTEN = 0, TOO_SHORT = 1, NO_MEMORY = 2, MISSING = 3, FAULT = 4, LONG_PATH = 5 };
 
-/* crates/hwdb_c/src/lib.rt. The first two are for any bytes, the third for bytes for which the first answered 0. No pointer that
- * is handed to them is NULL. */
+/* crates/hwdb_c/src/lib.rt. All but hwdb_c_properties are for any bytes; that one is for bytes for which hwdb_c_check answered 0. No
+ * pointer that is handed to them is NULL. */
 uint32_t hwdb_c_check(const uint8_t *bytes, size_t length, uint64_t *place);
+uint32_t hwdb_c_sections(const uint8_t *header, size_t header_length, size_t size, size_t *nodes, size_t *strings);
+size_t hwdb_c_feed(const uint8_t *header, size_t header_length, size_t size, const uint8_t *strings, size_t strings_length,
+                   const uint8_t *piece, size_t length, size_t at, size_t *offsets, size_t offset_rows, uint16_t *heights,
+                   size_t height_rows, size_t *done);
+uint32_t hwdb_c_is_whole(const uint8_t *header, size_t header_length, size_t size, const uint8_t *strings, size_t strings_length,
+                         size_t at, const size_t *offsets, size_t offset_rows, const uint16_t *heights, size_t height_rows,
+                         size_t done);
 uint32_t hwdb_c_lookup(const uint8_t *bytes, size_t length, const uint8_t *present, size_t blocks, const uint8_t *device,
                        size_t device_length, uint8_t *out, size_t room, size_t *needed);
 uint32_t hwdb_c_properties(const uint8_t *bytes, size_t length, const uint8_t *device, size_t device_length, uint8_t *out,
@@ -112,16 +127,22 @@ static void release(struct database *file) {
     munmap(file->bytes, file->length + file->blocks + 1);
 }
 
+/* Reads the file's part from `at` to `end`, and says how far that went. If it stopped, `last` is what the last read answered. */
+static size_t read_part(const struct database *file, uint8_t *part, size_t at, size_t end, ssize_t *last) {
+    ssize_t n = 1;
+
+    for (size_t first = at; at < end && (n > 0 || (n < 0 && errno == EINTR)); at += n > 0 ? (size_t)n : 0)
+        n = pread(file->fd, part + (at - first), end - at, (off_t)at);
+    *last = n;
+    return at;
+}
+
 /* Reads blocks that weren't read, from the first on. If that one can't be read, the answer says why. A file that was cut before the
  * block's end is no database. */
 static int read_run(struct database *file, size_t first, size_t after) {
-    size_t at = first * BLOCK, end = after < file->blocks ? after * BLOCK : file->length;
-    ssize_t n = 1;
-
-    while (at < end && (n > 0 || (n < 0 && errno == EINTR))) {
-        n = pread(file->fd, file->bytes + at, end - at, (off_t)at);
-        at += n > 0 ? (size_t)n : 0;
-    }
+    size_t begin = first * BLOCK, end = after < file->blocks ? after * BLOCK : file->length;
+    ssize_t n;
+    size_t at = read_part(file, file->bytes + begin, begin, end, &n);
     size_t whole = at < end ? at / BLOCK : after;
     memset(file->present + first, 1, whole - first);
     file->read += whole - first;
@@ -148,9 +169,21 @@ static int read_blocks(struct database *file, size_t block, size_t most) {
     return file->present[block] ? 0 : read_run(file, block, block + 1);
 }
 
+/* Reads all of the file, and checks it. */
+static int check_whole(struct database *file) {
+    uint64_t place;
+
+    for (size_t block = 0; block < file->blocks; block++) {
+        int r = file->present[block] ? 0 : read_blocks(file, block, file->blocks);
+        if (r < 0)
+            return r;
+    }
+    return hwdb_c_check(file->bytes, file->length, &place) == 0 ? 0 : -EUCLEAN;
+}
+
 /* The same of the whole file, which is checked first: some pattern that may match is too long for the other way. */
 static int ask_whole(sd_hwdb *hwdb, const char *modalias, size_t *needed) {
-    int r = hwdb_check(hwdb);
+    int r = check_whole(&hwdb->database);
     if (r < 0)
         return r;
     uint32_t answer = hwdb_c_properties(hwdb->database.bytes, hwdb->database.length, (const uint8_t *)modalias, strlen(modalias),
@@ -291,18 +324,72 @@ sd_hwdb *sd_hwdb_unref(sd_hwdb *hwdb) {
     return NULL;
 }
 
-int hwdb_check(sd_hwdb *hwdb) {
-    uint64_t place;
+/* A copy of the file's part from `at` to `end`. What was read before is copied from there, since lookups go on with it. */
+static bool copy_part(const struct database *file, uint8_t *part, size_t at, size_t end) {
+    ssize_t last;
 
+    if (read_part(file, part, at, end, &last) < end)
+        return false;
+    for (size_t block = at / BLOCK; block * BLOCK < end; block++) {
+        size_t first = block * BLOCK < at ? at : block * BLOCK, after = (block + 1) * BLOCK < end ? (block + 1) * BLOCK : end;
+        if (file->present[block])
+            memcpy(part + (first - at), file->bytes + first, after - first);
+    }
+    return true;
+}
+
+/* What a pass over a file keeps: its header, a piece of its nodes, the nodes that wait for their parents, and its strings. */
+struct pass {
+    size_t done;
+    size_t offsets[ROWS];
+    uint16_t heights[ROWS];
+    uint8_t header[HEADER];
+    uint8_t piece[PIECE];
+    uint8_t strings[];
+};
+
+/* Whether the file is a database, as a pass over its nodes says. A node that is cut at a piece's end begins the next one. */
+static bool pass_over(const struct database *file, struct pass *pass, size_t at, size_t end) {
+    size_t size = file->length, used = 1;
+
+    while (at < end && used > 0) {
+        size_t length = end - at < PIECE ? end - at : PIECE;
+        if (!copy_part(file, pass->piece, at, at + length))
+            return false;
+        used = hwdb_c_feed(pass->header, HEADER, size, pass->strings, size - end, pass->piece, length, at, pass->offsets, ROWS,
+                           pass->heights, ROWS, &pass->done);
+        at += used;
+    }
+    return hwdb_c_is_whole(pass->header, HEADER, size, pass->strings, size - end, at, pass->offsets, ROWS, pass->heights, ROWS,
+                           pass->done);
+}
+
+/* Whether the file is a database, without all of it in memory. If that can't be said, the answer is no. */
+static bool is_accepted(const struct database *file) {
+    uint8_t header[HEADER];
+    struct stat status;
+    size_t nodes, end;
+
+    if (fstat(file->fd, &status) < 0 || status.st_dev != file->device || status.st_ino != file->inode || file->length < HEADER ||
+        !copy_part(file, header, 0, HEADER) || !hwdb_c_sections(header, HEADER, file->length, &nodes, &end))
+        return false;
+    /* Not malloc(3)'s, which would keep it. */
+    size_t room = sizeof(struct pass) + (file->length - end);
+    struct pass *pass = mmap(NULL, room, PROT_READ | PROT_WRITE, MAP_PRIVATE | MAP_ANONYMOUS, -1, 0);
+    if (pass == MAP_FAILED)
+        return false;
+    memcpy(pass->header, header, HEADER);
+    bool accepted = copy_part(file, pass->strings, end, file->length) && pass_over(file, pass, nodes, end);
+    munmap(pass, room);
+    return accepted;
+}
+
+int hwdb_check(sd_hwdb *hwdb) {
     if (!hwdb)
         return -EINVAL;
+    /* Without a pass if all is in memory, or if the pass doesn't accept it. */
     struct database *file = &hwdb->database;
-    for (size_t block = 0; block < file->blocks; block++) {
-        int r = file->present[block] ? 0 : read_blocks(file, block, file->blocks);
-        if (r < 0)
-            return r;
-    }
-    return hwdb_c_check(file->bytes, file->length, &place) == 0 ? 0 : -EUCLEAN;
+    return file->read < file->blocks && is_accepted(file) ? 0 : check_whole(file);
 }
 
 /* The handle's own copy of a string, which stays as long as the handle; NULL if an allocation fails. */

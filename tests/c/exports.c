@@ -1,9 +1,11 @@
-/* What the two calls of crates/hwdb_c answer for two small databases, with any room, and for damages of the empty one. C alone
+/* What the calls of crates/hwdb_c answer for two small databases, with any room, and for damages of the empty one. C alone
  * sees how much room is given: the calls of the library give enough. Says what is wrong, and ends with the number of rows.
- * What is expected comes from the description of the format (hwdb-internal.h) and of the two calls. */
+ * What is expected comes from the description of the format (hwdb-internal.h) and of the calls. */
 #include <stdint.h>
 #include <stdio.h>
 #include <string.h>
+
+#include "library-pass.h"
 
 uint32_t hwdb_c_check(const uint8_t *bytes, size_t length, uint64_t *place);
 uint32_t hwdb_c_lookup(const uint8_t *bytes, size_t length, const uint8_t *present, size_t blocks, const uint8_t *device,
@@ -68,6 +70,14 @@ static uint32_t look_up(const struct lookup *row, size_t length, uint8_t present
     return hwdb_c_lookup(bytes, length, &present, 1, (const uint8_t *)row->device, strlen(row->device), to, row->room, needed);
 }
 
+/* A database is accepted in pieces of any size in which its largest record is whole, and with as many rows as nodes wait for their
+ * parents: one in each of the two. Not with less. */
+static void pass_over(size_t length, size_t record, size_t row) {
+    for (size_t most = record - 1; most <= length; most++)
+        judge(is_passed(bytes, length, most, 1) == (most >= record), "a pass", row);
+    judge(!is_passed(bytes, length, length, 0), "a pass without rows", row);
+}
+
 /* The byte at a place becomes another: the number of the fault, and its offset. */
 struct damage {
     size_t at;
@@ -89,6 +99,7 @@ int main(void) {
         size_t length = bytes_of(row->hex, bytes), needed = 0;
         memset(out, '.', sizeof out);
         judge(hwdb_c_check(bytes, length, &place) == 0, "a database", i);
+        pass_over(length, row->hex == EMPTY ? 24 : 104, i);
         uint32_t answer = look_up(row, length, 1, out, &needed);
         judge(answer == row->answer && needed == row->needed, "an answer", i);
         judge(memcmp(out, row->out, row->room) == 0 && out[row->room] == '.', "what is written", i);
@@ -106,6 +117,7 @@ int main(void) {
         size_t length = bytes_of(EMPTY, bytes);
         bytes[DAMAGES[i].at] = DAMAGES[i].byte;
         judge(hwdb_c_check(bytes, length, &place) == DAMAGES[i].number && place == DAMAGES[i].offset, "a fault", i);
+        judge(!is_passed(bytes, length, length, 1), "a pass over it", i);
         /* Each of these is on the way of every lookup. */
         size_t needed = 0;
         struct lookup row = {EMPTY, "a", 3, 4, 0, "..."};

@@ -20,7 +20,7 @@
 #include <sys/resource.h>
 #include "driver.h"
 
-enum { SECONDS = 20, MOST_CALLS = 2000, MOST_NAMES = 64, MOST_KINDS = 32, MOST_SHOWN = 5, OLD_MODE = 0640, NEW_MODE = 0444 };
+enum { SECONDS = 60, MOST_CALLS = 2000, MOST_NAMES = 64, MOST_KINDS = 32, MOST_SHOWN = 5, OLD_MODE = 0640, NEW_MODE = 0444 };
 #define PIECE "4000"
 #define PART_NAME ".#hwdb.bin"
 #define LEFTOVER ".#hwdb.bin7"

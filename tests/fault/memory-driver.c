@@ -21,7 +21,7 @@
 #include <sys/resource.h>
 #include "driver.h"
 
-enum { SECONDS = 20, MOST_REQUESTS = 50000, MOST_NAMES = 32, MOST_SHOWN = 5 };
+enum { SECONDS = 60, MOST_REQUESTS = 50000, MOST_NAMES = 32, MOST_SHOWN = 5 };
 
 struct answer { int status; const char *left; struct text out, err, database; };
 

@@ -5,7 +5,8 @@
  *   - each call answers what libhwdb(3) says, and leaves no handle if it fails;
  *   - a file that is a database gives each device what a lookup in the whole of it gives, whatever was read of it;
  *   - a file that a lookup refuses is no database;
- *   - each block that a lookup asks for is one that wasn't read, so that it ends.
+ *   - each block that a lookup asks for is one that wasn't read, so that it ends;
+ *   - a file that a pass accepts, in pieces of some size, is a database.
  *
  * With libFuzzer (clang -fsanitize=fuzzer) that one makes the inputs. With PLAIN there is a loop instead of it:
  *   fuzz SECONDS SEED FILE..     changes the files' bytes for so long. An input that fails is left in `failed` */
@@ -20,6 +21,7 @@
 #include <time.h>
 #include <unistd.h>
 
+#include "../c/library-pass.h"
 #include "hwdb.h"
 
 /* Blocks of crates/hwdb_lookup, and what it answers. */
@@ -158,6 +160,8 @@ static void ask_whole(const uint8_t *file, size_t length, const char *device, st
     uint32_t fault = hwdb_c_check(bytes, length, &place);
     WANT(fault <= 11);
     note(3 + fault, place);
+    WANT(fault == 0 || !is_passed(bytes, length, length, PASS_ROWS));
+    WANT(fault == 0 || !is_passed(bytes, length, 1 << (6 + length % 6), 1 + length % 7));
     answer->length = REFUSED;
     if (fault == 0) {
         WANT(hwdb_c_properties(bytes, length, (const uint8_t *)device, strlen(device), (uint8_t *)answer->text,
@@ -223,7 +227,7 @@ int main(int count, char **words) {
     unsigned long inputs = 0;
     time_t end = time(NULL) + atoi(words[1]);
     /* So many seconds of the processor for one input: a signal ends it then. */
-    struct itimerval longest = {{0, 0}, {10, 0}};
+    struct itimerval longest = {{0, 0}, {30, 0}};
 
     while (time(NULL) < end) {
         FILE *file = fopen(words[3 + below(&seed, (size_t)count - 3)], "re");

@@ -1,6 +1,8 @@
--- Laws of files of which some blocks were read. Our choice.
+-- Laws of files of which some blocks were read, or that are read forward. Our choice.
 use Rattle.std.specs.Prelude.{List, ℕ, ◌/◌, ◌*◌, ◌<◌, ◌≡◌, ◌≢◌, length, slice_index, slice_set}
 use Rattle.hwdb_spec.specs.Blocks.{block_bytes, MayBe}
+use Rattle.hwdb_spec.specs.Format.{layout_of}
+use Rattle.hwdb_passes.specs.Views.{Stands, pending}
 
 -- a block of the file was read into the bytes
 pub record IsBlockRead (file before after : List ℕ) (block : ℕ) : Type 0 where
@@ -22,3 +24,7 @@ ReadsKeep =
 abbrev pub AllReadIsOne : Type 0
 AllReadIsOne =
     (buffer present file : List ℕ) → ((block : ℕ) → block * block_bytes < length buffer → slice_index present block ≡ 1) → MayBe buffer present file → file ≡ buffer
+
+-- before the first piece no node is done
+abbrev pub PassesBegin : Type 0
+PassesBegin = (file offsets heights : List ℕ) → Stands file (pending offsets heights 0) (layout_of file).nodes

@@ -3,7 +3,8 @@
 //! C owns all memory that goes in and out, and reads the file. [`hwdb_c_check`] and [`hwdb_c_lookup`] are for any bytes.
 //! The latter says which block of the file it needs, and is called again when that was read. [`hwdb_c_properties`] is
 //! for bytes that were accepted: c/hwdb.c calls it for no others. They promise, over what C sees, what
-//! `hwdb_reader::check`, `hwdb_lookup::lookup` and `hwdb_query::effective` do.
+//! `hwdb_reader::check`, `hwdb_lookup::lookup` and `hwdb_query::effective` do. [`hwdb_c_sections`], [`hwdb_c_feed`] and
+//! [`hwdb_c_is_whole`] are those of `hwdb_passes`, for a file that C reads once, in pieces.
 //!
 //! No view of the database is kept between two calls, since C can't hold one. So each lookup begins with the header.
 //!
@@ -17,13 +18,14 @@
 //! | `laws` | laws of what C reads |
 #![tactic(auto)]
 
-ghost use Rattle.std.specs.Prelude.{◌≡◌, ◌≢◌, ◌≤◌, ◌<◌, ◌*◌, ◌++◌, ℕ, List, length, drop, slice_index};
+ghost use Rattle.std.specs.Prelude.{◌≡◌, ◌≢◌, ◌≤◌, ◌<◌, ◌+◌, ◌*◌, ◌++◌, ℕ, List, length, drop, slice_index};
 ghost use Rattle.hwdb_spec.specs.Tree.{Tree};
 ghost use Rattle.hwdb_spec.specs.Folders.{Source};
-ghost use Rattle.hwdb_spec.specs.Format.{IsDatabase};
+ghost use Rattle.hwdb_spec.specs.Format.{IsDatabase, layout_of};
 ghost use Rattle.hwdb_spec.specs.Written.{IsCompiled};
 ghost use Rattle.hwdb_spec.specs.Blocks.{block_bytes, MayBe};
 ghost use Rattle.hwdb_spec.specs.Library.{IsFault, device_strings, last_strings};
+ghost use Rattle.hwdb_passes.specs.Views.{IsPart, IsRead, Stands, pending};
 
 mod answer;
 mod faults;
@@ -35,9 +37,10 @@ mod whole;
 use answer::strings_of_known;
 use faults::{number_of, place_of};
 use hwdb_lookup::{Known, Stop};
+use hwdb_passes::{feed, is_whole, open_outline, open_sections};
 use hwdb_query::compiled_answers_are_last;
 use hwdb_reader::check;
-pub use laws::reads_are_of_the_file;
+pub use laws::{passes_begin, reads_are_of_the_file};
 use room::put;
 use std::alloc::Global;
 use whole::strings_for;
@@ -75,6 +78,88 @@ pub extern "C" fn hwdb_c_check(bytes: &[u8], place: &mut u64) -> u32
             *place = place_of(fault);
             number_of(fault)
         }
+    }
+}
+
+/// Where the parts of a file are, which is read forward: of its first 80 bytes or more, and its size. Answers 1, and the
+/// offsets at which the nodes begin and the strings; or 0, if that can't be said.
+///
+/// With it [`hwdb_c_feed`] and [`hwdb_c_is_whole`] say of a file that it is a database, without all of it in memory.
+/// Of a file of which they don't say that, nothing is said: [`hwdb_c_check`] decides. First the caller reads the
+/// strings, up to the file's end. Then it feeds the nodes in pieces, from the first on. Two tables have a row for each
+/// node that is done and whose parent isn't. No row counts at first.
+#[unsafe(no_mangle)]
+pub extern "C" fn hwdb_c_sections(
+    header: &[u8],
+    size: usize,
+    nodes: &mut usize,
+    strings: &mut usize,
+) -> u32
+    ensures inside { result ≡ 1 → (nodes.new ≤ strings.new) × (strings.new ≤ size) }
+    ensures sections { result ≡ 1 → (file : List ℕ) → IsPart file 0 header.now
+        → length file ≡ size → (nodes.new ≡ (layout_of file).nodes)
+        × (strings.new ≡ (layout_of file).strings) }
+{
+    let Some(frame) = open_sections(header, size) else {
+        return 0;
+    };
+    *nodes = frame.sizes.nodes;
+    *strings = frame.sizes.strings;
+    1
+}
+
+/// Goes on over the nodes that are whole in a piece, which is the file's from `at` on. Answers how many bytes they are:
+/// the next piece begins after these. If it answers 0, that piece isn't accepted, or has no whole node.
+///
+/// `done` counts the rows of the tables that are in use. Takes no memory.
+#[unsafe(no_mangle)]
+pub extern "C" fn hwdb_c_feed(
+    header: &[u8],
+    size: usize,
+    strings: &[u8],
+    piece: &[u8],
+    at: usize,
+    offsets: &mut [usize],
+    heights: &mut [u16],
+    done: &mut usize,
+) -> usize
+    ensures used { result ≤ length piece.now }
+    ensures stand { result ≢ 0 → (file : List ℕ) → IsRead header.now size strings.now file
+        → IsPart file at piece.now
+        → Stands file (pending offsets.old heights.old done.old) at
+        → Stands file (pending offsets.new heights.new done.new) (at + result) }
+{
+    let Some(outline) = open_outline(header, size, strings) else {
+        return 0;
+    };
+    match feed(outline, piece, at, offsets, heights, done) {
+        Some(used) => used,
+        None => 0,
+    }
+}
+
+/// Whether the file whose nodes were fed up to `at` is a database: 1, or 0 if that can't be said.
+#[unsafe(no_mangle)]
+pub extern "C" fn hwdb_c_is_whole(
+    header: &[u8],
+    size: usize,
+    strings: &[u8],
+    at: usize,
+    offsets: &[usize],
+    heights: &[u16],
+    done: usize,
+) -> u32
+    ensures { result ≡ 1 → (file : List ℕ) → IsRead header.now size strings.now file
+        → Stands file (pending offsets.now heights.now done) at
+        → (t : Tree) × IsDatabase file t }
+{
+    let Some(outline) = open_outline(header, size, strings) else {
+        return 0;
+    };
+    if is_whole(outline, at, offsets, heights, done) {
+        1
+    } else {
+        0
     }
 }
 

@@ -21,7 +21,7 @@ const ABOUT: &str =
 
 /// What help ends with.
 const AFTER: &str =
-    "Exit status: 0 on success, even if nothing matches; 1 on errors.\nExample: hwdb explain usb:v1D6Bp0002";
+    "With --text it also says which matching lines a later one replaced, and which files are masked.\nExit status: 0 on success, even if nothing matches; 1 on errors.\nExample: hwdb explain usb:v1D6Bp0002";
 
 /// The command.
 pub fn command<'a>(alloc: Global) -> Draft<'a>

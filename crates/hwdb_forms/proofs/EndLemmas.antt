@@ -13,11 +13,11 @@ use Rattle.hwdb_forms.specs.Internal.{HaveWays, IsFamily, Leads, StarEnds, field
 use Rattle.hwdb_forms.proofs.LoopLemmas.{none, views_length}
 use Rattle.hwdb_forms.proofs.LeadLemmas.{cases, counted_family, counted_tells, fields_family, if_alive, pieces_family, token_of}
 
-if_either : (b x : Bool) → x ≡ true → (if b then true else x) ≡ true
+pub if_either : (b x : Bool) → x ≡ true → (if b then true else x) ≡ true
 if_either true x e = refl
 if_either false x e = e
 
-if_first : (b x : Bool) → b ≡ true → (if b then true else x) ≡ true
+pub if_first : (b x : Bool) → b ≡ true → (if b then true else x) ≡ true
 if_first true x e = refl
 if_first false x e = cc
 
@@ -45,7 +45,7 @@ star_piece (fixed bytes) row h = star_fixed bytes row h
 star_piece (counted set n) row h = star_counted set n row h
 star_piece (repeated set) row h = star_many set row h
 
-star_pieces : (ps : List Piece) (row : List Bool) → head row ≡ true → head (pieces_row ps (star ∷ []) row) ≡ true
+pub star_pieces : (ps : List Piece) (row : List Bool) → head row ≡ true → head (pieces_row ps (star ∷ []) row) ≡ true
 unfolding pieces_row
 star_pieces [] row h = h
 star_pieces (p ∷ ps) row h = star_piece p (pieces_row ps (star ∷ []) row) (star_pieces ps row h)
@@ -88,7 +88,7 @@ many_true false true here next a b e = if_either here next e
 many_true true met here next a b e = cc
 many_true false false here next a b e = cc
 
-many_next : (set : ByteSet) (t : Token) (ts : List Token) (rows : List Token → List Bool) → IsFamily rows → is_star t ≡ false → meets t set ≡ true → head (many_row set ts (rows ts)) ≡ true → head (many_row set (t ∷ ts) (rows (t ∷ ts))) ≡ true
+pub many_next : (set : ByteSet) (t : Token) (ts : List Token) (rows : List Token → List Bool) → IsFamily rows → is_star t ≡ false → meets t set ≡ true → head (many_row set ts (rows ts)) ≡ true → head (many_row set (t ∷ ts) (rows (t ∷ ts))) ≡ true
 unfolding many_row
 many_next set t ts rows f s m h =
     many_true (is_star t) (meets t set) (head (rows (t ∷ ts))) (head (many_row set ts (tail (rows (t ∷ ts))))) s m (ap (λ (r : List Bool). head (many_row set ts r)) (f t ts) ∙ h)

@@ -6,7 +6,7 @@ use Rattle.hwdb_spec.specs.Patterns.{Token, Matches, star, token_at, tokens}
 use Rattle.hwdb_spec.specs.FormTable.{asked}
 use Rattle.hwdb_spec.specs.declared.Judgement.{Judgement}
 use Rattle.hwdb_spec.specs.declared.Judgement.TheVariants.{Fine}
-use Rattle.hwdb_spec.specs.Forms.{CanBegin, CanMatch, Form, HasOneOf, can_begin, can_match, front_from, is_unknown, prefix_size}
+use Rattle.hwdb_spec.specs.Forms.{CanBegin, CanMatch, Form, HasOneOf, can_begin, can_match, front_from, is_unknown, judged, prefix_size}
 use Rattle.hwdb_forms.specs.Internal.{views}
 use Rattle.hwdb_forms.specs.Laws.{FrontsAreLongest}
 use Rattle.hwdb_forms.proofs.AnswerLemmas.{append_none, forms_tested, fronts_tested}
@@ -114,6 +114,13 @@ unknown_told pattern texts size m begins e n k v b =
 -- what is said of a pattern that matches, and of one that doesn't
 pub is_fine : (ts : List Token) (met : Bool) → met ≡ can_match asked ts → met ≡ true → (Fine ≡ Fine) ↔ CanMatch asked ts
 is_fine ts met e t = (λ same. (forms_tested asked ts).0 (sym e ∙ t), λ m. refl)
+
+pub fine_told : (pattern : List ℕ) → can_match asked (tokens pattern) ≡ true → Fine ≡ judged asked pattern
+fine_told pattern e = by (can_match asked (tokens pattern)) _ e
+  where
+    by : (b : Bool) (other : Judgement) → b ≡ true → Fine ≡ (if b then Fine else other)
+    by true other e = refl
+    by false other e = cc
 
 pub not_fine : (told : Judgement) (ts : List Token) (met : Bool) → (told ≡ Fine → ⊥) → met ≡ can_match asked ts → met ≡ false → (told ≡ Fine) ↔ CanMatch asked ts
 not_fine told ts met n e f =

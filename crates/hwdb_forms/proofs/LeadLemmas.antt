@@ -121,7 +121,7 @@ many_family : (set : ByteSet) (rows : List Token → List Bool) → IsFamily row
 unfolding many_row
 many_family set rows f t ts = ap (many_row set ts) (f t ts)
 
-fixed_family : (bytes : List ℕ) (rows : List Token → List Bool) → IsFamily rows → IsFamily (λ ts. fixed_row bytes ts (rows ts))
+pub fixed_family : (bytes : List ℕ) (rows : List Token → List Bool) → IsFamily rows → IsFamily (λ ts. fixed_row bytes ts (rows ts))
 unfolding fixed_row
 fixed_family [] rows f t ts = f t ts
 fixed_family (b ∷ bytes) rows f t ts = byte_family (Only b) (λ us. fixed_row bytes us (rows us)) (fixed_family bytes rows f) t ts
@@ -240,11 +240,11 @@ led_first (p ∷ ps) [] rows f = refl
 led_first [] (t ∷ ts) rows f = refl
 led_first (p ∷ ps) (t ∷ ts) rows f = refl
 
-next_piece : (ps : List Piece) (done : ℕ) (d p : Piece) (us : List Token) (row : List Bool) → done < length ps → p ≡ get_or ps done d → pieces_row (drop done ps) us row ≡ piece_row p us (pieces_row (drop (suc done) ps) us row)
+pub next_piece : (ps : List Piece) (done : ℕ) (d p : Piece) (us : List Token) (row : List Bool) → done < length ps → p ≡ get_or ps done d → pieces_row (drop done ps) us row ≡ piece_row p us (pieces_row (drop (suc done) ps) us row)
 unfolding pieces_row
 next_piece ps done d p us row h e = rw (drop-cons ps done d h, e) refl
 
-dropped : (ts : List Token) (at n m : ℕ) → m ≡ at + n → drop n (drop at ts) ≡ drop m ts
+pub dropped : (ts : List Token) (at n m : ℕ) → m ≡ at + n → drop n (drop at ts) ≡ drop m ts
 dropped ts at n m e = drop-drop n at ts ∙ ap (λ (i : ℕ). drop i ts) (sym e)
 
 pub led_more : (ps : List Piece) (ts us : List Token) (done next at to : ℕ) (d p : Piece) → done < length ps → next ≡ suc done → us ≡ drop at ts → to ≡ at + piece_size p → p ≡ get_or ps done d → passed p us ≡ Yes → Led ps ts done at → Led ps ts next to

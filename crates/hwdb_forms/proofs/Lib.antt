@@ -4,9 +4,12 @@ pub mod ReadLemmas
 pub mod LoopLemmas
 pub mod LeadLemmas
 pub mod EndLemmas
+pub mod PlainLemmas
 pub mod AnswerLemmas
 pub mod ExampleLemmas
 pub mod FrontLemmas
 pub mod FollowLemmas
 pub mod ExpectedLemmas
 pub mod LikeLemmas
+pub mod GuessLemmas
+pub mod AlikeLemmas

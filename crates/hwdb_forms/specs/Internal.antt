@@ -1,5 +1,5 @@
 -- What the proofs of this crate speak of: forms and languages as they are computed, from the left to the right.
-use Rattle.std.specs.Prelude.{ℕ, Bool, false, true, List, [], ◌∷◌, ◌++◌, IsTrue, ◌≡◌, ◌⊎◌, if◌then◌else◌, drop, length, map, suc, zero}
+use Rattle.std.specs.Prelude.{ℕ, Bool, false, true, List, [], ◌∷◌, ◌++◌, IsTrue, ◌≡◌, ◌≤◌, ◌⊎◌, if◌then◌else◌, drop, length, map, suc, zero}
 use Rattle.std.proofs.Common.{Bor}
 use Rattle.hwdb_spec.specs.FormTable.{asked}
 use Rattle.hwdb_spec.specs.Patterns.{Token, admits_byte, Matches, star, token_at, tokens}
@@ -13,6 +13,7 @@ use Rattle.hwdb_forms.specs.declared.pieces.FormRow
 use Rattle.hwdb_forms.specs.declared.leads.Passed.TheVariants.{No, Unknown, Yes}
 use Rattle.hwdb_forms.specs.declared.leads.Passed.{Passed}
 use Rattle.hwdb_forms.specs.declared.leads.Lead.{Lead}
+use Rattle.hwdb_forms.specs.declared.expecting.Asked.{Asked}
 use Rattle.hwdb_forms.specs.declared.expecting.Following.{Following}
 
 -- what a piece of Rust's stands for, and a form
@@ -153,3 +154,77 @@ StarEnds p ts =
 -- whether tokens match pieces in order, and then some text of the fields
 abbrev pub way_met : List Forms.Piece → List (List (List Forms.Piece)) → List Token → Bool
 way_met ps fields ts = Forms.head (Forms.pieces_row ps ts (Forms.fields_row fields ts))
+
+-- A text is cut after some bytes: its tokens after as many are those of its rest.
+abbrev pub IsCut : List ℕ → ℕ → Type 0
+IsCut text n = tokens (drop n text) ≡ drop n (tokens text)
+
+-- Tokens go through a piece, a way and a field by their first ones: they match it and what comes after it, if the others match that.
+abbrev pub GoesThrough : Forms.Piece → List Token → ℕ → Type 0
+GoesThrough p ts n =
+    (rows : List Token → List Bool) → IsFamily rows → Forms.head (rows (drop n ts)) ≡ true → Forms.head (Forms.piece_row p ts (rows ts)) ≡ true
+
+abbrev pub GoesThroughWay : List Forms.Piece → List Token → ℕ → Type 0
+GoesThroughWay way ts n =
+    (rows : List Token → List Bool) → IsFamily rows → Forms.head (rows (drop n ts)) ≡ true → Forms.head (Forms.pieces_row way ts (rows ts)) ≡ true
+
+abbrev pub GoesThroughField : List (List Forms.Piece) → List Token → ℕ → Type 0
+GoesThroughField field ts n =
+    (rows : List Token → List Bool) → IsFamily rows → Forms.head (rows (drop n ts)) ≡ true → Forms.head (Forms.field_row field ts (rows ts)) ≡ true
+
+-- A text goes through a piece, a way and a field by its first bytes.
+pub record IsThrough (p : Forms.Piece) (text : List ℕ) (n : ℕ) : Type 0 where
+  pub within : n ≤ length text
+  pub cut : IsCut text n
+  pub through : GoesThrough p (tokens text) n
+
+pub record IsThroughWay (way : List Forms.Piece) (text : List ℕ) (n : ℕ) : Type 0 where
+  pub within : n ≤ length text
+  pub cut : IsCut text n
+  pub through : GoesThroughWay way (tokens text) n
+
+pub record IsThroughField (field : List (List Forms.Piece)) (text : List ℕ) (n : ℕ) : Type 0 where
+  pub within : n ≤ length text
+  pub cut : IsCut text n
+  pub through : GoesThroughField field (tokens text) n
+
+-- a byte is a star, or is of a set and stands for itself
+abbrev pub IsOfMany : ByteSet → ℕ → Type 0
+IsOfMany set b = (b ≡ 42) ⊎ ((is_in set b ≡ true) × (Forms.is_wild b ≡ false))
+
+-- A text that is asked has the form: what matches one of the form's texts matches one that is asked.
+abbrev pub IsAsked : Forms.Form → Type 0
+IsAsked form = (ts : List Token) → Forms.meets_form ts form ≡ true → Forms.can_match asked ts ≡ true
+
+-- each of some things is as told
+abbrev pub Every : (A : Type 0) → (A → Type 0) → List A → Type 0
+Every A Told [] = Unit {0}
+Every A Told (x ∷ more) = Told x × Every A Told more
+
+-- a set has both bytes, or neither
+abbrev pub AreAlikeIn : (one other : ℕ) → ByteSet → Type 0
+AreAlikeIn one other set = is_in set one ≡ is_in set other
+
+abbrev pub AreAlikeAt : (one other own : ℕ) → Type 0
+AreAlikeAt one other own = AreAlikeIn one other (Only own)
+
+-- no set of a piece, of a way, of a field and of a form tells two bytes apart
+abbrev pub AreAlikeInPiece : (one other : ℕ) → Forms.Piece → Type 0
+AreAlikeInPiece one other (fixed bytes) = Every ℕ (AreAlikeAt one other) bytes
+AreAlikeInPiece one other (counted set n) = AreAlikeIn one other set
+AreAlikeInPiece one other (repeated set) = AreAlikeIn one other set
+
+abbrev pub AreAlikeInWay : (one other : ℕ) → List Forms.Piece → Type 0
+AreAlikeInWay one other way = Every Forms.Piece (AreAlikeInPiece one other) way
+
+abbrev pub AreAlikeInField : (one other : ℕ) → List (List Forms.Piece) → Type 0
+AreAlikeInField one other field = Every (List Forms.Piece) (AreAlikeInWay one other) field
+
+abbrev pub AreAlikeInForm : (one other : ℕ) → Forms.Form → Type 0
+AreAlikeInForm one other form =
+    Every ℕ (AreAlikeAt one other) form.prefix × Every (List (List Forms.Piece)) (AreAlikeInField one other) form.fields
+
+-- A byte stands for itself, and it is told whether it may be written after a front.
+pub record IsAskedAfter (front : List ℕ) (a : Asked) : Type 0 where
+  pub plain : Forms.is_wild a.byte ≡ false
+  pub met : a.met ≡ Forms.can_begin asked (tokens (front ++ a.byte ∷ []))

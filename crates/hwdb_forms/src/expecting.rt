@@ -1,15 +1,17 @@
 //! What can be written at a place of a pattern.
-ghost use Rattle.std.specs.Prelude.{◌≡◌, ◌≤◌, ◌++◌, ◌∷◌, [], false, filter, length, map, take, IfOk};
+ghost use Rattle.std.specs.Prelude.{◌≡◌, ◌≤◌, ◌++◌, ◌∷◌, [], false, true, filter, length, map, take, IfOk};
 ghost use Rattle.hwdb_spec.specs.Lines.{has};
 ghost use Rattle.hwdb_spec.specs.Patterns.{star, token_at, tokens};
 ghost use Rattle.hwdb_spec.specs.Forms;
 ghost use Rattle.hwdb_spec.specs.FormTable;
 ghost use Rattle.hwdb_spec.specs.FormTable.{asked};
-ghost use Rattle.hwdb_forms.specs.Internal.{AreEnough, IsAfter, form_of, views};
+ghost use Rattle.hwdb_forms.specs.Internal.{AreEnough, IsAfter, IsAskedAfter, form_of, views};
 
+use crate::alike::alike_in_forms;
 use crate::beginnings::{free, free_prefixes};
 use crate::judging::match_one;
 use crate::pieces::FormRow;
+use crate::plain::is_wild;
 use crate::rows::meets_form;
 use crate::table::known;
 use hwdb_pattern::token_texts;
@@ -155,42 +157,72 @@ fn begins(alloc: Global, known: &Following<'_>, front: &[u8], byte: u8) -> Resul
     }
 }
 
-/// Whether the byte is no wildcard, and may be written there.
-fn is_expected(
+/// A byte that stands for itself, and whether it may be written after the beginning of a pattern.
+#[derive(Clone, Copy)]
+struct Asked {
+    byte: u8,
+    met: bool,
+}
+
+/// Whether it is seen that two bytes that stand for themselves may both be written there, or none of them.
+fn are_alike(known: &Following<'_>, front: &[u8], one: u8, other: u8) -> bool
+    requires known { IsAfter front.now known.now }
+    requires one { Forms.is_wild one ≡ false }
+    requires other { Forms.is_wild other ≡ false }
+    ensures { result ≡ true → Forms.can_begin asked (tokens (front.now ++ one ∷ []))
+        ≡ Forms.can_begin asked (tokens (front.now ++ other ∷ [])) }
+{
+    if !known.is_plain {
+        return false;
+    }
+    alike_in_forms(&known.forms, one, other)
+}
+
+/// Whether the byte may be written there. `last` is what was asked before: most bytes are like the one before them.
+fn next_asked(
     alloc: Global,
     known: &Following<'_>,
     front: &[u8],
+    last: Asked,
     byte: u8,
-) -> Result<bool, AllocError>
-    requires { IsAfter front.now known.now }
-    ensures { IfOk result (λ met. met ≡ Forms.is_expected asked front.now byte) }
+) -> Result<Asked, AllocError>
+    requires known { IsAfter front.now known.now }
+    requires last { IsAskedAfter front.now last }
+    requires plain { Forms.is_wild byte ≡ false }
+    ensures asked { IfOk result (IsAskedAfter front.now) }
+    ensures byte { IfOk result (λ a. a.byte ≡ byte) }
 {
-    if byte == b'*' {
-        return Ok(false);
-    }
-    if byte == b'?' {
-        return Ok(false);
-    }
-    if byte == b'[' {
-        return Ok(false);
+    if are_alike(known, front, last.byte, byte) {
+        return Ok(Asked {
+            byte,
+            met: last.met,
+        });
     }
     let met = begins(alloc, known, front, byte)?;
-    Ok(met)
+    Ok(Asked { byte, met })
 }
 
-/// Adds the byte if it may be written there.
+/// Adds the byte if it is no wildcard, and may be written there.
 fn put_expected(
     alloc: Global,
     known: &Following<'_>,
     front: &[u8],
+    last: &mut Asked,
     byte: u8,
     bytes: &mut Vec<u8>,
 ) -> Result<(), AllocError>
-    requires { IsAfter front.now known.now }
-    ensures { IfOk result (λ done. bytes.new.items
+    requires known { IsAfter front.now known.now }
+    requires last { IsAskedAfter front.now last.old }
+    ensures last { IfOk result (λ done. IsAskedAfter front.now last.new) }
+    ensures bytes { IfOk result (λ done. bytes.new.items
         ≡ bytes.old.items ++ filter (Forms.is_expected asked front.now) (byte ∷ [])) }
 {
-    if is_expected(alloc, known, front, byte)? {
+    if is_wild(byte) {
+        return Ok(());
+    }
+    let asked = next_asked(alloc, known, front, *last, byte)?;
+    *last = asked;
+    if asked.met {
         bytes.push(byte)?;
     }
     Ok(())
@@ -204,12 +236,14 @@ pub fn expected(alloc: Global, front: &[u8]) -> Result<Vec<u8>, AllocError>
     ensures { IfOk result (λ bytes. bytes.items ≡ Forms.expected asked front.now) }
 {
     let known = known_after(alloc, front)?;
+    let met = begins(alloc, &known, front, 0)?;
+    let mut last = Asked { byte: 0, met };
     let mut bytes = Vec::new(alloc);
     let mut byte = 0u8;
     while byte < u8::MAX {
-        put_expected(alloc, &known, front, byte, &mut bytes)?;
+        put_expected(alloc, &known, front, &mut last, byte, &mut bytes)?;
         byte += 1;
     }
-    put_expected(alloc, &known, front, byte, &mut bytes)?;
+    put_expected(alloc, &known, front, &mut last, byte, &mut bytes)?;
     Ok(bytes)
 }

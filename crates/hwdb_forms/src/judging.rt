@@ -8,6 +8,7 @@ ghost use Rattle.hwdb_spec.specs.Surroundings;
 ghost use Rattle.hwdb_forms.specs.Internal.{form_of, views};
 
 use crate::beginnings::{free, free_prefixes};
+use crate::guesses::is_fine_at_once;
 use crate::pieces::FormRow;
 use crate::rows::meets_form;
 use crate::table::known;
@@ -131,10 +132,8 @@ fn is_unknown(alloc: Global, pattern: &[u8], tokens: &[&[u8]]) -> Result<bool, A
     Ok(!begins)
 }
 
-/// What is said of a pattern: whether it matches a text that udev asks, and else why not.
-///
-/// The only error is that memory is refused.
-pub fn judge(alloc: Global, pattern: &[u8]) -> Result<Judgement, AllocError>
+/// As `judge`, by the pattern's tokens.
+fn judge_tokens(alloc: Global, pattern: &[u8]) -> Result<Judgement, AllocError>
     ensures fine { IfOk result (λ told. (told ≡ Judgement.Fine)
         ↔ CanMatch FormTable.asked (tokens_of pattern.now)) }
     ensures told { IfOk result (λ told. told ≡ judged FormTable.asked pattern.now) }
@@ -148,4 +147,18 @@ pub fn judge(alloc: Global, pattern: &[u8]) -> Result<Judgement, AllocError>
     }
     let front = front_length(alloc, &tokens)?;
     Ok(Judgement::Dead(front_size(pattern, front)))
+}
+
+/// What is said of a pattern: whether it matches a text that udev asks, and else why not.
+///
+/// The only error is that memory is refused.
+pub fn judge(alloc: Global, pattern: &[u8]) -> Result<Judgement, AllocError>
+    ensures fine { IfOk result (λ told. (told ≡ Judgement.Fine)
+        ↔ CanMatch FormTable.asked (tokens_of pattern.now)) }
+    ensures told { IfOk result (λ told. told ≡ judged FormTable.asked pattern.now) }
+{
+    if is_fine_at_once(pattern) {
+        return Ok(Judgement::Fine);
+    }
+    judge_tokens(alloc, pattern)
 }

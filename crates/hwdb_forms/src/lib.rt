@@ -9,11 +9,14 @@
 //!
 //! | Module | What it does |
 //! |---|---|
+//! | `alike` | bytes that forms don't tell apart |
 //! | `pieces` | forms as data |
 //! | `table` | the forms that udev asks |
 //! | `beginnings` | how their texts begin |
 //! | `sets` | sets of bytes, and which tokens take one of theirs |
 //! | `leads` | how pieces begin, before the first star |
+//! | `plain` | patterns that are compared byte by byte, without rows |
+//! | `guesses` | the form that a pattern likely has |
 //! | `endings` | tokens that end in a star, which matches all that is left |
 //! | `rows` | the rows of a form |
 //! | `judging` | what is said of a pattern |
@@ -22,14 +25,17 @@
 //! | `laws` | what is proved of the definitions alone |
 #![tactic(auto)]
 
+mod alike;
 mod beginnings;
 mod endings;
 mod expecting;
+mod guesses;
 mod judging;
 mod laws;
 mod leads;
 mod likeness;
 mod pieces;
+mod plain;
 mod rows;
 mod sets;
 mod table;

@@ -11,6 +11,7 @@ use hwdb_pattern::begins_with;
 use hwdb_spec::ByteSet;
 
 /// Whether the set has the byte.
+#[inline(always)]
 pub(crate) fn has(set: ByteSet, byte: u8) -> bool
     ensures { result ≡ is_in set byte }
 {

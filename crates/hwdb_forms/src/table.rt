@@ -10,7 +10,7 @@ use hwdb_spec::ByteSet::{
     Units, UpperHex,
 };
 
-fn usb() -> FormRow
+pub(crate) fn usb() -> FormRow
     ensures { form_of result ≡ FormTable.usb }
 {
     FormRow {
@@ -47,7 +47,7 @@ fn usb() -> FormRow
     }
 }
 
-fn pci() -> FormRow
+pub(crate) fn pci() -> FormRow
     ensures { form_of result ≡ FormTable.pci }
 {
     FormRow {
@@ -71,7 +71,7 @@ fn pci() -> FormRow
     }
 }
 
-fn bluetooth() -> FormRow
+pub(crate) fn bluetooth() -> FormRow
     ensures { form_of result ≡ FormTable.bluetooth }
 {
     FormRow {
@@ -504,7 +504,7 @@ fn ieee1394_unit() -> FormRow
     }
 }
 
-fn oui() -> FormRow
+pub(crate) fn oui() -> FormRow
     ensures { form_of result ≡ FormTable.oui }
 {
     FormRow {

@@ -14,6 +14,8 @@ pub mod InventoryLemmas
 pub mod MeetingLemmas
 pub mod OrderedLemmas
 pub mod SaidLemmas
+pub mod PlainLemmas
+pub mod HoldingLemmas
 pub mod ReadLemmas
 pub mod PlacedLemmas
 pub mod StateLemmas

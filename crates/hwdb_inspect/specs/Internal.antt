@@ -6,3 +6,5 @@ pub mod Meeting
 pub mod Counting
 pub mod Forms
 pub mod Counts
+pub mod Plain
+pub mod Holding

@@ -12,7 +12,8 @@
 //! | `counting` | how many changes there are, by file and by key; `counts_text`: the same as lines or JSON |
 //! | `gifts` | what a database gives a device |
 //! | `listing` | `dump`: a database as text |
-//! | `records` | the records of a dump, and what a record says |
+//! | `holding` | all assignments of a database at once, their patterns in one text |
+//! | `records` | the records of a dump, and what a record says; `plain`: those that say it for sure |
 //! | `difference` | `diff`: what changed from one database to another, of all or for devices |
 //! | `summary` | how much is in a database |
 //! | `texts` | whether texts are one; `ordering`: texts in order, each once |
@@ -33,6 +34,7 @@ mod device_lines;
 mod difference;
 mod freshness;
 mod gifts;
+mod holding;
 mod inventory;
 mod json_changes;
 mod json_reports;
@@ -43,6 +45,7 @@ mod meeting;
 mod members;
 mod ordering;
 mod pairs;
+mod plain;
 mod records;
 mod reports;
 mod summary;

@@ -1,55 +1,55 @@
 //! `dump`: a database as text of the form that hwdb(7) describes.
-ghost use Rattle.std.specs.Prelude.{◌≡◌, None, map, flat_map, OnOk, IfOk, IfErr};
+ghost use Rattle.std.specs.Prelude.{◌≡◌, [], None, flat_map, map, OnOk, IfOk, IfErr};
 ghost use Rattle.hwdb_spec.specs.Assignment.{assignment_cmp};
 ghost use Rattle.hwdb_spec.specs.Dump.{dumped, dump_text, record_text, first_unsaid};
+ghost use Rattle.hwdb_spec.specs.Tree.{members_under};
 ghost use Rattle.hwdb_spec.specs.Databases.{IsTextOf, IsSayable};
 ghost use Rattle.hwdb_spec.specs.DumpErrors.{IsDumpRefusal, IsUnsaidRefusal};
-ghost use Rattle.hwdb_inspect.specs.Views.{assignment_of};
+ghost use Rattle.hwdb_inspect.specs.Internal.Holding.{held_in, slot_in};
 
-use crate::pairs::by_place;
+use crate::holding::{Held, Kept, Slot, by_position, keep, slots_of};
 use crate::records::push_said;
-use crate::walk::assignments;
-use hwdb_query::StoredAssignment;
 use hwdb_reader::{Db, check};
 use hwdb_spec::DumpError;
 use std::alloc::{AllocError, Global};
 use std::cmp::Ordering;
 
-/// Compares by priority, line, pattern and key.
-#[tactic(auto, unfolding(hwdb_spec::specs::Assignment::assignment_cmp, hwdb_spec::specs::Assignment::position_cmp))]
-fn by_position(x: &StoredAssignment<'_>, y: &StoredAssignment<'_>) -> Ordering
-    ensures { result ≡ assignment_cmp (assignment_of x.now) (assignment_of y.now) }
-{
-    match x.priority.cmp(&y.priority) {
-        Ordering::Equal => match x.line.cmp(&y.line) {
-            Ordering::Equal => by_place(x, y),
-            other => other,
-        },
-        other => other,
-    }
-}
-
 /// All that the database assigns, by priority, line, pattern and key. The only error is `AllocError`.
-fn ordered<'a>(alloc: Global, db: &Db<'a>) -> Result<Vec<StoredAssignment<'a>>, AllocError>
-    ensures { IfOk result (λ list. map assignment_of list.items ≡ dumped db.now) }
+fn ordered<'k, 'a>(
+    alloc: Global,
+    db: &Db<'a>,
+    patterns: &[u8],
+    list: &'k [Held<'a>],
+) -> Result<Vec<Slot<'k, 'a>>, AllocError>
+    requires { map (held_in patterns.now) list.now ≡ members_under [] db.now }
+    ensures { IfOk result (λ slots. map (slot_in patterns.now) slots.items ≡ dumped db.now) }
 {
     let _root = db.root();
-    let mut list = assignments(alloc, db)?;
-    list.sort_unstable_by(|x, y| by_position(x, y));
-    Ok(list)
+    let mut slots = slots_of(alloc, patterns, list)?;
+    let compare = |x: &Slot<'_, '_>, y: &Slot<'_, '_>| -> Ordering
+        ensures { result ≡ assignment_cmp (slot_in patterns.entry.now x.now)
+            (slot_in patterns.entry.now y.now) }
+    { by_position(patterns, x, y) };
+    slots.sort_unstable_by(compare);
+    Ok(slots)
 }
 
 /// The record of each assignment. The first assignment that its record doesn't say is an error.
-fn said_records(alloc: Global, list: &[StoredAssignment<'_>]) -> Result<Vec<u8>, DumpError>
-    ensures text { IfOk result
-        (λ text. text.items ≡ flat_map record_text (map assignment_of list.now)) }
-    ensures said { OnOk result (first_unsaid (map assignment_of list.now) ≡ None) }
-    ensures unsaid { IfErr result (IsUnsaidRefusal (map assignment_of list.now)) }
+fn said_records(
+    alloc: Global,
+    patterns: &[u8],
+    slots: &[Slot<'_, '_>],
+) -> Result<Vec<u8>, DumpError>
+    ensures text { IfOk result (λ text. text.items
+        ≡ flat_map record_text (map (slot_in patterns.now) slots.now)) }
+    ensures said { OnOk result (first_unsaid (map (slot_in patterns.now) slots.now) ≡ None) }
+    ensures unsaid { IfErr result (IsUnsaidRefusal (map (slot_in patterns.now) slots.now)) }
 {
     let mut text = Vec::new(alloc);
-    for f in list {
-        if !push_said(alloc, &mut text, f)? {
-            return Err(DumpError::Unsayable(f.pattern.to_vec(alloc)?));
+    for slot in slots {
+        let shown = slot.shown(patterns);
+        if !push_said(alloc, &mut text, &shown)? {
+            return Err(DumpError::Unsayable(shown.pattern.to_vec(alloc)?));
         }
     }
     Ok(text)
@@ -73,6 +73,8 @@ pub fn dump(alloc: Global, bytes: &[u8]) -> Result<Vec<u8>, DumpError>
         Ok(db) => db,
         Err(fault) => return Err(DumpError::Database(fault)),
     };
-    let list = ordered(alloc, &db)?;
-    said_records(alloc, &list)
+    let kept = keep(alloc, &db)?;
+    let Kept { patterns, list } = kept;
+    let slots = ordered(alloc, &db, &patterns, &list)?;
+    said_records(alloc, &patterns, &slots)
 }

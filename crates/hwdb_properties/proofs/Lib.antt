@@ -1,3 +1,5 @@
 pub mod NameLemmas
 pub mod RowLemmas
 pub mod SameLemmas
+pub mod CommonLemmas
+pub mod ApartLemmas

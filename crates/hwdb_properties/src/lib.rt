@@ -2,6 +2,7 @@
 //!
 //! | Module | What it does |
 //! |---|---|
+//! | `common` | properties that most lines of large files have |
 //! | `cuts` | the parts of a text before and after a byte |
 //! | `names` | names that are nearly alike |
 //! | `rows` | the row of a table for a name |
@@ -12,6 +13,7 @@
 //! | `surroundings` | below which prefixes a property is read, and with which others |
 #![tactic(auto)]
 
+mod common;
 mod cuts;
 mod laws;
 mod names;

@@ -3,6 +3,7 @@ ghost use Rattle.std.specs.Prelude.{◌≡◌, ◌++◌, [], OnOk};
 ghost use Rattle.hwdb_spec.specs.Properties;
 ghost use Rattle.hwdb_spec.specs.declared.vocabulary.TheConstants.{KEY_NAMES, PROPERTIES};
 
+use crate::common::is_common;
 use crate::cuts::without;
 use crate::numbers::is_lower_hex;
 use crate::rows::{Likeness, first_row, row_form, word};
@@ -83,6 +84,9 @@ fn row_misuse(row: &[u8], name: &[u8], text: &[u8]) -> Option<Misuse>
 pub fn misuse_of(name: &[u8], text: &[u8]) -> Option<Misuse>
     ensures { result ≡ Properties.misuse name.now text.now }
 {
+    if is_common(name) {
+        return None;
+    }
     let row = property_row(name);
     if !row.is_empty() {
         return row_misuse(row, name, text);

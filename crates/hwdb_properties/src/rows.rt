@@ -1,5 +1,5 @@
 //! The row of a table for a name.
-ghost use Rattle.std.specs.Prelude.{◌≡◌, Bool, List, ℕ, ◌-◌, length, drop};
+ghost use Rattle.std.specs.Prelude.{◌≡◌, Bool, List, ℕ, ◌-◌, false, length, drop, true};
 ghost use Rattle.hwdb_spec.specs.Properties;
 ghost use Rattle.hwdb_properties.specs.Internal.{passes};
 
@@ -45,12 +45,38 @@ fn is_family(own: &[u8]) -> bool
     same(&own[last..], b"_")
 }
 
-/// Whether a row is for a name.
-fn is_for(row: &[u8], name: &[u8]) -> bool
+/// Whether a row begins with another byte than a name.
+fn begin_apart(row: &[u8], name: &[u8]) -> bool
+    ensures { result ≡ true → Properties.is_for row.now name.now ≡ false }
+{
+    if row.is_empty() {
+        return false;
+    }
+    if name.is_empty() {
+        return false;
+    }
+    if row[0] == name[0] {
+        return false;
+    }
+    true
+}
+
+/// As `is_for`, of a row that begins as the name.
+fn is_row_for(row: &[u8], name: &[u8]) -> bool
     ensures { result ≡ Properties.is_for row.now name.now }
 {
     let own = word(row);
     same(own, name) || is_family(own) && name.starts_with(own)
+}
+
+/// Whether a row is for a name. The first byte rules out most rows.
+fn is_for(row: &[u8], name: &[u8]) -> bool
+    ensures { result ≡ Properties.is_for row.now name.now }
+{
+    if begin_apart(row, name) {
+        return false;
+    }
+    is_row_for(row, name)
 }
 
 /// What of a name a row's name is compared with.

@@ -4,6 +4,7 @@ ghost use Rattle.hwdb_spec.specs.Properties;
 ghost use Rattle.hwdb_spec.specs.Surroundings;
 ghost use Rattle.hwdb_spec.specs.declared.vocabulary.TheConstants.{COMPANIONS};
 
+use crate::common::is_common;
 use crate::cuts::same;
 use crate::remarks::property_row;
 use crate::rows::{Likeness, after_word, first_row, row_form, word};
@@ -30,6 +31,9 @@ fn is_read_by_row(row: &[u8], prefix: &[u8]) -> bool
 pub fn is_read_below(name: &[u8], prefix: &[u8]) -> bool
     ensures { result ≡ Surroundings.is_read_below name.now prefix.now }
 {
+    if is_common(name) {
+        return true;
+    }
     is_read_by_row(property_row(name), prefix)
 }
 
@@ -51,5 +55,8 @@ fn companions_row(name: &[u8]) -> &'static [u8]
 pub fn companions_of(name: &[u8]) -> &'static [u8]
     ensures { result.now ≡ Surroundings.companions_text name.now }
 {
+    if is_common(name) {
+        return &[];
+    }
     row_form(companions_row(name))
 }

@@ -1,5 +1,4 @@
 pub mod MeetingLemmas
-pub mod SearchLemmas
 pub mod MapLemmas
 pub mod HeadLemmas
 pub mod SpineLemmas
@@ -12,6 +11,7 @@ pub mod RecordLemmas
 pub mod StorableLemmas
 pub mod SpacedLemmas
 pub mod PlaceLemmas
+pub mod TableLemmas
 pub mod LengthLemmas
 pub mod EmissionLemmas
 pub mod NumberLemmas

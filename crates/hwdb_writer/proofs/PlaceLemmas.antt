@@ -1,19 +1,15 @@
 -- The offsets of the strings of a table.
-use Rattle.std.proofs.Common.{◌≡◌, ◌≤◌, ◌<◌, ℕ, zero, suc, ◌+◌, ◌-◌, ◌^◌, List, [], ◌∷◌, ◌++◌, length, get_or, drop, min, refl, sym, ◌∙◌, ap, arith, add-one, Ordering, Some, None, length-append, append_assoc, Ok, Err}
-use Rattle.std.proofs.Math.Seq.{drop-cons}
-use Rattle.std.proofs.lemmas.List.{drop_all}
-use Rattle.std.specs.declared.cmp.Ordering.TheVariants.{Less, Greater}
-use Rattle.std.specs.Ordering.{nat_cmp}
-use Rattle.std.specs.List.{AllByRecursion}
-use Rattle.std.specs.List.Sorted.{IsStrictlySortedBy, IsBinarySearchResult}
-use Rattle.std.specs.Cmp.{tied_back, tied_itself}
-use Rattle.std.specs.Cmp.Lexicographic.{slice_cmp, nat_list_cmp_total}
+use Rattle.std.proofs.Common.{◌≡◌, ◌≤◌, ◌<◌, ℕ, zero, suc, ◌+◌, ◌-◌, ◌^◌, List, [], ◌∷◌, length, get_or, min, cond, Bool, true, false, refl, sym, ◌∙◌, ap, subst, arith, Ordering, length-append, nat_eq}
+use Rattle.std.specs.declared.cmp.Ordering.TheVariants.{Less, Equal, Greater}
+use Rattle.std.specs.Ordering.{nat_cmp, is_lt, is_eq, ordering_reverse}
+use Rattle.std.specs.List.{dedup_from}
+use Rattle.std.specs.List.Sorted.{IsSorted}
+use Rattle.std.specs.Cmp.{tied_itself}
+use Rattle.std.specs.Cmp.Lexicographic.{slice_cmp, nat_list_cmp_total, pointwise, same_text, texts_ties}
 use Rattle.std.specs.FinMap.Entries.{by_order}
+use Rattle.std.proofs.lemmas.List.Sorted.{sorted_far, ranks_by}
 use Rattle.hwdb_spec.specs.Written.{place_of, section_of, ended}
-use Rattle.hwdb_writer.specs.Internal.Places.{starts_from}
-use Rattle.hwdb_writer.specs.Internal.Found.{IsHit, IsGap}
-use Rattle.hwdb_writer.proofs.SearchLemmas.{Up, searched, hit_more, gap_more, turned, turned_back}
-use Rattle.hwdb_text.specs.Lemmas.Ascending.{IsOrdered}
+use Rattle.hwdb_writer.specs.Internal.Numbered.{distinct, bounded_place, bounded_end, IsReached, IsNew, IsOld}
 
 pub length-section : (s : List ℕ) (ss : List (List ℕ)) → length (section_of (s ∷ ss)) ≡ length s + 1 + length (section_of ss)
 length-section s ss = length-append (ended s) (section_of ss) ∙ ap (λ n. n + length (section_of ss)) (length-append s (0 ∷ []))
@@ -25,113 +21,166 @@ nothing = []
 abbrev pub text_in : List (List ℕ) → ℕ → List ℕ
 text_in xs i = get_or xs i nothing
 
--- the strings that are left, one by one
-module _ (xs : List (List ℕ)) (i : ℕ) (lt : i < length xs) where
-  rest_is : (drop i xs) ≡ text_in xs i ∷ (drop (i + 1) xs)
-  rest_is = rw (add-one, drop-cons xs i nothing lt) refl
-
-  pub section_left : length (section_of (drop i xs)) ≡ length (text_in xs i) + 1 + length (section_of (drop (i + 1) xs))
-  section_left = ap (λ ss. length (section_of ss)) rest_is ∙ length-section (text_in xs i) (drop (i + 1) xs)
-
-  starts_left : (from : ℕ) → starts_from from (drop i xs) ≡ from ∷ starts_from (from + length (text_in xs i) + 1) (drop (i + 1) xs)
-  unfolding starts_from
-  starts_left from = ap (starts_from from) rest_is
-
-  pub starts_next : (done next : List ℕ) (from : ℕ) (whole : List ℕ) → next ≡ done ++ from ∷ [] → done ++ starts_from from (drop i xs) ≡ whole →
-      next ++ starts_from (from + (length (text_in xs i) + 1)) (drop (i + 1) xs) ≡ whole
-  starts_next done next from whole e h =
-      let more = λ (n : ℕ). starts_from n (drop (i + 1) xs) in
-      let n : from + (length (text_in xs i) + 1) ≡ from + length (text_in xs i) + 1 = omega arith in
-      ap (λ d. d ++ more (from + (length (text_in xs i) + 1))) e
-      ∙ append_assoc done (from ∷ []) (more (from + (length (text_in xs i) + 1)))
-      ∙ ap (λ m. done ++ from ∷ more m) n
-      ∙ ap (λ l. done ++ l) (sym (starts_left from))
-      ∙ h
-
-pub none_left : (xs : List (List ℕ)) (i : ℕ) → length xs ≤ i → (drop i xs) ≡ []
-none_left xs i le = drop_all i xs le
-
-pub starts_end : (xs : List (List ℕ)) (i : ℕ) (done next : List ℕ) (from : ℕ) (whole : List ℕ) → length xs ≤ i → next ≡ done ++ from ∷ [] → done ++ starts_from from (drop i xs) ≡ whole → next ≡ whole
-unfolding starts_from
-starts_end xs i done next from whole le e h = e ∙ ap (λ ss. done ++ starts_from from ss) (sym (none_left xs i le)) ∙ h
-
--- a running sum that stops at the greatest number
-pub saturated : (total len left whole sum next : ℕ) → min (total + (len + 1 + left)) (2 ^ 64 - 1) ≡ whole → sum ≡ min (total + len) (2 ^ 64 - 1) → next ≡ min (sum + 1) (2 ^ 64 - 1) → min (next + left) (2 ^ 64 - 1) ≡ whole
-saturated total len left whole sum next e f g = omega (arith, e, f, g)
-
-length-starts : (from : ℕ) (ss : List (List ℕ)) → length (starts_from from ss) ≡ suc (length ss)
-unfolding starts_from
-length-starts from [] = refl
-length-starts from (s ∷ ss) = ap suc (length-starts (from + length s + 1) ss)
-
 abbrev R : List ℕ → List ℕ → Ordering
 R = slice_cmp nat_cmp
 
-abbrev key : List ℕ → List ℕ
-key x = x
+abbrev same : List ℕ → List ℕ → Bool
+same = pointwise nat_eq
 
-up_after : (b : List ℕ) (xs : List (List ℕ)) → AllByRecursion (λ y. R b y ≡ Less) xs → IsOrdered xs → Up R key (Some b) xs
-unfolding IsStrictlySortedBy
-up_after b [] a o = tt
-up_after b (x ∷ xs) a o = (a.0, up_after x xs o.0 o.1)
+-- no string is less than one before it
+abbrev pub Rises : List (List ℕ) → Type 0
+Rises ts = (i j : ℕ) → i < j → j < length ts → is_lt (R (text_in ts j) (text_in ts i)) ≡ false
 
-up : (xs : List (List ℕ)) → IsOrdered xs → Up R key None xs
-unfolding IsStrictlySortedBy
-up [] o = tt
-up (x ∷ xs) o = (tt, up_after x xs o.0 o.1)
+pub rises : (ts : List (List ℕ)) → IsSorted R ts → Rises ts
+rises ts up i j a b = sorted_far (λ x y. is_lt (R x y)) (ranks_by nat_list_cmp_total (λ x. x)) ts up i j nothing (omega (arith, a)) b
 
-turn_less : (a b : List ℕ) → R a b ≡ Less → R b a ≡ Greater
-turn_less a b e = turned R key nat_list_cmp_total a b e
+rest_rises : (x : List ℕ) (xs : List (List ℕ)) → Rises (x ∷ xs) → Rises xs
+rest_rises x xs up i j a b = up (suc i) (suc j) (omega (arith, a)) (omega (arith, b))
 
-turn_greater : (a b : List ℕ) → R a b ≡ Greater → R b a ≡ Less
-turn_greater a b e = turned_back R key nat_list_cmp_total a b e
+-- a string after another one is greater
+greater_than : (x y : List ℕ) (r : Ordering) → R y x ≡ r → is_lt r ≡ false → same y x ≡ false → R x y ≡ Less
+greater_than x y Less e h f = absurd (let k : true ≡ false = h in cc)
+greater_than x y Equal e h f = absurd (let k : true ≡ false = sym (ap is_eq e) ∙ sym (texts_ties y x) ∙ f in cc)
+greater_than x y Greater e h f = nat_list_cmp_total.antisymm x y ∙ ap ordering_reverse e
 
-hit_place : (from : ℕ) (xs : List (List ℕ)) (k : List ℕ) (i : ℕ) → IsHit R key xs k i → get_or (starts_from from xs) i 0 ≡ place_of from xs k
-unfolding starts_from place_of
-hit_place from [] k i h = absurd (omega (arith, h.in_range))
-hit_place from (x ∷ xs) k zero h =
-    ap (λ r. by_order r from from (place_of (from + length x + 1) xs k)) (sym (tied_back nat_list_cmp_total x k (h.here x)))
-hit_place from (x ∷ xs) k (suc i) h =
-    hit_place (from + length x + 1) xs k i (hit_more R key x xs k i h)
-    ∙ ap (λ r. by_order r from from (place_of (from + length x + 1) xs k)) (sym (turn_less x k (h.before 0 x (omega arith))))
+above : (x y t : List ℕ) (r : Ordering) → R t x ≡ r → R x y ≡ Less → is_lt (R t y) ≡ false → R x t ≡ Less
+above x y t Less e lt h = absurd (let k : true ≡ false = sym (ap is_lt (nat_list_cmp_total.trans t x y e lt)) ∙ h in cc)
+above x y t Equal e lt h = absurd (let k : true ≡ false = sym (ap is_lt (nat_list_cmp_total.congr t x y e ∙ lt)) ∙ h in cc)
+above x y t Greater e lt h = nat_list_cmp_total.antisymm x t ∙ ap ordering_reverse e
 
-gap_place : (from : ℕ) (xs : List (List ℕ)) (k : List ℕ) (i : ℕ) → IsGap R key xs k i → get_or (starts_from from xs) i 0 ≡ place_of from xs k
-unfolding starts_from place_of
-gap_place from [] k zero h = refl
-gap_place from [] k (suc i) h = absurd (omega (arith, h.in_range))
-gap_place from (x ∷ xs) k zero h =
-    ap (λ r. by_order r from from (place_of (from + length x + 1) xs k)) (sym (turn_greater x k (h.behind 0 x (omega arith) (omega arith))))
-gap_place from (x ∷ xs) k (suc i) h =
-    gap_place (from + length x + 1) xs k i (gap_more R key x xs k i h)
-    ∙ ap (λ r. by_order r from from (place_of (from + length x + 1) xs k)) (sym (turn_less x k (h.before 0 x (omega arith))))
+all_above : (x y : List ℕ) (ys : List (List ℕ)) (m : ℕ) → R x y ≡ Less → Rises (y ∷ ys) → m < length (y ∷ ys) → R x (text_in (y ∷ ys) m) ≡ Less
+all_above x y ys zero lt up within = lt
+all_above x y ys (suc m) lt up within = above x y (text_in ys m) (R (text_in ys m) x) refl lt (up 0 (suc m) (omega arith) within)
 
-among : (t : List ℕ) (xs : List (List ℕ)) (i : ℕ) → i < length xs → AllByRecursion (λ y. R t y ≡ Less) xs → R t (text_in xs i) ≡ Less
-among t [] i lt a = absurd (omega (arith, lt))
-among t (x ∷ xs) zero lt a = a.0
-among t (x ∷ xs) (suc i) lt a = among t xs i (omega (arith, lt)) a.1
+one_place : (from : ℕ) (x : List ℕ) (rest : List (List ℕ)) → place_of from (x ∷ rest) x ≡ from
+unfolding place_of
+one_place from x rest = sym (ap (λ r. by_order r from from (place_of (from + length x + 1) rest x)) (sym (tied_itself nat_list_cmp_total x)))
 
--- the offset of the string at i
-pub place_at : (from : ℕ) (xs : List (List ℕ)) (k : List ℕ) (i : ℕ) → i < length xs → text_in xs i ≡ k → IsOrdered xs → get_or (starts_from from xs) i 0 ≡ place_of from xs k
-unfolding starts_from place_of IsStrictlySortedBy
-place_at from [] k i lt e o = absurd (omega (arith, lt))
-place_at from (x ∷ xs) k zero lt e o =
-    ap (λ r. by_order r from from (place_of (from + length x + 1) xs k)) (sym (ap (R k) e ∙ tied_itself nat_list_cmp_total k))
-place_at from (x ∷ xs) k (suc i) lt e o =
-    place_at (from + length x + 1) xs k i (omega (arith, lt)) e o.1
-    ∙ ap (λ r. by_order r from from (place_of (from + length x + 1) xs k)) (sym (turn_less x k (ap (R x) (sym e) ∙ among x xs i (omega (arith, lt)) o.0)))
+past_place : (from : ℕ) (x s : List ℕ) (rest : List (List ℕ)) → R x s ≡ Less → place_of from (x ∷ rest) s ≡ place_of (from + length x + 1) rest s
+unfolding place_of
+past_place from x s rest lt =
+    sym (ap (λ r. by_order r from from (place_of (from + length x + 1) rest s)) (sym (nat_list_cmp_total.antisymm s x ∙ ap ordering_reverse lt)))
 
--- what a search among the strings found
-module _ (from : ℕ) (xs : List (List ℕ)) (o : IsOrdered xs) (starts : List ℕ) (s : starts ≡ starts_from from xs) (k : List ℕ) where
-  pub found_place : (i : ℕ) → i < length xs → IsBinarySearchResult (λ y. R (key y) k) xs (Ok i) → get_or starts i 0 ≡ place_of from xs k
-  found_place i within is =
-      ap (λ ys. get_or ys i 0) s ∙ hit_place from xs k i ((searched R key nat_list_cmp_total None xs (up xs o) k (Ok i) within is).found)
+abbrev left : List ℕ → List (List ℕ) → List (List ℕ)
+left x xs = dedup_from same x xs
 
-  pub near_place : (i : ℕ) → i < length xs → text_in xs i ≡ k → get_or starts i 0 ≡ place_of from xs k
-  near_place i lt e = ap (λ ys. get_or ys i 0) s ∙ place_at from xs k i lt e o
+head_by : (from : ℕ) (x y : List ℕ) (ys : List (List ℕ)) (b : Bool) → place_of from (left x ys) x ≡ from → place_of from (cond b (left x ys) (x ∷ left y ys)) x ≡ from
+head_by from x y ys true h = h
+head_by from x y ys false h = one_place from x (left y ys)
 
-  pub missed_place : (i : ℕ) → i ≤ length xs → IsBinarySearchResult (λ y. R (key y) k) xs (Err i) → get_or starts i 0 ≡ place_of from xs k
-  missed_place i within is =
-      ap (λ ys. get_or ys i 0) s ∙ gap_place from xs k i ((searched R key nat_list_cmp_total None xs (up xs o) k (Err i) within is).absent)
+head_place : (from : ℕ) (x : List ℕ) (xs : List (List ℕ)) → place_of from (left x xs) x ≡ from
+head_place from x [] = one_place from x []
+head_place from x (y ∷ ys) = head_by from x y ys (same y x) (head_place from x ys)
 
-  pub enough : (i : ℕ) → i ≤ length xs → i < length starts
-  enough i le = let e = ap length s ∙ length-starts from xs in omega (arith, e)
+-- the offset of a string is where the one before it ends
+abbrev Follows : ℕ → List (List ℕ) → List (List ℕ) → ℕ → Type 0
+Follows from table ts k = place_of from table (text_in ts (suc k)) ≡ place_of from table (text_in ts k) + length (text_in ts k) + 1
+
+next_by : (from : ℕ) (x y : List ℕ) (ys : List (List ℕ)) (k : ℕ) (b : Bool) → same y x ≡ b → Rises (x ∷ y ∷ ys) →
+    ((f m : ℕ) → suc m < length (y ∷ ys) → same (text_in (y ∷ ys) (suc m)) (text_in (y ∷ ys) m) ≡ false → Follows f (left y ys) (y ∷ ys) m) → suc k < length (x ∷ y ∷ ys) →
+    same (text_in (x ∷ y ∷ ys) (suc k)) (text_in (x ∷ y ∷ ys) k) ≡ false → Follows from (cond b (left x ys) (x ∷ left y ys)) (x ∷ y ∷ ys) k
+next_by from x y ys zero true e up ih lt new = absurd (let k : true ≡ false = sym e ∙ new in cc)
+next_by from x y ys (suc m) true e up ih lt new =
+    subst (λ (z : List ℕ). Follows from (left z ys) (y ∷ ys) m) (same_text y x (sym e)) (ih from m (omega (arith, lt)) new)
+next_by from x y ys zero false e up ih lt new =
+    let less = greater_than x y (R y x) refl (up 0 1 (omega arith) (omega (arith, lt))) e in
+    past_place from x y (left y ys) less ∙ head_place (from + length x + 1) y ys ∙ ap (λ n. n + length x + 1) (sym (one_place from x (left y ys)))
+next_by from x y ys (suc m) false e up ih lt new =
+    let less = greater_than x y (R y x) refl (up 0 1 (omega arith) (omega (arith, lt))) e in
+    let rest = rest_rises x (y ∷ ys) up in
+    past_place from x (text_in ys m) (left y ys) (all_above x y ys (suc m) less rest (omega (arith, lt)))
+    ∙ ih (from + length x + 1) m (omega (arith, lt)) new
+    ∙ ap (λ n. n + length (text_in (y ∷ ys) m) + 1) (sym (past_place from x (text_in (y ∷ ys) m) (left y ys) (all_above x y ys m less rest (omega (arith, lt)))))
+
+next_place : (from : ℕ) (x : List ℕ) (xs : List (List ℕ)) (k : ℕ) → Rises (x ∷ xs) → suc k < length (x ∷ xs) → same (text_in (x ∷ xs) (suc k)) (text_in (x ∷ xs) k) ≡ false → Follows from (left x xs) (x ∷ xs) k
+next_place from x [] k up lt new = absurd (omega (arith, lt))
+next_place from x (y ∷ ys) k up lt new = next_by from x y ys k (same y x) refl up (λ f m a b. next_place f y ys m (rest_rises x (y ∷ ys) up) a b) lt new
+
+-- after the last string the section ends
+abbrev Ends : ℕ → List (List ℕ) → List ℕ → Type 0
+Ends from table s = place_of from table s + length s + 1 ≡ from + length (section_of table)
+
+end_by : (from : ℕ) (x y : List ℕ) (ys : List (List ℕ)) (m : ℕ) (b : Bool) → same y x ≡ b → Rises (x ∷ y ∷ ys) → ((f : ℕ) → Ends f (left y ys) (text_in (y ∷ ys) m)) → suc m ≡ length (y ∷ ys) →
+    Ends from (cond b (left x ys) (x ∷ left y ys)) (text_in (y ∷ ys) m)
+end_by from x y ys m true e up ih last = subst (λ (z : List ℕ). Ends from (left z ys) (text_in (y ∷ ys) m)) (same_text y x (sym e)) (ih from)
+end_by from x y ys m false e up ih last =
+    let less = greater_than x y (R y x) refl (up 0 1 (omega arith) (omega arith)) e in
+    let past = past_place from x (text_in (y ∷ ys) m) (left y ys) (all_above x y ys m less (rest_rises x (y ∷ ys) up) (omega (arith, last))) in
+    let rest = ih (from + length x + 1) in
+    let long = length-section x (left y ys) in
+    omega (arith, past, rest, long)
+
+end_place : (from : ℕ) (x : List ℕ) (xs : List (List ℕ)) (k : ℕ) → Rises (x ∷ xs) → suc k ≡ length (x ∷ xs) → Ends from (left x xs) (text_in (x ∷ xs) k)
+end_place from x [] zero up last = let long = length-section x [] in omega (arith, one_place from x [], long)
+end_place from x [] (suc k) up last = absurd (omega (arith, last))
+end_place from x (y ∷ ys) zero up last = absurd (omega (arith, last))
+end_place from x (y ∷ ys) (suc m) up last = end_by from x y ys m (same y x) refl up (λ f. end_place f y ys m (rest_rises x (y ∷ ys) up) (omega (arith, last))) (omega (arith, last))
+
+-- no offset is after the section's end
+within_by : (r : Ordering) (from rest whole : ℕ) → from ≤ whole → rest ≤ whole → by_order r from from rest ≤ whole
+within_by Less from rest whole a b = a
+within_by Equal from rest whole a b = a
+within_by Greater from rest whole a b = b
+
+pub place_within : (from : ℕ) (table : List (List ℕ)) (s : List ℕ) → place_of from table s ≤ from + length (section_of table)
+unfolding place_of
+place_within from [] s = omega arith
+place_within from (t ∷ ts) s =
+    let long = length-section t ts in
+    let rest = place_within (from + length t + 1) ts s in
+    within_by (R s t) from (place_of (from + length t + 1) ts s) (from + length (section_of (t ∷ ts))) (omega arith) (omega (arith, long, rest))
+
+-- what is known after one more string
+first_at : (first : ℕ) (ts : List (List ℕ)) → 0 < length ts → place_of first (distinct ts) (text_in ts 0) ≡ first
+first_at first [] lt = absurd (omega (arith, lt))
+first_at first (x ∷ xs) lt = head_place first x xs
+
+next_at : (first : ℕ) (ts : List (List ℕ)) (k : ℕ) → Rises ts → suc k < length ts → same (text_in ts (suc k)) (text_in ts k) ≡ false → Follows first (distinct ts) ts k
+next_at first [] k up lt new = absurd (omega (arith, lt))
+next_at first (x ∷ xs) k up lt new = next_place first x xs k up lt new
+
+last_at : (first : ℕ) (ts : List (List ℕ)) (k : ℕ) → Rises ts → suc k ≡ length ts → Ends first (distinct ts) (text_in ts k)
+last_at first [] k up last = absurd (omega (arith, last))
+last_at first (x ∷ xs) k up last = end_place first x xs k up last
+
+pub nothing_reached : (first : ℕ) (ts : List (List ℕ)) → IsReached first ts 0 first first
+nothing_reached first ts = record { begun = λ e. refl; started = λ k e. absurd (omega (arith, e)); ended = λ k e. absurd (omega (arith, e)) }
+
+-- the offset of a new string is the end so far
+begins : (first : ℕ) (ts : List (List ℕ)) (i start end : ℕ) → first < 2 ^ 64 → Rises ts → i < length ts → IsNew ts i → IsReached first ts i start end → end ≡ bounded_place first (distinct ts) (text_in ts i)
+begins first ts zero start end fits up lt new h = let e = h.begun refl in let f = first_at first ts lt in omega (arith, e, f, fits)
+begins first ts (suc k) start end fits up lt new h =
+    let e = h.ended k (omega arith) in
+    let f = next_at first ts k up lt (new k (omega arith)) in
+    omega (arith, e, f)
+
+pub new_reached : (first : ℕ) (ts : List (List ℕ)) (i start end long sum next : ℕ) → first < 2 ^ 64 → Rises ts → i < length ts → IsNew ts i → IsReached first ts i start end →
+    long ≡ min (length (text_in ts i)) (2 ^ 64 - 1) → sum ≡ min (end + long) (2 ^ 64 - 1) → next ≡ min (sum + 1) (2 ^ 64 - 1) → IsReached first ts (i + 1) end next
+new_reached first ts i start end long sum next fits up lt new h a b d =
+    let e = begins first ts i start end fits up lt new h in
+    record {
+      begun = λ z. absurd (omega (arith, z));
+      started = λ k s. let j : k ≡ i = omega (arith, s) in subst (λ (n : ℕ). end ≡ bounded_place first (distinct ts) (text_in ts n)) (sym j) e;
+      ended = λ k s. let j : k ≡ i = omega (arith, s) in subst (λ (n : ℕ). next ≡ min (place_of first (distinct ts) (text_in ts n) + length (text_in ts n) + 1) (2 ^ 64 - 1)) (sym j) (omega (arith, a, b, d, e));
+    }
+
+pub old_reached : (first : ℕ) (ts : List (List ℕ)) (i start end : ℕ) → IsOld ts i → IsReached first ts i start end → IsReached first ts (i + 1) start end
+old_reached first ts i start end old h =
+    record {
+      begun = λ z. absurd (omega (arith, z));
+      started = λ k s. let j : k ≡ i = omega (arith, s) in
+          h.started old.before old.is ∙ ap (bounded_place first (distinct ts)) (sym old.same) ∙ ap (λ n. bounded_place first (distinct ts) (text_in ts n)) (sym j);
+      ended = λ k s. let j : k ≡ i = omega (arith, s) in
+          h.ended old.before old.is
+          ∙ ap (λ t. min (place_of first (distinct ts) t + length t + 1) (2 ^ 64 - 1)) (sym old.same)
+          ∙ ap (λ n. min (place_of first (distinct ts) (text_in ts n) + length (text_in ts n) + 1) (2 ^ 64 - 1)) (sym j);
+    }
+
+pub all_reached : (first : ℕ) (ts : List (List ℕ)) (i start end : ℕ) → first < 2 ^ 64 → Rises ts → i ≡ length ts → IsReached first ts i start end → end ≡ bounded_end first (distinct ts)
+all_reached first [] zero start end fits up e h = let b = h.begun refl in omega (arith, b, fits)
+all_reached first [] (suc k) start end fits up e h = absurd (omega (arith, e))
+all_reached first (x ∷ xs) zero start end fits up e h = absurd (omega (arith, e))
+all_reached first (x ∷ xs) (suc k) start end fits up e h =
+    let a = h.ended k (omega arith) in
+    let b = last_at first (x ∷ xs) k up e in
+    omega (arith, a, b)

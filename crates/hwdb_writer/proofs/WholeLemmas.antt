@@ -38,22 +38,19 @@ three_rows end root nodes section a b c d e f g =
     g ∙ ap (λ x. x ++ flat_map (little_bytes 8) (root ∷ nodes ∷ section ∷ [])) (f ∙ ap (λ x. x ++ flat_map (little_bytes 8) (24 ∷ 16 ∷ 32 ∷ [])) e) ∙ (simp append_assoc)
 
 -- what a saturated sum says of the length
-pub too_long : (nodes section sum end most size strings : ℕ) → nodes ≡ min size (2 ^ 64 - 1) → section ≡ min strings (2 ^ 64 - 1) → sum ≡ min (nodes + section) (2 ^ 64 - 1) → end ≡ min (sum + 80) (2 ^ 64 - 1) → most < end →
-    most < 80 + size + strings
-too_long nodes section sum end most size strings a b c d e = omega (arith, a, b, c, d, e)
+pub too_long : (nodes first end most size strings : ℕ) → nodes ≡ min size (2 ^ 64 - 1) → first ≡ min (nodes + 80) (2 ^ 64 - 1) → end ≡ min (first + strings) (2 ^ 64 - 1) → most < end → most < 80 + size + strings
+too_long nodes first end most size strings a b c d = omega (arith, a, b, c, d)
 
-pub record Exact (nodes section end most size strings : ℕ) : Type 0 where
+pub record Exact (nodes first end most size strings : ℕ) : Type 0 where
   pub nodes_is : nodes ≡ size
-  pub section_is : section ≡ strings
+  pub first_is : first ≡ 80 + nodes
+  pub section_is : end - first ≡ strings
   pub within : 80 + size + strings ≤ most
 
-pub exact : (nodes section sum end most size strings : ℕ) → nodes ≡ min size (2 ^ 64 - 1) → section ≡ min strings (2 ^ 64 - 1) → sum ≡ min (nodes + section) (2 ^ 64 - 1) → end ≡ min (sum + 80) (2 ^ 64 - 1) → end ≤ most → most < 2 ^ 32 →
-    Exact nodes section end most size strings
-exact nodes section sum end most size strings a b c d e f = record {
-  nodes_is = omega (arith, a, b, c, d, e, f);
-  section_is = omega (arith, a, b, c, d, e, f);
-  within = omega (arith, a, b, c, d, e, f);
+pub exact : (nodes first end most size strings : ℕ) → nodes ≡ min size (2 ^ 64 - 1) → first ≡ min (nodes + 80) (2 ^ 64 - 1) → end ≡ min (first + strings) (2 ^ 64 - 1) → end ≤ most → most < 2 ^ 32 → Exact nodes first end most size strings
+exact nodes first end most size strings a b c d e = record {
+  nodes_is = omega (arith, a, b, c, d, e);
+  first_is = omega (arith, a, b, c, d, e);
+  section_is = omega (arith, a, b, c, d, e);
+  within = omega (arith, a, b, c, d, e);
 }
-
-pub section_is : (t : Tree) (xs ys : List (List ℕ)) (n : ℕ) → xs ≡ ys → ys ≡ table_of t → n ≡ min (length (section_of xs)) (2 ^ 64 - 1) → n ≡ min (length (section_of (table_of t))) (2 ^ 64 - 1)
-section_is t xs ys n e f g = g ∙ ap (λ ss. min (length (section_of ss)) (2 ^ 64 - 1)) (e ∙ f)

@@ -6,8 +6,7 @@ pub mod Spine
 pub mod Storable
 pub mod Codes
 pub mod Keyed
-pub mod Found
-pub mod Places
+pub mod Numbered
 pub mod Narrow
 pub mod Membership
 pub mod Strings

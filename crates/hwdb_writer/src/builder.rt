@@ -88,8 +88,9 @@ fn common(a: &[u8], b: &[u8]) -> usize
     n
 }
 
-/// How many nodes come for an entry at most: the one that is opened for it, and the rest of one that is cut.
-const NODES_AN_ENTRY: usize = 2;
+/// For how many nodes there is room, for each entry. At most two come: the one that is opened for it, and the rest of one
+/// that is cut. With more room the database, the next long list, takes the memory of the nodes.
+const NODES_AN_ENTRY: usize = 3;
 
 impl<'t> Builder<'t> {
     /// A root alone, and room for the nodes of so many entries.

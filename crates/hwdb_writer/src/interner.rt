@@ -7,43 +7,66 @@ ghost use Rattle.std.specs.Prelude.{◌≡◌, ◌++◌, ◌∷◌, [], IfOk, On
 ghost use Rattle.std.specs.Bool.{OnTrue};
 ghost use Rattle.hwdb_writer.specs.Internal.Membership.{SameMembers};
 ghost use Rattle.hwdb_writer.specs.Internal.Stored.{Grows, IsUnder};
+ghost use Rattle.hwdb_writer.specs.Internal.Numbered.{texts, IsNumbered};
 
 use crate::keyed::KeyedStr;
+use crate::numbered::NumberedStr;
 use crate::registry::Registry;
 use std::alloc::{AllocError, Global};
+use std::marker::Model;
 
 /// The strings so far, each at its number. A string can be there more than once.
 #[derive(Drop)]
 pub struct Interner<'t> {
-    pub words: Vec<KeyedStr<'t>>,
-    pub registry: Registry,
+    words: Vec<NumberedStr<'t>>,
+    registry: Registry,
+}
+
+impl<'t> Model for Interner<'t> {
+    ghost use Rattle.std.specs.Prelude.{List, ℕ};
+    ghost use Rattle.hwdb_writer.specs.Internal.Codes.{coded_texts};
+    ghost use Rattle.hwdb_writer.specs.Internal.Numbered.{texts, IsNumbered};
+
+    ghost Value = { List (List ℕ) };
+
+    ghost coded = { coded_texts };
+
+    ghost view = { λ i. texts i.words.items };
+
+    ghost invariant = { λ i. IsNumbered i.words.items };
 }
 
 impl<'t> Interner<'t> {
-    /// The empty string alone, and room for so many. The registry has as many entries.
-    pub fn new(alloc: Global, strings: usize) -> Result<Interner<'t>, AllocError>
-        ensures { IfOk result (λ interner. interner.words.items ≡ [] ∷ []) }
+    /// The empty string alone, and room for so many more. The registry has so many entries.
+    pub fn new(alloc: Global, strings: usize, entries: usize) -> Result<Interner<'t>, AllocError>
+        ensures { IfOk result (λ interner. interner ≡ [] ∷ []) }
     {
         let mut words = Vec::with_capacity(alloc, strings.saturating_add(1))?;
-        words.push(KeyedStr::new(&[]))?;
+        words.push(NumberedStr {
+            word: KeyedStr::new(&[]),
+            number: 0,
+        })?;
         Ok(Interner {
             words,
-            registry: Registry::new(alloc, strings)?,
+            registry: Registry::new(alloc, entries)?,
         })
     }
 
     /// Whether the string has the number.
     #[inline(always)]
     fn is_under(&self, number: usize, word: &KeyedStr<'t>) -> bool
-        ensures { OnTrue result (IsUnder self.now.words.items number word.now) }
+        ensures { OnTrue result (IsUnder self.now number word.now) }
     {
-        let known: &[KeyedStr<'_>] = &self.words;
-        number < known.len() && known[number] == *word
+        let known: &[NumberedStr<'_>] = &self.words;
+        if number < known.len() && known[number].word == *word {
+            return true;
+        }
+        false
     }
 
     /// The number of an equal string, if one is remembered.
     fn remembered(&self, word: &KeyedStr<'t>) -> Option<usize>
-        ensures { IfSome result (λ n. IsUnder self.now.words.items n word.now) }
+        ensures { IfSome result (λ n. IsUnder self.now n word.now) }
     {
         let number = self.registry.lookup(word);
         if self.is_under(number, word) {
@@ -54,23 +77,23 @@ impl<'t> Interner<'t> {
 
     /// Adds the string, and remembers it. Returns its number.
     fn add(&mut self, word: KeyedStr<'t>) -> Result<usize, AllocError>
-        ensures grows { OnOk result (Grows self.old.words.items self.new.words.items) }
-        ensures members { OnOk result (SameMembers self.new.words.items
-            (self.old.words.items ++ word.entry ∷ [])) }
-        ensures number { IfOk result (λ n. IsUnder self.new.words.items n word.entry) }
+        ensures grows { OnOk result (Grows self.old self.new) }
+        ensures members { OnOk result (SameMembers self.new
+            (self.old ++ word.entry ∷ [])) }
+        ensures number { IfOk result (λ n. IsUnder self.new n word.entry) }
     {
         let number = self.words.as_slice().len();
         self.registry.remember(&word, number);
-        self.words.push(word)?;
+        self.words.push(NumberedStr { word, number })?;
         Ok(number)
     }
 
     /// The number of the string, which is added if none like it is remembered.
     pub fn intern(&mut self, word: KeyedStr<'t>) -> Result<usize, AllocError>
-        ensures grows { OnOk result (Grows self.old.words.items self.new.words.items) }
-        ensures members { OnOk result (SameMembers self.new.words.items
-            (self.old.words.items ++ word.entry ∷ [])) }
-        ensures number { IfOk result (λ n. IsUnder self.new.words.items n word.entry) }
+        ensures grows { OnOk result (Grows self.old self.new) }
+        ensures members { OnOk result (SameMembers self.new
+            (self.old ++ word.entry ∷ [])) }
+        ensures number { IfOk result (λ n. IsUnder self.new n word.entry) }
     {
         match self.remembered(&word) {
             Some(number) => Ok(number),
@@ -82,15 +105,23 @@ impl<'t> Interner<'t> {
     /// without a look-up.
     #[inline(always)]
     pub fn intern_near(&mut self, word: KeyedStr<'t>, near: usize) -> Result<usize, AllocError>
-        ensures grows { OnOk result (Grows self.old.words.items self.new.words.items) }
-        ensures members { OnOk result (SameMembers self.new.words.items
-            (self.old.words.items ++ word.entry ∷ [])) }
-        ensures number { IfOk result (λ n. IsUnder self.new.words.items n word.entry) }
+        ensures grows { OnOk result (Grows self.old self.new) }
+        ensures members { OnOk result (SameMembers self.new
+            (self.old ++ word.entry ∷ [])) }
+        ensures number { IfOk result (λ n. IsUnder self.new n word.entry) }
     {
         if self.is_under(near, &word) {
             Ok(near)
         } else {
             self.intern(word)
         }
+    }
+
+    /// The strings, each with its number.
+    pub fn into_words(self) -> Vec<NumberedStr<'t>>
+        ensures texts { texts result.items ≡ self.entry }
+        ensures numbered { IsNumbered result.items }
+    {
+        self.words
     }
 }

@@ -24,8 +24,6 @@ const HEAD: usize = 8;
 pub struct KeyedStr<'t> {
     head: u64,
     is_spaced: bool,
-    /// What it takes along through a sort. No contract speaks of it.
-    mark: u32,
     text: &'t [u8],
 }
 
@@ -72,7 +70,6 @@ impl<'t> KeyedStr<'t> {
         KeyedStr {
             head: head_of(text),
             is_spaced: false,
-            mark: 0,
             text,
         }
     }
@@ -84,20 +81,7 @@ impl<'t> KeyedStr<'t> {
         KeyedStr {
             head: spaced_head_of(text),
             is_spaced: true,
-            mark: 0,
             text,
-        }
-    }
-
-    /// This string once more, with a mark: the text stays borrowed.
-    pub fn marked(&self, mark: u32) -> KeyedStr<'t>
-        ensures { result ≡ self.now }
-    {
-        KeyedStr {
-            head: self.head,
-            is_spaced: self.is_spaced,
-            mark,
-            text: self.text,
         }
     }
 
@@ -113,11 +97,6 @@ impl<'t> KeyedStr<'t> {
         let number = self.head.wrapping_mul(FACTOR).rotate_left(25) ^ middle;
         let number = number.wrapping_mul(FACTOR).rotate_left(25) ^ end;
         number.wrapping_mul(FACTOR)
-    }
-
-    /// The mark that it was given last; 0 if none.
-    pub fn mark(&self) -> u32 {
-        self.mark
     }
 
     /// Its length in bytes, or the greatest number if it is longer.
@@ -172,6 +151,9 @@ impl<'t> PartialEq for KeyedStr<'t> {
     fn eq(&self, other: &Self) -> bool {
         if self.head != other.head {
             return false;
+        }
+        if self.len() <= HEAD && other.len() <= HEAD {
+            return self.len().cmp(&other.len()).is_eq();
         }
         if self.is_spaced == other.is_spaced {
             return self.text == other.text;

@@ -11,11 +11,12 @@
 mod assignments;
 mod builder;
 mod entries;
-mod hints;
 mod interner;
 mod keyed;
 mod laws;
+mod memory;
 mod nodes;
+mod numbered;
 mod output;
 mod records;
 mod registry;

@@ -6,19 +6,21 @@ ghost use Rattle.hwdb_spec.specs.Written.{text_size, record_at, section_of, writ
 ghost use Rattle.hwdb_writer.specs.declared.entries.Setting.{Setting};
 ghost use Rattle.hwdb_writer.specs.declared.nodes.BuiltNode.{BuiltNode};
 ghost use Rattle.hwdb_writer.specs.Internal.Narrow.{IsNarrow};
+ghost use Rattle.hwdb_writer.specs.Internal.Numbered.{texts};
 ghost use Rattle.hwdb_writer.specs.Internal.PostOrder.{tree_of, IsPostOrder};
 ghost use Rattle.hwdb_writer.specs.Internal.Stored.{IsAt, AreNodes, IsStored, IsLaidOut, IsMade};
 
 use crate::assignments::Assignments;
 use crate::builder::post_order;
 use crate::entries::last_of_each;
-use crate::keyed::KeyedStr;
+use crate::memory::keep_pages;
+use crate::numbered::NumberedStr;
 use crate::records::{
     CHILD_SIZE, HEADER_SIZE, NODE_SIZE, VALUE_SIZE, push_records, push_u64, record_length,
     text_length,
 };
 use crate::stored::{Stored, StoredNode, StoredValue, store};
-use crate::strings::{in_order, places_of, section_length};
+use crate::strings::table_of;
 use hwdb_spec::StoreError;
 use std::alloc::{AllocError, Global};
 
@@ -36,11 +38,11 @@ fn push_numbers(out: &mut Vec<u8>, numbers: &[usize]) -> Result<(), AllocError>
 }
 
 /// Appends the string section.
-fn push_strings(out: &mut Vec<u8>, words: &[KeyedStr<'_>]) -> Result<(), AllocError>
-    ensures { OnOk result (out.new.items ≡ out.old.items ++ section_of words.now) }
+fn push_strings(out: &mut Vec<u8>, words: &[NumberedStr<'_>]) -> Result<(), AllocError>
+    ensures { OnOk result (out.new.items ≡ out.old.items ++ section_of (texts words.now)) }
 {
-    for word in words {
-        word.push_on(out)?;
+    for numbered in words {
+        numbered.word.push_on(out)?;
         out.push(0)?;
     }
     Ok(())
@@ -68,15 +70,15 @@ fn database(
     alloc: Global,
     nodes: &[StoredNode],
     values: &[StoredValue],
-    ordered: &[KeyedStr<'_>],
+    ordered: &[NumberedStr<'_>],
     places: &[usize],
     size: usize,
     section: usize,
 ) -> Result<Vec<u8>, AllocError>
     requires { (es : List Setting) × (ns : List BuiltNode)
-        × IsLaidOut es ns nodes.now values.now ordered.now places.now size section }
+        × IsLaidOut es ns nodes.now values.now (texts ordered.now) places.now size section }
     ensures { IfOk result (λ v. (es : List Setting) (ns : List BuiltNode)
-        → IsLaidOut es ns nodes.now values.now ordered.now places.now size section
+        → IsLaidOut es ns nodes.now values.now (texts ordered.now) places.now size section
         → v.items ≡ written (tree_of es ns)) }
 {
     let end = HEADER_SIZE + size + section;
@@ -107,15 +109,15 @@ fn database_within(
 {
     let nodes = stored.nodes;
     let values = stored.values;
-    let interner = stored.interner;
     let size = text_length(&nodes);
-    let ordered = in_order(alloc, &interner.words)?;
-    let section = section_length(&ordered);
-    let end = size.saturating_add(section).saturating_add(HEADER_SIZE);
-    if end > max_bytes as usize {
+    let first = size.saturating_add(HEADER_SIZE);
+    let table = table_of(alloc, stored.interner, first)?;
+    if table.end > max_bytes as usize {
         return Ok(None);
     }
-    let places = places_of(alloc, interner, &ordered, HEADER_SIZE + size)?;
+    let ordered = table.ordered;
+    let places = table.places;
+    let section = table.end - first;
     let bytes = database(alloc, &nodes, &values, &ordered, &places, size, section)?;
     Ok(Some(bytes))
 }
@@ -125,6 +127,7 @@ fn stored_nodes<'t>(alloc: Global, tree: Assignments<'t>) -> Result<Stored<'t>, 
     ensures { IfOk result (λ s. (es : List Setting) × (ns : List BuiltNode) × IsStored es ns s
         × IsMade tree.entry (tree_of es ns)) }
 {
+    keep_pages(alloc);
     let entries = last_of_each(tree.entries)?;
     let nodes = post_order(alloc, &entries)?;
     store(alloc, entries, &nodes)

@@ -56,12 +56,12 @@ fn push_value<'t>(
     interner: &mut Interner<'t>,
     out: &mut Vec<StoredValue>,
 ) -> Result<(), AllocError>
-    ensures grows { OnOk result (Grows interner.old.words.items interner.new.words.items) }
-    ensures members { OnOk result (SameMembers interner.new.words.items
-        (interner.old.words.items ++ strings_of_value (value_of entry.now))) }
+    ensures grows { OnOk result (Grows interner.old interner.new) }
+    ensures members { OnOk result (SameMembers interner.new
+        (interner.old ++ strings_of_value (value_of entry.now))) }
     ensures values { OnOk result ((xs : List Value)
-        → AreValues (IsUnder interner.old.words.items) out.old.items xs
-        → AreValues (IsUnder interner.new.words.items) out.new.items
+        → AreValues (IsUnder interner.old) out.old.items xs
+        → AreValues (IsUnder interner.new) out.new.items
         (xs ++ value_of entry.now ∷ [])) }
 {
     let (near_key, near_path) = last_key_and_path(out);
@@ -84,12 +84,12 @@ fn push_values<'t>(
     interner: &mut Interner<'t>,
     out: &mut Vec<StoredValue>,
 ) -> Result<(), AllocError>
-    ensures grows { OnOk result (Grows interner.old.words.items interner.new.words.items) }
-    ensures members { OnOk result (SameMembers interner.new.words.items
-        (interner.old.words.items ++ flat_map strings_of_value (map value_of entries.now))) }
+    ensures grows { OnOk result (Grows interner.old interner.new) }
+    ensures members { OnOk result (SameMembers interner.new
+        (interner.old ++ flat_map strings_of_value (map value_of entries.now))) }
     ensures values { OnOk result ((xs : List Value)
-        → AreValues (IsUnder interner.old.words.items) out.old.items xs
-        → AreValues (IsUnder interner.new.words.items) out.new.items
+        → AreValues (IsUnder interner.old) out.old.items xs
+        → AreValues (IsUnder interner.new) out.new.items
         (xs ++ map value_of entries.now)) }
 {
     for entry in entries {
@@ -107,10 +107,10 @@ fn store_values<'t>(
     interner: &mut Interner<'t>,
 ) -> Result<Vec<StoredValue>, AllocError>
     requires { IsPostOrder entries.items nodes.now }
-    ensures members { OnOk result (SameMembers interner.new.words.items
-        (interner.old.words.items
+    ensures members { OnOk result (SameMembers interner.new
+        (interner.old
         ++ flat_map strings_of_value (all_values entries.entry.items nodes.now))) }
-    ensures values { IfOk result (λ v. AreValues (IsUnder interner.new.words.items) v.items
+    ensures values { IfOk result (λ v. AreValues (IsUnder interner.new) v.items
         (all_values entries.entry.items nodes.now)) }
 {
     let mut values = Vec::with_capacity(alloc, entries.len())?;
@@ -135,10 +135,10 @@ fn store_nodes<'t>(
     nodes: &[BuiltNode<'t>],
     interner: &mut Interner<'t>,
 ) -> Result<Vec<StoredNode>, AllocError>
-    ensures grows { OnOk result (Grows interner.old.words.items interner.new.words.items) }
-    ensures members { OnOk result (SameMembers interner.new.words.items
-        (interner.old.words.items ++ prefixes nodes.now)) }
-    ensures nodes { IfOk result (λ v. AreNodes (IsUnder interner.new.words.items) v.items
+    ensures grows { OnOk result (Grows interner.old interner.new) }
+    ensures members { OnOk result (SameMembers interner.new
+        (interner.old ++ prefixes nodes.now)) }
+    ensures nodes { IfOk result (λ v. AreNodes (IsUnder interner.new) v.items
         nodes.now) }
 {
     let mut stored = Vec::with_capacity(alloc, nodes.len())?;
@@ -165,9 +165,9 @@ pub fn store<'t>(
     requires { IsPostOrder entries.items nodes.now }
     ensures { IfOk result (IsStored entries.entry.items nodes.now) }
 {
-    // A string for each node, and one for each value: most keys and paths come again.
-    let room = entries.len().saturating_add(nodes.len());
-    let mut interner = Interner::new(alloc, room)?;
+    // Most keys and paths come again, and so does the string of many a node.
+    let looked_up = entries.len().saturating_add(nodes.len());
+    let mut interner = Interner::new(alloc, nodes.len(), looked_up)?;
     let values = store_values(alloc, entries, nodes, &mut interner)?;
     let nodes = store_nodes(alloc, nodes, &mut interner)?;
     Ok(Stored {

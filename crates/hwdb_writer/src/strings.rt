@@ -1,132 +1,88 @@
 //! The string section: the distinct strings in order, and the offset of each.
-ghost use Rattle.std.specs.Prelude.{◌≡◌, ◌<◌, ◌+◌, ◌^◌, ◌-◌, IfOk, min, map, length};
-ghost use Rattle.std.specs.Ordering.{nat_cmp};
+ghost use Rattle.std.specs.Prelude.{◌≡◌, ◌<◌, List, IfOk, length, set};
+ghost use Rattle.std.specs.Bool.{OnTrue, OnFalse};
+ghost use Rattle.std.specs.Ordering.{nat_cmp, on};
 ghost use Rattle.std.specs.Cmp.Lexicographic.{slice_cmp};
-ghost use Rattle.std.specs.List.Sorted.{IsStrictlySortedBy};
-ghost use Rattle.hwdb_spec.specs.Written.{section_of, place_of};
-ghost use Rattle.hwdb_spec.specs.Assignment.{ascending};
-ghost use Rattle.hwdb_writer.specs.Internal.Places.{starts_from, IsTable, place_in};
+ghost use Rattle.std.specs.List.Sorted.{IsPermutation, IsSorted};
+ghost use Rattle.hwdb_writer.specs.declared.numbered.NumberedStr.{NumberedStr as Word};
+ghost use Rattle.hwdb_writer.specs.Internal.Numbered.{word_of, texts, IsNumbered, IsNew, IsOld, IsFilled, IsTable};
 
-use crate::hints::{hint_at, hints_of};
 use crate::interner::Interner;
-use crate::keyed::KeyedStr;
+use crate::numbered::NumberedStr;
 use std::alloc::{AllocError, Global};
 
-/// The strings in order, the offset of each, and that of the first one.
-#[derive(Clone, Copy)]
-pub struct StringTable<'a, 't> {
-    pub words: &'a [KeyedStr<'t>],
-    pub starts: &'a [usize],
-    pub first: usize,
+/// The strings in order, each once; the offset of each by its number; and the offset at which they end. An offset above the
+/// greatest number is that number.
+#[derive(Drop)]
+pub struct StringTable<'t> {
+    pub ordered: Vec<NumberedStr<'t>>,
+    pub places: Vec<usize>,
+    pub end: usize,
 }
 
-/// Copies of the strings, each marked with its number.
-fn copies<'t>(alloc: Global, words: &[KeyedStr<'t>]) -> Result<Vec<KeyedStr<'t>>, AllocError>
-    ensures { IfOk result (λ v. v.items ≡ words.now) }
+/// Whether no string like this one is before it. The strings are in order.
+#[inline(always)]
+fn is_new(ordered: &[NumberedStr<'_>], i: usize) -> bool
+    requires { i < length ordered.now }
+    ensures yes { OnTrue result (IsNew (texts ordered.now) i) }
+    ensures no { OnFalse result (IsOld (texts ordered.now) i) }
 {
-    let mut copies = Vec::with_capacity(alloc, words.len())?;
-    let mut number = 0u32;
-    for word in words {
-        copies.push(word.marked(number))?;
-        number = number.wrapping_add(1);
+    if i == 0 {
+        return true;
     }
-    Ok(copies)
-}
-
-/// The strings in order, each once.
-pub fn in_order<'t>(alloc: Global, words: &[KeyedStr<'t>]) -> Result<Vec<KeyedStr<'t>>, AllocError>
-    ensures { IfOk result (λ v. v.items ≡ ascending words.now) }
-{
-    let mut ordered = copies(alloc, words)?;
-    ordered.sort_unstable();
-    ordered.dedup();
-    Ok(ordered)
-}
-
-/// The length in bytes of the section of the strings, or the greatest number if it is longer.
-pub fn section_length(words: &[KeyedStr<'_>]) -> usize
-    ensures { result ≡ min (length (section_of words.now)) (2 ^ 64 - 1) }
-{
-    let mut total = 0usize;
-    for word in words {
-        total = total.saturating_add(word.len()).saturating_add(1);
+    if ordered[i - 1].word == ordered[i].word {
+        return false;
     }
-    total
+    true
 }
 
-/// The offset of each string, the first of them at `first`, and the offset at which they end.
-pub fn starts(alloc: Global, words: &[KeyedStr<'_>], first: usize) -> Result<Vec<usize>, AllocError>
-    requires { first + length (section_of words.now) < 2 ^ 64 }
-    ensures { IfOk result (λ v. v.items ≡ starts_from first words.now) }
+/// Puts a value at a place.
+#[inline(always)]
+fn put(places: &mut [usize], at: usize, value: usize)
+    requires { at < length places.old }
+    ensures { places.new ≡ set places.old at value }
 {
-    let mut starts = Vec::with_capacity(alloc, words.len())?;
+    places[at] = value;
+}
+
+/// Fills in the offset of each string by its number, the first of them at `first`. Returns the offset at which they end.
+fn fill(ordered: &[NumberedStr<'_>], first: usize, places: &mut [usize]) -> usize
+    requires room { length places.old ≡ length ordered.now }
+    requires sorted { IsSorted (on word_of (slice_cmp nat_cmp)) ordered.now }
+    requires numbered { (words : List Word) × IsNumbered words × IsPermutation words ordered.now }
+    ensures { (words : List Word) → IsNumbered words → IsPermutation words ordered.now
+        → IsFilled first words ordered.now places.new result }
+{
+    let mut start = first;
     let mut end = first;
-    for word in words {
-        starts.push(end)?;
-        end += word.len() + 1;
-    }
-    starts.push(end)?;
-    Ok(starts)
-}
-
-/// The offset of the string, or the one at which it would belong. It is looked for first at the remembered place, and
-/// then by halving.
-fn place(table: &StringTable<'_, '_>, remembered: usize, word: &KeyedStr<'_>) -> usize
-    requires { IsTable table.now }
-    ensures { result ≡ place_in table.now word.now }
-{
-    let words = table.words;
-    let starts = table.starts;
-    if remembered < words.len() {
-        if words[remembered] == *word {
-            return starts[remembered];
+    for (i, numbered) in ordered.iter().enumerate() {
+        if is_new(ordered, i) {
+            start = end;
+            end = end.saturating_add(numbered.word.len()).saturating_add(1);
         }
+        put(places, numbered.number, start);
     }
-    match words.binary_search(word) {
-        Ok(i) => starts[i],
-        Err(i) => starts[i],
-    }
+    end
 }
 
-/// The offset of each of the strings by the table. A string is looked for first at the hint for its number.
-fn places_in(
+/// The table of the strings of an interner, the first of them at `first`.
+///
+/// A string can have several numbers. So the offsets are filled in before all but one of equal strings are left out.
+pub fn table_of<'t>(
     alloc: Global,
-    table: &StringTable<'_, '_>,
-    hints: &[u32],
-    words: &[KeyedStr<'_>],
-) -> Result<Vec<usize>, AllocError>
-    requires { IsTable table.now }
-    ensures { IfOk result (λ places. places.items ≡ map (place_in table.now) words.now) }
-{
-    let mut places = Vec::with_capacity(alloc, words.len())?;
-    let mut number = 0usize;
-    for word in words {
-        places.push(place(table, hint_at(hints, number), word))?;
-        number = number.wrapping_add(1);
-    }
-    Ok(places)
-}
-
-/// Returns each interned string's offset. `ordered` is the sorted table of all of them, starting at `first`, marked with
-/// their numbers. Consumes the interner.
-pub fn places_of(
-    alloc: Global,
-    interner: Interner<'_>,
-    ordered: &[KeyedStr<'_>],
+    interner: Interner<'t>,
     first: usize,
-) -> Result<Vec<usize>, AllocError>
-    requires ordered { IsStrictlySortedBy (slice_cmp nat_cmp) ordered.now }
-    requires fits { first + length (section_of ordered.now) < 2 ^ 64 }
-    ensures { IfOk result (λ places.
-        places.items ≡ map (place_of first ordered.now) interner.entry.words.items) }
+) -> Result<StringTable<'t>, AllocError>
+    ensures { IfOk result (IsTable first interner.entry) }
 {
-    let words = interner.words;
-    let hints = hints_of(alloc, ordered, words.as_slice().len())?;
-    let starts = starts(alloc, ordered, first)?;
-    let table = StringTable {
-        words: ordered,
-        starts: &starts,
-        first,
-    };
-    places_in(alloc, &table, &hints, &words)
+    let mut ordered = interner.into_words();
+    ordered.sort_unstable();
+    let mut places = Vec::from_elem(alloc, 0, ordered.len())?;
+    let end = fill(&ordered, first, &mut places);
+    ordered.dedup();
+    Ok(StringTable {
+        ordered,
+        places,
+        end,
+    })
 }

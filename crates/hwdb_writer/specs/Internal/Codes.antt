@@ -8,6 +8,9 @@ use Rattle.std.specs.FinMap as finite
 abbrev pub coded_bytes : Coded (List ℕ)
 coded_bytes = coded_list coded_ℕ
 
+abbrev pub coded_texts : Coded (List (List ℕ))
+coded_texts = coded_list coded_bytes
+
 abbrev pub assignment_code : Coded Assignment
 assignment_code =
     code_by (((ℕ × ℕ) × (List ℕ × List ℕ)) × (List ℕ × List ℕ)) (coded× (coded× (coded× coded_ℕ coded_ℕ) (coded× coded_bytes coded_bytes)) (coded× coded_bytes coded_bytes))

@@ -60,9 +60,9 @@ prefixes = map (λ (n : BuiltNode). n.prefix.now)
 -- the nodes and values of entries, and their strings
 pub record IsStored (es : List Setting) (ns : List BuiltNode) (s : Stored) : Type 0 where
   pub order : IsPostOrder es ns
-  pub nodes : AreNodes (IsUnder s.interner.words.items) s.nodes.items ns
-  pub values : AreValues (IsUnder s.interner.words.items) s.values.items (all_values es ns)
-  pub strings : ascending s.interner.words.items ≡ table_of (tree_of es ns)
+  pub nodes : AreNodes (IsUnder s.interner) s.nodes.items ns
+  pub values : AreValues (IsUnder s.interner) s.values.items (all_values es ns)
+  pub strings : ascending s.interner ≡ table_of (tree_of es ns)
 
 -- what the records of entries are made of
 pub record AreRecords (place : List ℕ → ℕ) (places : List ℕ) (es : List Setting) (ns : List BuiltNode) (ss : List StoredNode) (vs : List StoredValue) : Type 0 where

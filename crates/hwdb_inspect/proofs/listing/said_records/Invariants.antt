@@ -1,10 +1,10 @@
 use Rattle.std.proofs.Common.{◌≡◌, flat_map, map, drop, take}
-use Rattle.hwdb_inspect.specs.Views.{assignment_of}
+use Rattle.hwdb_inspect.specs.Internal.Holding.{slot_in}
 use Rattle.hwdb_spec.specs.Dump.{first_unsaid, record_text}
 use Rattle.hwdb_inspect.proofs.listing.said_records.Given as goal
 
-abbrev pub invariant-loop-f : goal.invariant-loop-f
-invariant-loop-f l = record {
-  text : l.text.items ≡ flat_map record_text (map assignment_of (take l.f-index l.list));
-  unsaid : first_unsaid (map assignment_of l.list) ≡ first_unsaid (map assignment_of (drop l.f-index l.list));
+abbrev pub invariant-loop-slot : goal.invariant-loop-slot
+invariant-loop-slot l = record {
+  text : l.text.items ≡ flat_map record_text (map (slot_in l.patterns) (take l.slot-index l.slots));
+  unsaid : first_unsaid (map (slot_in l.patterns) l.slots) ≡ first_unsaid (map (slot_in l.patterns) (drop l.slot-index l.slots));
 }

@@ -1,18 +1,16 @@
-use Rattle.std.proofs.Common.{◌++◌, [], ◌∷◌, ◌∙◌, ap, append_assoc, refl}
-use Rattle.std.proofs.lemmas.List.{get_or_default}
+use Rattle.std.proofs.Common.{◌++◌, [], ◌∷◌, ◌∙◌, ap, append_assoc, refl, List}
 use Rattle.hwdb_spec.specs.Written.{section_of, ended}
-use Rattle.hwdb_writer.proofs.PlaceLemmas.{nothing, text_in}
+use Rattle.hwdb_writer.specs.declared.numbered.NumberedStr.{NumberedStr}
+use Rattle.hwdb_writer.specs.Internal.Numbered.{texts}
 use Rattle.hwdb_writer.proofs.EmissionLemmas.{made_more, made_all}
 use Rattle.hwdb_writer.proofs.output.push_strings.Goals as goal
 
-pub loop-word-preserved : goal.loop-word-preserved
-loop-word-preserved c =
-    let t = c.word-item.is ∙ get_or_default c.args.words.now c.loop-word.word-index c.word-item.result nothing c.loop-word-test.true in
-    made_more section_of ended (λ s ss. refl) c.args.words.now c.loop-word.word-index _
-    (get_or_default c.args.words.now c.loop-word.word-index nothing _ c.loop-word-test.true) c.loop-word-test.true _ _ _
-    (c.in_ok-push.ensures.items ∙ ap (λ l. l ++ 0 ∷ []) (c.in_ok-push_on.ensures ∙ ap (λ l. c.loop-word.out.items ++ l) t)
-    ∙ append_assoc c.loop-word.out.items (text_in c.args.words.now c.loop-word.word-index) (0 ∷ []))
-    c.loop-word.invariant
+pub loop-numbered-preserved : goal.loop-numbered-preserved
+loop-numbered-preserved c =
+    let w = c.numbered-item.result in
+    made_more (λ (ws : List NumberedStr). section_of (texts ws)) (λ (v : NumberedStr). ended v.word) (λ s ss. refl) c.args.words.now c.loop-numbered.numbered-index w c.numbered-item.is c.loop-numbered-test.true _ _ _
+    (c.in_ok-push.ensures.items ∙ ap (λ l. l ++ 0 ∷ []) c.in_ok-push_on.ensures ∙ append_assoc c.loop-numbered.out.items w.word (0 ∷ []))
+    c.loop-numbered.invariant
 
 pub returns : goal.returns
-returns c = made_all section_of refl c.args.words.now c.loop-word.word-index c.loop-word-test.false _ _ c.loop-word.invariant
+returns c = made_all (λ (ws : List NumberedStr). section_of (texts ws)) refl c.args.words.now c.loop-numbered.numbered-index c.loop-numbered-test.false _ _ c.loop-numbered.invariant

@@ -13,14 +13,14 @@ returns-clause-grows c = λ n s u. c.in_ok-path.ensures.grows n s (c.in_ok-value
 pub returns-clause-members : goal.returns-clause-members
 returns-clause-members c =
     let v = value_of c.args.entry.now in
-    same_three c.args.interner.now.words.items c.intern_near.new.self.words.items c.intern.new.self.words.items c.intern_near-2.new.self.words.items v.key v.value v.path
+    same_three c.args.interner.now c.intern_near.new.self c.intern.new.self c.intern_near-2.new.self v.key v.value v.path
     (same_named _ _ _ _ c.spaced.ensures c.in_ok-key.ensures.members) (same_named _ _ _ _ c.new.ensures c.in_ok-value.ensures.members) (same_named _ _ _ _ c.new-2.ensures c.in_ok-path.ensures.members)
 
 pub returns-clause-values : goal.returns-clause-values
 returns-clause-values c xs p =
-    let words = c.intern_near-2.new.self.words.items in
+    let words = c.intern_near-2.new.self in
     let v = value_of c.args.entry.now in
-    let grown = values_by (IsUnder c.args.interner.now.words.items) (IsUnder words) (λ n s u. c.in_ok-path.ensures.grows n s (c.in_ok-value.ensures.grows n s (c.in_ok-key.ensures.grows n s u))) c.args.out.now.items xs p in
+    let grown = values_by (IsUnder c.args.interner.now) (IsUnder words) (λ n s u. c.in_ok-path.ensures.grows n s (c.in_ok-value.ensures.grows n s (c.in_ok-key.ensures.grows n s u))) c.args.out.now.items xs p in
     let own : IsValue (IsUnder words) _ v = record {
       key = under_same words _ _ _ c.spaced.ensures (c.in_ok-path.ensures.grows _ _ (c.in_ok-value.ensures.grows _ _ c.in_ok-key.ensures.number));
       value = under_same words _ _ _ c.new.ensures (c.in_ok-path.ensures.grows _ _ c.in_ok-value.ensures.number);

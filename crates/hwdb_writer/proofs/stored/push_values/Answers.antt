@@ -13,7 +13,7 @@ pub loop-entry-init : goal.loop-entry-init
 loop-entry-init c = record {
   grows = grows_itself _;
   members = same_refl _;
-  values = λ xs p. subst (AreValues (IsUnder c.args.interner.now.words.items) c.args.out.now.items) (sym (none_behind xs)) p;
+  values = λ xs p. subst (AreValues (IsUnder c.args.interner.now) c.args.out.now.items) (sym (none_behind xs)) p;
 }
 
 pub loop-entry-preserved : goal.loop-entry-preserved
@@ -26,7 +26,7 @@ loop-entry-preserved c =
       members = same_step _ _ (strings_of_value (value_of e)) _ _ _ c.in_ok-push_value.ensures.members
           (one_left value_strings (λ (s : Setting). strings_of_value (value_of s)) value_strings-cons es i e (get_or_default es i _ e c.loop-entry-test.true) c.loop-entry-test.true) c.loop-entry.invariant.members;
       values = λ xs p.
-          subst (AreValues (IsUnder c.push_value.new.interner.words.items) c.push_value.new.out.items)
+          subst (AreValues (IsUnder c.push_value.new.interner) c.push_value.new.out.items)
           (append_assoc xs (map value_of (take i es)) (value_of e ∷ []) ∙ ap (λ l. xs ++ l) (sym (map_more value_of es i _ c.loop-entry-test.true)))
           (c.in_ok-push_value.ensures.values (xs ++ map value_of (take i es)) (c.loop-entry.invariant.values xs p));
     }
@@ -39,5 +39,5 @@ returns-clause-members c = same_done _ _ _ (none_left value_strings refl c.args.
 
 pub returns-clause-values : goal.returns-clause-values
 returns-clause-values c xs p =
-    let P : List Setting → Type 0 = λ l. AreValues (IsUnder c.loop-entry.interner.words.items) c.loop-entry.out.items (xs ++ map value_of l) in
+    let P : List Setting → Type 0 = λ l. AreValues (IsUnder c.loop-entry.interner) c.loop-entry.out.items (xs ++ map value_of l) in
     subst P (take_all c.loop-entry.entry-index c.args.entries.now c.loop-entry-test.false) (c.loop-entry.invariant.values xs p)

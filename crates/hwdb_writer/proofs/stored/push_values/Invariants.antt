@@ -8,7 +8,7 @@ use Rattle.hwdb_writer.proofs.stored.push_values.Given as goal
 
 abbrev pub invariant-loop-entry : goal.invariant-loop-entry
 invariant-loop-entry l = record {
-  grows : Grows l.initial.interner.words.items l.interner.words.items;
-  members : SameMembers (l.interner.words.items ++ value_strings (drop l.entry-index l.entries)) (l.initial.interner.words.items ++ value_strings l.entries);
-  values : (xs : List Value) → AreValues (IsUnder l.initial.interner.words.items) l.initial.out.items xs → AreValues (IsUnder l.interner.words.items) l.out.items (xs ++ map value_of (take l.entry-index l.entries));
+  grows : Grows l.initial.interner l.interner;
+  members : SameMembers (l.interner ++ value_strings (drop l.entry-index l.entries)) (l.initial.interner ++ value_strings l.entries);
+  values : (xs : List Value) → AreValues (IsUnder l.initial.interner) l.initial.out.items xs → AreValues (IsUnder l.interner) l.out.items (xs ++ map value_of (take l.entry-index l.entries));
 }

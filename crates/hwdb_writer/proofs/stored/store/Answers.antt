@@ -12,8 +12,8 @@ pub returns : goal.returns
 returns c =
     let es = c.args.entries.items in
     let ns = c.args.nodes.now in
-    let between = c.store_values.new.interner.words.items in
-    let words = c.store_nodes.new.interner.words.items in
+    let between = c.store_values.new.interner in
+    let words = c.store_nodes.new.interner in
     let S : List (List ℕ) → Type 0 = λ l. SameMembers between (l ++ value_texts es ns) in
     record {
       order = c.requires;

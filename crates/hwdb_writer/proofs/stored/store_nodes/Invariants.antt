@@ -5,7 +5,7 @@ use Rattle.hwdb_writer.proofs.stored.store_nodes.Given as goal
 
 abbrev pub invariant-loop-node : goal.invariant-loop-node
 invariant-loop-node l = record {
-  grows : Grows l.initial.interner.words.items l.interner.words.items;
-  members : SameMembers l.interner.words.items (l.initial.interner.words.items ++ prefixes (take l.node-index l.nodes));
-  nodes : AreNodes (IsUnder l.interner.words.items) l.stored.items (take l.node-index l.nodes);
+  grows : Grows l.initial.interner l.interner;
+  members : SameMembers l.interner (l.initial.interner ++ prefixes (take l.node-index l.nodes));
+  nodes : AreNodes (IsUnder l.interner) l.stored.items (take l.node-index l.nodes);
 }

@@ -21,8 +21,8 @@ loop-node-preserved c =
     ∙ ap (λ (l : List Setting). map value_of l) (cut_out es ns c.requires i no_node lt)
     in
     record {
-      members = values_step es ns i no_node lt c.args.interner.now.words.items c.loop-node.interner.words.items c.push_values.new.interner.words.items c.loop-node.invariant.members vals is c.in_ok-push_values.ensures.members;
-      values = subst (AreValues (IsUnder c.push_values.new.interner.words.items) c.push_values.new.out.items)
+      members = values_step es ns i no_node lt c.args.interner.now c.loop-node.interner c.push_values.new.interner c.loop-node.invariant.members vals is c.in_ok-push_values.ensures.members;
+      values = subst (AreValues (IsUnder c.push_values.new.interner) c.push_values.new.out.items)
           (ap (λ l. all_values es (take i ns) ++ l) is ∙ sym (values_more es ns i no_node lt))
           (c.in_ok-push_values.ensures.values (all_values es (take i ns)) c.loop-node.invariant.values);
     }

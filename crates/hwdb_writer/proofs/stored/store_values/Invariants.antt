@@ -7,6 +7,6 @@ use Rattle.hwdb_writer.proofs.stored.store_values.Given as goal
 
 abbrev pub invariant-loop-node : goal.invariant-loop-node
 invariant-loop-node l = record {
-  members : SameMembers l.interner.words.items (l.initial.interner.words.items ++ flat_map strings_of_value (all_values l.entries.items (take l.node-index l.nodes)));
-  values : AreValues (IsUnder l.interner.words.items) l.values.items (all_values l.entries.items (take l.node-index l.nodes));
+  members : SameMembers l.interner (l.initial.interner ++ flat_map strings_of_value (all_values l.entries.items (take l.node-index l.nodes)));
+  values : AreValues (IsUnder l.interner) l.values.items (all_values l.entries.items (take l.node-index l.nodes));
 }

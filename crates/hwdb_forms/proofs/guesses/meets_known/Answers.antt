@@ -1,0 +1,11 @@
+use Rattle.std.proofs.Common.{ap, map, sym, List}
+use Rattle.hwdb_spec.specs.FormTable.{free, free_prefixes, known}
+use Rattle.hwdb_spec.specs.Forms.{Form, can_match}
+use Rattle.hwdb_spec.specs.Patterns.{tokens}
+use Rattle.hwdb_forms.proofs.AnswerLemmas.{first_matches}
+use Rattle.hwdb_forms.proofs.guesses.meets_known.Goals as goal
+
+pub returns : goal.returns
+returns c = λ e.
+    sym (first_matches (map (λ k. k.form) known) (map free free_prefixes) (tokens c.args.pattern.now) _
+    (ap (λ (fs : List Form). can_match fs (tokens c.args.pattern.now)) c.known.ensures) (c.meets_one.ensures e))

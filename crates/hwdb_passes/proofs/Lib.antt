@@ -1,0 +1,4 @@
+pub mod PartLemmas
+pub mod HeaderLemmas
+pub mod EntryLemmas
+pub mod NodeLemmas

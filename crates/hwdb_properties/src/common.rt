@@ -1,0 +1,36 @@
+//! Properties that most lines of large files have. Of these no row of a table has to be looked for.
+ghost use Rattle.std.specs.Prelude.{◌≡◌, true};
+ghost use Rattle.hwdb_properties.specs.Internal.{IsCommon};
+
+use crate::cuts::same;
+
+fn is_model(name: &[u8]) -> bool
+    ensures { result ≡ true → IsCommon name.now }
+{
+    same(name, b"ID_MODEL_FROM_DATABASE")
+}
+
+fn is_vendor(name: &[u8]) -> bool
+    ensures { result ≡ true → IsCommon name.now }
+{
+    same(name, b"ID_VENDOR_FROM_DATABASE")
+}
+
+fn is_oui(name: &[u8]) -> bool
+    ensures { result ≡ true → IsCommon name.now }
+{
+    same(name, b"ID_OUI_FROM_DATABASE")
+}
+
+/// Whether a property is one of those. They take any text, and are read below any prefix, without others.
+pub(crate) fn is_common(name: &[u8]) -> bool
+    ensures { result ≡ true → IsCommon name.now }
+{
+    if is_model(name) {
+        return true;
+    }
+    if is_oui(name) {
+        return true;
+    }
+    is_vendor(name)
+}
