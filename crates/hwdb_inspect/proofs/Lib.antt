@@ -9,6 +9,8 @@ pub mod DiffLemmas
 pub mod DepthLemmas
 pub mod DifferentLemmas
 pub mod TallyLemmas
+pub mod FewLemmas
+pub mod InventoryLemmas
 pub mod MeetingLemmas
 pub mod OrderedLemmas
 pub mod SaidLemmas

@@ -1,5 +1,5 @@
 -- Two databases that are walked side by side.
-use Rattle.std.proofs.Common.{◌≡◌, ◌∙◌, ap, sym, refl, subst, ℕ, suc, ◌+◌, List, [], ◌∷◌, ◌++◌, drop, reverse, Option, None, Some, true, is_some, append_assoc, add-one, option_map, slice_get, IfNone}
+use Rattle.std.proofs.Common.{◌≡◌, ◌∙◌, ap, sym, refl, subst, ℕ, suc, ◌+◌, ◌≤◌, List, [], ◌∷◌, ◌++◌, drop, reverse, Option, None, Some, true, is_some, append_assoc, add-one, option_map, slice_get, IfNone, arith, length}
 use Rattle.std.specs.Ordering.{match_ordering}
 use Rattle.std.specs.declared.cmp.Ordering.{Ordering}
 use Rattle.std.specs.declared.cmp.Ordering.TheVariants.{Less, Equal, Greater}
@@ -12,8 +12,10 @@ use Rattle.hwdb_reader.specs.declared.view.Inside.{Inside}
 use Rattle.hwdb_query.specs.Internal.Members.{one_assignment, own_members}
 use Rattle.hwdb_inspect.proofs.PartLemmas.{own_next, shown_some}
 use Rattle.hwdb_inspect.specs.Internal.Merging.{by_place, merged, merged_from}
-use Rattle.hwdb_inspect.specs.Internal.Meeting.{IsUnderWay, after_next, head_of, left_of, member_of, unlooked}
+use Rattle.hwdb_inspect.specs.Internal.Meeting.{IsMet, IsNext, IsUnderWay, after_next, head_of, left_of, member_of, old_by, unlooked}
 use Rattle.hwdb_inspect.specs.Internal.Walks.{own_of, rest_of, to_come}
+use Rattle.hwdb_inspect.specs.declared.meeting.Side.{Side}
+use Rattle.hwdb_inspect.specs.declared.meeting.Side.TheVariants.{Old, New, Both}
 use Rattle.hwdb_inspect.specs.declared.members.Member.{Member}
 use Rattle.hwdb_inspect.specs.declared.members.Members.{Members}
 use Rattle.hwdb_inspect.specs.declared.walk.OpenVisit.{OpenVisit}
@@ -114,3 +116,42 @@ module _ (old new xs ys : List Assignment) (x y : Assignment) (o : old ≡ x ∷
 
   pub greater_met : by_place x y ≡ Greater → merged old new ≡ Came y ∷ merged old ys
   greater_met e = met Greater e
+
+-- ---- the least of what is left of two databases
+
+module _ (old new : Members) (x y : Member) where
+  pub met_old : new.next ≡ Some y → by_place (member_of old.walk.path.items x) (member_of new.walk.path.items y) ≡ Less → IsMet old new (Old x)
+  met_old is e xs ys o n =
+      less_met (left_of old) (left_of new) xs (after_next new) (member_of old.walk.path.items x) (member_of new.walk.path.items y) o (next_is new y is) e
+      ∙ ap (λ l. Went (member_of old.walk.path.items x) ∷ merged xs l) n
+
+  pub met_both : by_place (member_of old.walk.path.items x) (member_of new.walk.path.items y) ≡ Equal → IsMet old new (Both x y)
+  met_both e xs ys o n = equal_met (left_of old) (left_of new) xs ys (member_of old.walk.path.items x) (member_of new.walk.path.items y) o n e
+
+  pub met_new : old.next ≡ Some x → by_place (member_of old.walk.path.items x) (member_of new.walk.path.items y) ≡ Greater → IsMet old new (New y)
+  met_new is e xs ys o n =
+      greater_met (left_of old) (left_of new) (after_next old) ys (member_of old.walk.path.items x) (member_of new.walk.path.items y) (next_is old x is) n e
+      ∙ ap (λ l. Came (member_of new.walk.path.items y) ∷ merged l ys) o
+
+pub alone_old : (old new : Members) (x : Member) → left_of new ≡ [] → IsMet old new (Old x)
+alone_old old new x none xs ys o n =
+    old_met (left_of old) (left_of new) xs (member_of old.walk.path.items x) o none ∙ ap (λ l. Went (member_of old.walk.path.items x) ∷ merged xs l) n
+
+pub alone_new : (old new : Members) (y : Member) → left_of old ≡ [] → IsMet old new (New y)
+alone_new old new y none xs ys o n =
+    new_met (left_of old) (left_of new) ys (member_of new.walk.path.items y) none n ∙ ap (λ l. Came (member_of new.walk.path.items y) ∷ merged l ys) o
+
+-- ---- one of them is left at least
+
+one_left : (m : Members) (x : Member) → m.next ≡ Some x → 1 ≤ length (left_of m)
+one_left m x is = let size = ap length (next_is m x is) in omega (arith, size)
+
+pub next_old : (old new : Members) (side : Side) (p : List ℕ) → IsNext old new side → length (old_by p side) ≤ length (left_of old)
+next_old old new (Old x) p h = one_left old x h
+next_old old new (New y) p h = omega arith
+next_old old new (Both x y) p h = one_left old x h.0
+
+pub next_some : (old new : Members) (side : Side) → IsNext old new side → 1 ≤ length (left_of old) + length (left_of new)
+next_some old new (Old x) h = let one = one_left old x h in omega (arith, one)
+next_some old new (New y) h = let one = one_left new y h in omega (arith, one)
+next_some old new (Both x y) h = let one = one_left old x h.0 in omega (arith, one)

@@ -1,5 +1,5 @@
 -- The stack of a walk, and what its steps do to it.
-use Rattle.std.proofs.Common.{◌≡◌, ◌∙◌, ap, refl, sym, subst, ℕ, suc, ◌+◌, ◌≤◌, ◌<◌, List, [], ◌∷◌, ◌++◌, take, drop, reverse, length, arith, append_assoc, add-one, Option, None, Some, IfNone, IsSomeAnd, slice_get, inl, inr}
+use Rattle.std.proofs.Common.{◌≡◌, ◌∙◌, ap, refl, sym, subst, ℕ, zero, suc, ◌+◌, ◌-◌, ◌≤◌, ◌<◌, List, [], ◌∷◌, ◌++◌, take, drop, reverse, length, arith, append_assoc, add-one, Option, None, Some, IfNone, IsSomeAnd, get_or, slice_get, slice_set, inl, inr}
 use Rattle.std.proofs.lemmas.List.{length-take-le, length-append}
 use Rattle.std.proofs.Math.Seq.{take-length}
 use Rattle.hwdb_spec.specs.Tree.{Tree, prefix_of, values_of, members_under}
@@ -16,6 +16,36 @@ use Rattle.hwdb_query.specs.Lemmas.Stacks.{on_top, take_front}
 pub no_kids : (kids : List (ℕ × Tree)) → length kids ≡ 0 → kids ≡ []
 no_kids [] h = refl
 no_kids (k ∷ kids) h = absurd (omega (arith, h))
+
+-- ---- the stack as a list
+
+last_is : (items : List OpenVisit) (i : ℕ) (o : OpenVisit) → suc i ≡ length items → items ≡ take i items ++ get_or items i o ∷ []
+last_is [] i o h = absurd (omega (arith, h))
+last_is (x ∷ []) zero o h = refl
+last_is (x ∷ y ∷ items) zero o h = absurd (omega (arith, h))
+last_is (x ∷ items) (suc i) o h = ap (λ l. x ∷ l) (last_is items i o (omega (arith, h)))
+
+-- another node in the place of the one on top
+pub set_is : (items : List OpenVisit) (i : ℕ) (o : OpenVisit) → suc i ≡ length items → slice_set items i o ≡ take i items ++ o ∷ []
+set_is [] i o h = absurd (omega (arith, h))
+set_is (x ∷ []) zero o h = refl
+set_is (x ∷ z ∷ items) zero o h = absurd (omega (arith, h))
+set_is (x ∷ items) (suc i) o h = ap (λ l. x ∷ l) (set_is items i o (omega (arith, h)))
+
+before_last : (items : List OpenVisit) (i : ℕ) (o : OpenVisit) → suc i ≡ length items → take i (slice_set items i o) ≡ take i items
+before_last [] i o h = absurd (omega (arith, h))
+before_last (x ∷ items) zero o h = refl
+before_last (x ∷ items) (suc i) o h = ap (λ l. x ∷ l) (before_last items i o (omega (arith, h)))
+
+-- the node on top, and those below it
+pub top_of : (items : List OpenVisit) (i : ℕ) (o : OpenVisit) → suc i ≡ length items → o ≡ get_or items i o → reverse items ≡ o ∷ reverse (take i items)
+top_of items i o h is = ap reverse (last_is items i o h ∙ ap (λ x. take i items ++ x ∷ []) (sym is)) ∙ on_top (take i items) o
+
+-- it was taken off
+pub taken_off : (items rest : List OpenVisit) (i n : ℕ) (o : OpenVisit) → suc i ≡ length items → n ≡ length items → rest ≡ take (n - 1) (slice_set items i o) → rest ≡ take i items
+taken_off items rest i n o h e is =
+    let size : n - 1 ≡ i = omega (arith, h, e) in
+    is ∙ ap (λ m. take m (slice_set items i o)) size ∙ before_last items i o h
 
 -- ---- the node that a walk is at
 

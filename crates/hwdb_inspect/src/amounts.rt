@@ -1,15 +1,17 @@
 //! How much is in a database, or in bytes that are none: in words, and as JSON.
-ghost use Rattle.std.specs.Prelude.{◌≡◌, ◌++◌, codes, option_map, IfOk, OnOk};
+ghost use Rattle.std.specs.Prelude.{◌≡◌, ◌++◌, ◌<◌, ◌^◌, [], codes, length, option_map, IfOk, OnOk};
 ghost use Rattle.json.specs.Tree.{json_tokens};
 ghost use Rattle.hwdb_spec.specs.Checks.{count_text};
 ghost use Rattle.hwdb_spec.specs.Json.{object_of};
 ghost use Rattle.hwdb_spec.specs.Status;
 ghost use Rattle.hwdb_spec.specs.Status.{IsAmountOf, amount_json, amount_line, amount_members, amount_words};
 ghost use Rattle.hwdb_spec.specs.Summary.{summary_of};
+ghost use Rattle.hwdb_spec.specs.Tree.{members_under};
 ghost use Rattle.hwdb_show.specs.JsonTokens.{tokens_of_member, tokens_of_members};
 ghost use Rattle.hwdb_inspect.specs.Views.{amount_shown};
 
-use crate::summary::summarize;
+use crate::inventory::Inventory;
+use crate::members::Members;
 use hwdb_reader::{Db, check};
 use hwdb_show::put_count;
 use itoa::Buffer;
@@ -37,15 +39,17 @@ pub enum Amount {
 
 /// How much is in a database of so many bytes. It is walked once. The only error, here and below, is `AllocError`.
 pub(crate) fn amount_in(alloc: Global, bytes: usize, db: &Db<'_>) -> Result<Amount, AllocError>
+    requires { length (members_under [] db.now) < 2 ^ 64 }
     ensures { IfOk result
         (λ amount. amount_shown amount ≡ Status.amount_of (summary_of bytes db.now)) }
 {
-    let counts = summarize(alloc, bytes, db)?;
-    Ok(Amount::Counted {
-        files: counts.files,
-        assignments: counts.assignments,
-        bytes: counts.bytes,
-    })
+    let mut members = Members::start(alloc, db)?;
+    let mut held = Inventory::new(alloc);
+    'members: while let Some(member) = members.next {
+        held.add(member.path)?;
+        members.pass()?;
+    }
+    held.amount(bytes)
 }
 
 /// How much is in some bytes, which are checked first.

@@ -1,21 +1,21 @@
 //! `status`: how the database that is asked is, beside the one that the text files make.
-ghost use Rattle.std.specs.Prelude.{◌≡◌, ◌≤◌, ◌<◌, ◌+◌, ◌^◌, Some, false, length, option_map, IfOk, OnOk};
+ghost use Rattle.std.specs.Prelude.{◌≡◌, ◌<◌, ◌+◌, ◌++◌, ◌^◌, ℕ, List, [], Some, false, length, map, option_map, IfOk, OnOk};
 ghost use Rattle.hwdb_spec.specs.Differences.{differences};
 ghost use Rattle.hwdb_spec.specs.Folders.{same};
-ghost use Rattle.hwdb_spec.specs.Tree.{IsTree, Map, map_of};
+ghost use Rattle.hwdb_spec.specs.Tree.{IsTree, Map, map_of, members_under};
 ghost use Rattle.hwdb_spec.specs.Written.{IsDatabaseOf};
 ghost use Rattle.hwdb_spec.specs.Status;
 ghost use Rattle.hwdb_spec.specs.Status.{IsAmount, IsState, IsStateOf, stale_by};
-ghost use Rattle.hwdb_spec.specs.Summary.{summary_of};
-ghost use Rattle.hwdb_inspect.specs.Views.{amount_shown, changes_of, state_shown};
-ghost use Rattle.hwdb_inspect.specs.Internal.Counting.{first_kept};
-ghost use Rattle.hwdb_inspect.specs.Internal.Pairing.{to_tell};
+ghost use Rattle.hwdb_spec.specs.Summary.{different, summary_of};
+ghost use Rattle.hwdb_inspect.specs.Views.{amount_shown, state_shown};
+ghost use Rattle.hwdb_inspect.specs.Internal.Counting.{files_in, first_kept};
+ghost use Rattle.hwdb_inspect.specs.Internal.Meeting.{changes_at, old_by};
 
 use crate::amounts::{Amount, amount_in, amount_of};
-use crate::lines::push_pair;
-use crate::pairs::{Pair, Pairs};
+use crate::inventory::Inventory;
+use crate::meeting::{Side, is_change, least, pass_over, tell};
+use crate::members::Members;
 use crate::texts::is_same;
-use crate::walk::assignments;
 use hwdb_reader::{Db, check, law_ascending, law_one_tree};
 use std::alloc::{AllocError, Global};
 
@@ -53,83 +53,99 @@ struct ChangeCount {
 }
 
 impl ChangeCount {
-    /// Counts what happened at a pattern and key. What is in `line` before is dropped. The only error, here and below, is
-    /// `AllocError`.
-    fn count(&mut self, line: &mut Vec<u8>, pair: Pair<'_, '_>) -> Result<(), AllocError>
+    /// Counts what happened at the least pattern and key that are left of two databases, and keeps the line of the first change.
+    /// The only error, here and below, is `AllocError`.
+    fn count<'a, 'b>(
+        &mut self,
+        alloc: Global,
+        old: &Members<'a>,
+        new: &Members<'b>,
+        side: Side<'a, 'b>,
+    ) -> Result<(), AllocError>
         requires { self.old.changes + 1 < 2 ^ 64 }
         ensures changes { OnOk result
-            (self.new.changes ≡ self.old.changes + length (changes_of pair.entry)) }
-        ensures first { OnOk result
-            (self.new.first.items ≡ first_kept self.old.first.items (changes_of pair.entry)) }
+            (self.new.changes ≡ self.old.changes + length (changes_at old.now new.now side.entry)) }
+        ensures first { OnOk result (self.new.first.items
+            ≡ first_kept self.old.first.items (changes_at old.now new.now side.entry)) }
     {
-        line.clear();
-        if push_pair(line, pair)? {
-            self.changes += 1;
+        if !is_change(side) {
+            return Ok(());
         }
+        self.changes += 1;
         if self.first.is_empty() {
-            self.first.extend_from_slice(line)?;
+            tell(alloc, false, &mut self.first, old, new, side)?;
         }
         Ok(())
     }
 }
 
-/// The changes that are left: how many, and the line of the first.
-fn counted(alloc: Global, pairs: Pairs<'_, '_>) -> Result<State, AllocError>
-    ensures { IfOk result (λ state. state_shown state ≡ stale_by (to_tell pairs.entry)) }
+/// Counts the old database's assignment on a side, if it has one there.
+fn count_old<'a>(held: &mut Inventory<'a>, side: Side<'a, '_>) -> Result<(), AllocError>
+    requires { held.old.assignments + length (old_by [] side) < 2 ^ 64 }
+    ensures files { OnOk result ((p : List ℕ) (rest : List (List ℕ))
+        → different (files_in held.new ++ rest) ≡ different
+        (files_in held.old ++ (map (λ f. f.path) (old_by p side.entry) ++ rest))) }
+    ensures assignments { OnOk result ((p : List ℕ) → held.new.assignments
+        ≡ held.old.assignments + length (old_by p side.entry)) }
 {
-    let mut left = pairs;
-    let mut line = Vec::new(alloc);
+    match side {
+        Side::Old(x) => held.add(x.path),
+        Side::New(_) => Ok(()),
+        Side::Both(x, _) => held.add(x.path),
+    }
+}
+
+/// How a database of so many bytes is beside another one. Both are walked side by side.
+fn compared(alloc: Global, size: usize, old: &Db<'_>, new: &Db<'_>) -> Result<Standing, AllocError>
+    requires old { IsTree old.now }
+    requires new { IsTree new.now }
+    requires few { length (members_under [] old.now) + length (members_under [] new.now) < 2 ^ 64 }
+    ensures state { IfOk result (λ s. state_shown s.state
+        ≡ stale_by (differences (map_of old.now) (map_of new.now))) }
+    ensures holds { IfOk result (λ s. option_map amount_shown s.holds
+        ≡ Some (Status.amount_of (summary_of size old.now))) }
+{
+    let mut before = Members::start(alloc, old)?;
+    let mut after = Members::start(alloc, new)?;
+    let mut held = Inventory::new(alloc);
     let mut tally = ChangeCount {
         changes: 0,
         first: Vec::new(alloc),
     };
-    'pairs: while let Some(pair) = left.next() {
-        tally.count(&mut line, pair)?;
+    'pairs: while let Some(side) = least(&before, &after) {
+        tally.count(alloc, &before, &after, side)?;
+        count_old(&mut held, side)?;
+        pass_over(side, &mut before, &mut after)?;
     }
+    let amount = held.amount(size)?;
     let ChangeCount { changes, first } = tally;
-    Ok(State::Stale { changes, first })
+    Ok(Standing {
+        state: State::Stale { changes, first },
+        holds: Some(amount),
+    })
 }
 
-/// What changed from one database to another.
-fn changes_between(alloc: Global, old: &Db<'_>, new: &Db<'_>) -> Result<State, AllocError>
-    requires old { IsTree old.now }
-    requires new { IsTree new.now }
-    ensures { IfOk result
-        (λ state. state_shown state ≡ stale_by (differences (map_of old.now) (map_of new.now))) }
-{
-    let old_ones = assignments(alloc, old)?;
-    let new_ones = assignments(alloc, new)?;
-    counted(alloc, Pairs::new(&old_ones, &new_ones))
-}
-
-/// What changed from a database to the bytes of another.
-fn changes_to(alloc: Global, old: &Db<'_>, made: &[u8]) -> Result<State, AllocError>
-    requires { IsTree old.now }
-    ensures { IfOk result (λ state. (m : Map) → IsDatabaseOf m made.now
-        → state_shown state ≡ stale_by (differences (map_of old.now) m)) }
-{
-    law_one_tree();
-    law_ascending();
-    match check(made) {
-        Ok(new) => changes_between(alloc, old, &new),
-        Err(_) => Ok(State::Broken),
-    }
-}
-
-/// How a database of so many bytes is, if they aren't those that were made.
+/// How a database of so many bytes is beside the bytes of another one.
 fn stale(alloc: Global, size: usize, old: &Db<'_>, made: &[u8]) -> Result<Standing, AllocError>
-    requires { IsTree old.now }
+    requires tree { IsTree old.now }
+    requires few { length (members_under [] old.now) + length (members_under [] old.now) < size }
     ensures state { IfOk result (λ s. (m : Map) → IsDatabaseOf m made.now
         → state_shown s.state ≡ stale_by (differences (map_of old.now) m)) }
     ensures holds { IfOk result (λ s. option_map amount_shown s.holds
         ≡ Some (Status.amount_of (summary_of size old.now))) }
 {
-    let state = changes_to(alloc, old, made)?;
-    let amount = amount_in(alloc, size, old)?;
-    Ok(Standing {
-        state,
-        holds: Some(amount),
-    })
+    law_one_tree();
+    law_ascending();
+    match check(made) {
+        Ok(new) => compared(alloc, size, old, &new),
+        Err(_) => {
+            let amount = amount_in(alloc, size, old)?;
+            Ok(Standing {
+                state: State::Broken,
+                holds: Some(amount),
+            })
+        }
+    }
 }
 
 /// How bytes are that aren't those that were made.
@@ -176,7 +192,7 @@ fn standing_of_bytes(alloc: Global, bytes: &[u8], made: &[u8]) -> Result<Standin
 
 /// How the database that is asked is, if there is one, beside the bytes that the text files make, and how much is in it.
 ///
-/// Bytes that are the same are checked, and walked once. Else both are checked and walked, with all assignments of both in memory.
+/// Bytes that are the same are checked, and walked once. Else both are checked, and walked side by side.
 pub fn standing_of(alloc: Global, asked: Option<&[u8]>, made: &[u8]) -> Result<Standing, AllocError>
     ensures state { IfOk result (λ s. (m : Map) → IsDatabaseOf m made.now
         → IsState made.now m (option_map (λ b. b.now) asked.entry) (state_shown s.state)) }

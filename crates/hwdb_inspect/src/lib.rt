@@ -2,7 +2,8 @@
 //! another.
 //!
 //! Each of these walks the whole tree, without a device. The time is that of one look at each node, and of the bytes of
-//! the patterns. `dump` holds all assignments at once, and sorts them. `diff` holds the next one of each database.
+//! the patterns. `dump` holds all assignments at once, and sorts them. `diff` and `status` hold the next one of each
+//! database.
 //!
 //! | Module | What it does |
 //! |---|---|
@@ -17,7 +18,7 @@
 //! | `summary` | how much is in a database |
 //! | `texts` | whether texts are one; `ordering`: texts in order, each once |
 //! | `freshness` | `status`: how a database is beside what the text files make |
-//! | `amounts` | how much is in a database, as `status` says it |
+//! | `amounts` | how much is in a database, as `status` says it; `inventory`: what is counted for it |
 //! | `reports` | the lines of `status`; `json_reports`: the same as JSON |
 //! | `verification` | `verify`: whether bytes are a database, and how much is in it |
 //! | `members` | the assignments of a database, one after another while it is walked |
@@ -34,6 +35,7 @@ mod difference;
 mod freshness;
 mod gifts;
 mod holding;
+mod inventory;
 mod json_changes;
 mod json_reports;
 mod laws;

@@ -140,7 +140,7 @@ fn without_repeats<'l>(texts: Vec<&'l [u8]>) -> Vec<&'l [u8]>
 }
 
 /// How many of the texts differ from each other. Most equal the one before them, so that few are left to be sorted.
-fn count_different(texts: Vec<&[u8]>) -> Result<usize, AllocError>
+pub(crate) fn count_different(texts: Vec<&[u8]>) -> Result<usize, AllocError>
     ensures { IfOk result (λ n. n ≡ different (map (λ t. t.now) texts.entry.items)) }
 {
     let mut ordered = without_repeats(texts);

@@ -7,7 +7,7 @@
 //! A node's own assignments are those of `hwdb_query`, by one call. The loop isn't: the descent there keeps at each open node what
 //! is known of the device, and passes over what can't match. That takes memory. This one enters all nodes and counts how deep they
 //! stand.
-ghost use Rattle.std.specs.Prelude.{◌≡◌, ◌<◌, ◌≤◌, ◌+◌, ◌++◌, ◌∷◌, ◌^◌, [], None, map, max, reverse, length, is_some, IfNone, IfOk, IsSomeAnd, OnOk};
+ghost use Rattle.std.specs.Prelude.{◌≡◌, ◌<◌, ◌≤◌, ◌+◌, ◌++◌, ◌^◌, [], None, map, max, reverse, length, is_some, IfNone, IfOk, IsSomeAnd, OnOk};
 ghost use Rattle.hwdb_spec.specs.Tree.{Tree, members_under, prefix_of};
 ghost use Rattle.hwdb_reader.specs.Views.{tree_of, entered_tree};
 ghost use Rattle.hwdb_inspect.specs.Views.{assignment_of};
@@ -113,40 +113,40 @@ impl<'a> Walk<'a> {
         Ok(())
     }
 
-    /// Goes on from a node that was on top of the stack: enters its next child, if there is one. Answers whether there is.
-    fn go_on(&mut self, top: OpenVisit<'a>) -> Result<bool, AllocError>
+    /// Goes on from the node on top of the stack: enters its next child, if there is one, else takes it off. Answers whether there is.
+    fn go_on(&mut self) -> Result<bool, AllocError>
+        requires some { 0 < length self.old.stack.items }
         requires none { self.old.at ≡ None }
-        requires stands { StandsOn self.old.path.items (top ∷ reverse self.old.stack.items) }
-        requires room { self.old.entered + left (top ∷ reverse self.old.stack.items) < 2 ^ 64 }
-        requires reached { length self.old.stack.items < self.old.deepest }
+        requires stands { StandsOn self.old.path.items (reverse self.old.stack.items) }
+        requires room { self.old.entered + left (reverse self.old.stack.items) < 2 ^ 64 }
+        requires reached { length self.old.stack.items ≤ self.old.deepest }
         ensures found { IfOk result (λ found. found ≡ is_some self.new.at) }
         ensures rest { OnOk result (own_of self.new.path.items self.new.at
             ++ to_come self.new.path.items (reverse self.new.stack.items)
-            ≡ to_come self.old.path.items (top.entry ∷ reverse self.old.stack.items)) }
+            ≡ to_come self.old.path.items (reverse self.old.stack.items)) }
         ensures stands { OnOk result
             (StandsOn self.new.path.items (reverse self.new.stack.items)) }
         ensures counted { OnOk result
             (self.new.entered ≡ self.old.entered + entered_one self.new.at) }
         ensures left { OnOk result (entered_one self.new.at + left (reverse self.new.stack.items)
-            ≡ left (top.entry ∷ reverse self.old.stack.items)) }
+            ≡ left (reverse self.old.stack.items)) }
         ensures fewer { OnOk result
-            (steps (reverse self.new.stack.items)
-            < steps (top.entry ∷ reverse self.old.stack.items)) }
+            (steps (reverse self.new.stack.items) < steps (reverse self.old.stack.items)) }
         ensures deepest { OnOk result
             (max self.new.deepest (deepest_to_come (reverse self.new.stack.items))
-            ≡ max self.old.deepest (deepest_to_come (top.entry ∷ reverse self.old.stack.items))) }
+            ≡ max self.old.deepest (deepest_to_come (reverse self.old.stack.items))) }
         ensures reached { OnOk result (length self.new.stack.items ≤ self.new.deepest) }
     {
-        self.path.truncate(top.length);
-        if top.done == top.inside.children() {
+        let last = self.stack.len() - 1;
+        let open = &mut self.stack[last];
+        self.path.truncate(open.length);
+        if open.done == open.inside.children() {
+            self.stack.pop();
             return Ok(false);
         }
-        let child = top.inside.child(top.done);
+        let child = open.inside.child(open.done);
+        open.done += 1;
         self.path.push(child.byte)?;
-        self.stack.push(OpenVisit {
-            done: top.done + 1,
-            ..top
-        })?;
         self.enter(child.node)?;
         Ok(true)
     }
@@ -162,8 +162,8 @@ impl<'a> Walk<'a> {
             (entered_one self.new.at + still_left self.new ≡ still_left self.old) }
     {
         self.at = None;
-        'nodes: while let Some(top) = self.stack.pop() {
-            if self.go_on(top)? {
+        'nodes: while !self.stack.is_empty() {
+            if self.go_on()? {
                 return Ok(());
             }
         }

@@ -1,8 +1,10 @@
 -- What is counted of assignments.
-use Rattle.std.specs.Prelude.{List, Option, None, Some, [], ◌∷◌, ℕ, zero, suc, ◌+◌, if◌then◌else◌}
+use Rattle.std.specs.Borrow.{Bor}
+use Rattle.std.specs.Prelude.{List, Option, None, Some, [], ◌∷◌, ◌++◌, ℕ, zero, suc, map, ◌+◌, if◌then◌else◌}
 use Rattle.hwdb_spec.specs.Differences.{Change}
 use Rattle.hwdb_spec.specs.Folders.{same}
 use Rattle.hwdb_spec.specs.Status.{first_text}
+use Rattle.hwdb_inspect.specs.declared.inventory.Inventory.{Inventory}
 
 -- the text that was counted last, if one was
 abbrev pub last_of : (count : ℕ) → (last : List ℕ) → Option (List ℕ)
@@ -23,3 +25,12 @@ turns last (text ∷ more) = turns (Some text) more + one_more last text
 abbrev pub first_kept : (kept : List ℕ) → List Change → List ℕ
 first_kept [] changes = first_text changes
 first_kept (b ∷ more) changes = b ∷ more
+
+-- the file of the last assignment that was counted, if one was
+abbrev pub last_file : Option (Bor (List ℕ)) → List (List ℕ)
+last_file None = []
+last_file (Some path) = path.now ∷ []
+
+-- the files of those that were counted
+abbrev pub files_in : Inventory → List (List ℕ)
+files_in h = map (λ t. t.now) h.files.items ++ last_file h.last

@@ -1,14 +1,16 @@
 -- The assignments of two databases that are walked side by side.
-use Rattle.std.specs.Prelude.{List, ℕ, Bool, Option, None, Some, [], ◌∷◌, ◌++◌, ◌≡◌, drop, flat_map, IfNone}
+use Rattle.std.specs.Prelude.{List, ℕ, Option, None, Some, [], ◌∷◌, ◌++◌, ◌≡◌, drop, IfNone}
 use Rattle.hwdb_spec.specs.Assignment.{Assignment}
-use Rattle.hwdb_spec.specs.Differences.{Change, are_some}
+use Rattle.hwdb_spec.specs.Differences.{Change, change_between}
+use Rattle.hwdb_spec.specs.Differences.Change.{Came, Went}
 use Rattle.hwdb_spec.specs.Tree.{Tree, values_of}
 use Rattle.hwdb_reader.specs.Views.{entered_tree}
 use Rattle.hwdb_reader.specs.declared.view.Inside.{Inside}
 use Rattle.hwdb_query.specs.Internal.Members.{own_members}
 use Rattle.hwdb_inspect.specs.declared.members.Member.{Member}
 use Rattle.hwdb_inspect.specs.declared.members.Members.{Members}
-use Rattle.hwdb_inspect.specs.Internal.Forms.{change_form}
+use Rattle.hwdb_inspect.specs.declared.meeting.Side.{Side}
+use Rattle.hwdb_inspect.specs.declared.meeting.Side.TheVariants.{Old, New, Both}
 use Rattle.hwdb_inspect.specs.Internal.Merging.{merged}
 use Rattle.hwdb_inspect.specs.Internal.Walks.{IsWalkOf, rest_of}
 
@@ -46,9 +48,41 @@ pub record IsUnderWay (t : Tree) (m : Members) : Type 0 where
 abbrev pub to_meet : Members → Members → List Change
 to_meet old new = merged (left_of old) (left_of new)
 
--- some changes were told, and then others are left
-pub record Tells (json : Bool) (before now : List ℕ) (all more : List Change) (differs : Bool) : Type 0 where
-  pub changes : List Change
-  pub are : all ≡ changes ++ more
-  pub text : now ≡ before ++ flat_map (change_form json) changes
-  pub some : differs ≡ are_some changes
+-- what the old one has there, with its pattern
+abbrev pub old_by : (pattern : List ℕ) → Side → List Assignment
+old_by pattern (Old x) = member_of pattern x ∷ []
+old_by pattern (New y) = []
+old_by pattern (Both x y) = member_of pattern x ∷ []
+
+-- what the new one has there
+abbrev pub new_by : (pattern : List ℕ) → Side → List Assignment
+new_by pattern (Old x) = []
+new_by pattern (New y) = member_of pattern y ∷ []
+new_by pattern (Both x y) = member_of pattern y ∷ []
+
+abbrev pub old_at : Members → Side → List Assignment
+old_at old side = old_by old.walk.path.items side
+
+abbrev pub new_at : Members → Side → List Assignment
+new_at new side = new_by new.walk.path.items side
+
+-- what happened there, by the two patterns
+abbrev pub changes_by : (old new : List ℕ) → Side → List Change
+changes_by old new (Old x) = Went (member_of old x) ∷ []
+changes_by old new (New y) = Came (member_of new y) ∷ []
+changes_by old new (Both x y) = change_between (member_of old x) (member_of new y)
+
+abbrev pub changes_at : (old new : Members) → Side → List Change
+changes_at old new side = changes_by old.walk.path.items new.walk.path.items side
+
+-- these are next
+abbrev pub IsNext : (old new : Members) → Side → Type 0
+IsNext old new (Old x) = old.next ≡ Some x
+IsNext old new (New y) = new.next ≡ Some y
+IsNext old new (Both x y) = (old.next ≡ Some x) × (new.next ≡ Some y)
+
+-- what happened there comes before the changes of what is after it
+abbrev pub IsMet : (old new : Members) → Side → Type 0
+IsMet old new side =
+    (xs ys : List Assignment) → left_of old ≡ old_at old side ++ xs → left_of new ≡ new_at new side ++ ys
+    → to_meet old new ≡ changes_at old new side ++ merged xs ys

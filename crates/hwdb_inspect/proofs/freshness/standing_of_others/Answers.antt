@@ -1,6 +1,7 @@
 use Rattle.std.proofs.Common.{Option, Some, refl, subst, sym}
 use Rattle.std.proofs.lemmas.Result.{IfOk-weaker}
 use Rattle.hwdb_spec.specs.Status.{Amount, IsAmount, IsStateOf, State}
+use Rattle.hwdb_inspect.proofs.FewLemmas.{few_members}
 use Rattle.hwdb_inspect.proofs.StateLemmas.{not_same}
 use Rattle.hwdb_inspect.proofs.freshness.standing_of_others.Goals as goal
 
@@ -19,3 +20,6 @@ returns-in-Ok-clause-holds c =
     IfOk-weaker c.stale.result _ _
     (λ s told. subst (λ (a : Option Amount). IsAmount (Some bytes) a) (sym told) (c.in-Ok.old, c.in-Ok.ensures.accepted, refl))
     c.stale.ensures.holds
+
+pub stale-requires-clause-few : goal.stale-requires-clause-few
+stale-requires-clause-few c = few_members c.args.bytes.now c.in-Ok.old c.in-Ok.ensures.accepted

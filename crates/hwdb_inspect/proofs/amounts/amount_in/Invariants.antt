@@ -1,0 +1,17 @@
+use Rattle.std.proofs.Common.{◌≡◌, ◌+◌, ◌++◌, [], None, map, length, IfNone}
+use Rattle.hwdb_spec.specs.Summary.{different}
+use Rattle.hwdb_spec.specs.Tree.{members_under}
+use Rattle.hwdb_inspect.specs.Internal.Counting.{files_in}
+use Rattle.hwdb_inspect.specs.Internal.Meeting.{IsUnderWay, left_of}
+use Rattle.hwdb_inspect.proofs.amounts.amount_in.Given as goal
+
+abbrev pub invariant-members : goal.invariant-members
+invariant-members l = record {
+  files : different (files_in l.held ++ map (λ f. f.path) (left_of l.members)) ≡ different (map (λ f. f.path) (members_under [] l.db));
+  count : l.held.assignments + length (left_of l.members) ≡ length (members_under [] l.db);
+  walk : IsUnderWay l.db l.members;
+  end : IfNone l.members.next (l.members.walk.at ≡ None);
+}
+
+abbrev pub decreases-members : goal.decreases-members
+decreases-members l = length (left_of l.members)

@@ -1,0 +1,20 @@
+use Rattle.std.proofs.Common.{ap, List}
+use Rattle.hwdb_spec.specs.Assignment.{Assignment}
+use Rattle.hwdb_inspect.specs.Internal.Merging.{merged}
+use Rattle.hwdb_inspect.proofs.MeetingLemmas.{alone_new, alone_old, none_left}
+use Rattle.hwdb_inspect.proofs.meeting.least.Goals as goal
+
+pub returns-in-None-None-clause-none : goal.returns-in-None-None-clause-none
+unfolding merged
+returns-in-None-None-clause-none c =
+    let old = none_left c.args.old.now c.requires.old_walk.0 c.requires.old_walk.1 c.requires.old_end c.in-None-None.is-0 in
+    let new = none_left c.args.new.now c.requires.new_walk.0 c.requires.new_walk.1 c.requires.new_end c.in-None-None.is-1 in
+    ap (λ (g : List Assignment × List Assignment). merged g.0 g.1) (λ i. (old i, new i))
+
+pub returns-in-None-Some-clause-met : goal.returns-in-None-Some-clause-met
+returns-in-None-Some-clause-met c =
+    alone_new c.args.old.now c.args.new.now c.in-None-Some.y (none_left c.args.old.now c.requires.old_walk.0 c.requires.old_walk.1 c.requires.old_end c.in-None-Some.is-0)
+
+pub returns-in-Some-None-clause-met : goal.returns-in-Some-None-clause-met
+returns-in-Some-None-clause-met c =
+    alone_old c.args.old.now c.args.new.now c.in-Some-None.x (none_left c.args.new.now c.requires.new_walk.0 c.requires.new_walk.1 c.requires.new_end c.in-Some-None.is-1)

@@ -1,0 +1,12 @@
+use Rattle.std.proofs.Common.{◌∙◌, sym}
+use Rattle.hwdb_inspect.proofs.MeetingLemmas.{met_both, met_new, met_old}
+use Rattle.hwdb_inspect.proofs.meeting.lesser.Goals as goal
+
+pub returns-in-Less-clause-met : goal.returns-in-Less-clause-met
+returns-in-Less-clause-met c = met_old c.args.old.now c.args.new.now c.args.x c.args.y c.requires.new (sym c.compare.ensures ∙ c.in-Less.is)
+
+pub returns-in-Equal-clause-met : goal.returns-in-Equal-clause-met
+returns-in-Equal-clause-met c = met_both c.args.old.now c.args.new.now c.args.x c.args.y (sym c.compare.ensures ∙ c.in-Equal.is)
+
+pub returns-in-Greater-clause-met : goal.returns-in-Greater-clause-met
+returns-in-Greater-clause-met c = met_new c.args.old.now c.args.new.now c.args.x c.args.y c.requires.old (sym c.compare.ensures ∙ c.in-Greater.is)
