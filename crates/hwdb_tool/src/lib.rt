@@ -49,6 +49,7 @@ mod failures;
 mod given;
 mod given_folders;
 mod hiding;
+mod in_parts;
 mod input_devices;
 mod laws;
 mod missing;

@@ -14,6 +14,7 @@ ghost use Rattle.hwdb_tool.specs.Views.{texts_in};
 
 use crate::answer::Answer;
 use crate::databases::asked;
+use crate::in_parts::answer_in_parts;
 use crate::input_devices::answer_input;
 use crate::printing::printed;
 use hwdb_fs::{Refusal, System};
@@ -96,6 +97,9 @@ fn query_given<D: System>(
     ensures reason { IfErr result
         (HasReason (D.System.may_fail system.now) ⊥ (D.Store.seen system.now)) }
 {
+    if let Some(answer) = answer_in_parts(alloc, root, devices, system) {
+        return Ok(answer);
+    }
     let found = asked(alloc, root, system)?;
     match answers(alloc, &found.bytes, devices, Form::Query { json }) {
         Ok(text) => Ok(Answer::new(alloc, text, 0)),
