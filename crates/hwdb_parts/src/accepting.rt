@@ -3,7 +3,7 @@ ghost use Rattle.std.specs.Prelude.{◌≡◌, ◌≤◌, ◌+◌, ℕ, List, If
 ghost use Rattle.hwdb_passes.specs.Views.{HasSections, IsRead};
 ghost use Rattle.hwdb_parts.specs.Views.{IsKept};
 
-use crate::kept::Kept;
+use crate::kept::KeptFile;
 use crate::passes::is_accepted;
 use crate::places::{Places, ends_at, read_part};
 use hwdb_passes::{open_outline, open_sections};
@@ -21,7 +21,7 @@ fn keep<P: Places>(
     size: usize,
     frame: Frame,
     strings: Vec<u8>,
-) -> Option<Kept>
+) -> Option<KeptFile>
     requires { frame.sizes.strings + vec_len strings ≡ size }
     ensures kept { IfSome result (λ k. (file : List ℕ) → P.is_of places.now file
         → IsRead header.now size strings.items file → HasSections frame.sizes file
@@ -34,7 +34,7 @@ fn keep<P: Places>(
     if !is_accepted(alloc, places, o) {
         return None;
     }
-    Some(Kept {
+    Some(KeptFile {
         frame,
         size,
         strings,
@@ -44,7 +44,7 @@ fn keep<P: Places>(
 /// Checks a file of at most so many bytes, which is read once. What is kept of it tells its strings.
 ///
 /// Of a file that isn't accepted nothing is said, as in `hwdb_passes`.
-pub fn accepted<P: Places>(alloc: Global, places: &P, most: usize) -> Option<Kept>
+pub fn accepted<P: Places>(alloc: Global, places: &P, most: usize) -> Option<KeptFile>
     ensures within { IfSome result (λ k. k.size ≤ most) }
     ensures kept { IfSome result (λ k. (file : List ℕ) → P.is_of places.now file
         → IsKept k file) }

@@ -5,7 +5,7 @@ use hwdb_reader::Frame;
 
 /// A file that was accepted: its layout, its size and its strings.
 #[derive(Drop)]
-pub struct Kept {
+pub struct KeptFile {
     /// Its layout.
     pub frame: Frame,
     /// How many bytes it has.

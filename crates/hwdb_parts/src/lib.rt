@@ -7,13 +7,16 @@
 //! | `passes` | a pass over its nodes |
 //! | `kept` | what is kept of a file that was accepted |
 //! | `accepting` | the check of a file |
+//! | `windows` | the windows of it that were read |
 #![tactic(auto)]
 
 mod accepting;
 mod kept;
 mod passes;
 mod places;
+mod windows;
 
 pub use accepting::accepted;
-pub use kept::Kept;
+pub use kept::KeptFile;
 pub use places::Places;
+pub use windows::ReadWindows;
