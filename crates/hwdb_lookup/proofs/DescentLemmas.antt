@@ -8,8 +8,8 @@ use Rattle.hwdb_spec.specs.Answers.{is_wanted}
 use Rattle.hwdb_spec.specs.Tree.{Tree, IsLive, prefix_of}
 use Rattle.hwdb_spec.specs.Tree.Tree.{Node}
 use Rattle.hwdb_spec.specs.Format.{NodeText, ChildrenText, IsDatabase, record_end, child_entry, text_at, prefix_off, layout_of, max_levels}
-use Rattle.hwdb_lookup.specs.Views.{IsOf}
-use Rattle.hwdb_lookup.specs.declared.known.Known.{Known}
+use Rattle.hwdb_lookup.specs.Internal.Parts.{MayBeOf, size_of}
+use Rattle.hwdb_lookup.specs.declared.parts.Parts.{Parts}
 use Rattle.hwdb_lookup.specs.declared.lazy_node.LazyNode.{LazyNode}
 use Rattle.hwdb_reader.specs.declared.frame.Frame.{Frame}
 use Rattle.hwdb_pattern.specs.Laws.{MatchesIsTested, DeadMatchesNothing}
@@ -19,6 +19,7 @@ use Rattle.hwdb_lookup.specs.declared.descent.Descent.{Descent}
 use Rattle.hwdb_lookup.specs.Internal.Heads.{IsHead, Fits, own_members}
 use Rattle.hwdb_lookup.specs.Internal.Descents.{Arrived, ToCome, Rest, Next, ComesOn, Comes, Enters, Landing, stack_of, found_in, wanted_under, wanted_below}
 use Rattle.hwdb_lookup.proofs.OpeningLemmas.{strings_inside}
+use Rattle.hwdb_lookup.proofs.PartsLemmas.{size_is}
 use Rattle.hwdb_lookup.proofs.TreeLemmas.{under_split, node_begins, children_begin, begins_before, prefix_placed, dead_in}
 use Rattle.hwdb_lookup.proofs.RestLemmas.{rest_ends}
 
@@ -95,7 +96,7 @@ module _ (file : List ℕ) (l : Layout) (levels off : ℕ) (path device : List �
 
 -- its root's path is live
 pub lands_from : (file : List ℕ) (o : OpenNode) (path : List ℕ) (d now : Descent) (all : List Assignment) (size : ℕ) → Enters file o.node.frame.sizes (suc o.levels) o.node.off path o.reach.device d all
-    → IsHead file o.node → IsOf o.node.known file → o.done ≡ 0 → o.path.items ≡ path ++ text_at file o.node.prefix → stack_of now ≡ stack_of d → found_in now ≡ found_in d
+    → IsHead file o.node → MayBeOf o.node.known file → o.done ≡ 0 → o.path.items ≡ path ++ text_at file o.node.prefix → stack_of now ≡ stack_of d → found_in now ≡ found_in d
     → now.left + size ≡ d.left → o.node.off + size ≡ o.node.end → Landing file o now all
 unfolding NodeText
 lands_from file o path d now all size e head known done come stack found left paid = go e.tree e.text e.whole
@@ -145,11 +146,11 @@ lands_from file o path d now all size e head known done come stack found left pa
         }
 
 -- the node's record ends where the file says
-pub node_end : (file : List ℕ) (known : Known) (f : Frame) (off : ℕ) (n : LazyNode) → (n.known ≡ known) × (n.frame ≡ f) × (n.off ≡ off) → IsHead file n → n.end ≡ record_end f.sizes file off
+pub node_end : (file : List ℕ) (known : Parts) (f : Frame) (off : ℕ) (n : LazyNode) → (n.known ≡ known) × (n.frame ≡ f) × (n.off ≡ off) → IsHead file n → n.end ≡ record_end f.sizes file off
 node_end file known f off n same head = head.end ∙ ap (λ (g : Frame). record_end g.sizes file n.off) same.1 ∙ ap (record_end f.sizes file) same.2
 
 -- a node was entered, and its path isn't live
-pub visit_passes : (file : List ℕ) (known : Known) (f : Frame) (levels off : ℕ) (path device : List ℕ) (d now : Descent) (all : List Assignment) (n : LazyNode)
+pub visit_passes : (file : List ℕ) (known : Parts) (f : Frame) (levels off : ℕ) (path device : List ℕ) (d now : Descent) (all : List Assignment) (n : LazyNode)
     → (n.known ≡ known) × (n.frame ≡ f) × (n.off ≡ off) → IsHead file n → MatchesIsTested → DeadMatchesNothing → (IsLive (path ++ text_at file n.prefix) device → ⊥)
     → stack_of now ≡ stack_of d → found_in now ≡ found_in d → now.left + (n.end - off) ≡ d.left → Enters file f.sizes levels off path device d all → Comes file device now all
 visit_passes file known f levels off path device d now all n same head matched below dead stack found left e =
@@ -161,8 +162,8 @@ visit_passes file known f levels off path device d now all n same head matched b
     (dead_in device path e.tree matched below (subst (λ p. IsLive (path ++ p) device → ⊥) prefix dead))
 
 -- a node was entered, and its path is live
-pub visit_lands : (file : List ℕ) (known : Known) (f : Frame) (levels off : ℕ) (path device : List ℕ) (d now : Descent) (all : List Assignment) (n : LazyNode) (o : OpenNode)
-    → (n.known ≡ known) × (n.frame ≡ f) × (n.off ≡ off) → IsHead file n → IsOf known file → (levels ≡ 0 → ⊥) → Arrived n (levels - 1) device o → o.path.items ≡ path ++ text_at file n.prefix
+pub visit_lands : (file : List ℕ) (known : Parts) (f : Frame) (levels off : ℕ) (path device : List ℕ) (d now : Descent) (all : List Assignment) (n : LazyNode) (o : OpenNode)
+    → (n.known ≡ known) × (n.frame ≡ f) × (n.off ≡ off) → IsHead file n → MayBeOf known file → (levels ≡ 0 → ⊥) → Arrived n (levels - 1) device o → o.path.items ≡ path ++ text_at file n.prefix
     → stack_of now ≡ stack_of d → found_in now ≡ found_in d → now.left + (n.end - off) ≡ d.left → Enters file f.sizes levels off path device d all → Landing file o now all
 visit_lands file known f levels off path device d now all n o same head m some a come stack found left e =
     let at = same.2 in
@@ -173,7 +174,7 @@ visit_lands file known f levels off path device d now all n o same head m some a
     lands_from file o path d now all (n.end - off)
     (enters_as file f.sizes o.node.frame.sizes levels (suc o.levels) off o.node.off path device o.reach.device d all
     (sym (ap (λ (x : LazyNode). x.frame.sizes) a.node ∙ ap (λ (g : Frame). g.sizes) same.1)) (above_none levels o.levels some deep) (sym (there ∙ at)) (sym a.same_device) e)
-    (subst (IsHead file) (sym a.node) head) (subst (λ k. IsOf k file) (sym (ap (λ (x : LazyNode). x.known) a.node ∙ same.0)) m) a.none_done
+    (subst (IsHead file) (sym a.node) head) (subst (λ k. MayBeOf k file) (sym (ap (λ (x : LazyNode). x.known) a.node ∙ same.0)) m) a.none_done
     (come ∙ ap (λ (x : LazyNode). path ++ text_at file x.prefix) (sym a.node)) stack found left (omega (arith, at, long, there, ends))
 
 -- ---- the node on top goes on
@@ -316,7 +317,7 @@ taken_off items rest i n o h e is =
 
 -- what comes, by the node on top
 pub goes_from : (file device : List ℕ) (o : OpenNode) (stack below : List OpenNode) (found : List Assignment) (left : ℕ) (all : List Assignment) → stack ≡ o ∷ below
-    → ComesOn file device stack found left all → IsOf o.node.known file × (o.reach.device ≡ device) × ComesOn file o.reach.device (o ∷ below) found left all
+    → ComesOn file device stack found left all → MayBeOf o.node.known file × (o.reach.device ≡ device) × ComesOn file o.reach.device (o ∷ below) found left all
 unfolding ToCome
 goes_from file device o stack below found left all top c =
     let t = subst (λ s. ToCome file device s c.rest left) top c.to_come in
@@ -329,11 +330,11 @@ pub comes_at : (file device same : List ℕ) (stack now : List OpenNode) (found 
     → ComesOn file device stack found left all → ComesOn file same now found left all
 comes_at file device same stack now found left all d s c = subst (λ (g : List ℕ × List OpenNode). ComesOn file g.0 g.1 found left all) (λ i. (d i, s i)) c
 
-pub begins : (file : List ℕ) (known : Known) (l : Layout) (t : Tree) (device start path : List ℕ) (d : Descent) → IsOf known file → l ≡ layout_of file → IsDatabase file t → d.stack.items ≡ [] → d.found.items ≡ []
-    → d.left ≡ length known.buffer.now → path ≡ [] → start ≡ device → Enters file l max_levels l.root path start d (wanted_under device [] t)
+pub begins : (file : List ℕ) (known : Parts) (l : Layout) (t : Tree) (device start path : List ℕ) (d : Descent) → MayBeOf known file → l ≡ layout_of file → IsDatabase file t → d.stack.items ≡ [] → d.found.items ≡ []
+    → d.left ≡ size_of known → path ≡ [] → start ≡ device → Enters file l max_levels l.root path start d (wanted_under device [] t)
 begins file known l t device start path d m is h stack found left none same =
     enters_at_path file l max_levels l.root [] path device start d (wanted_under device [] t) (sym none) (sym same)
-    (root_enters file l t device d is h (ap reverse stack) (ap (map assignment_of_answer) found) (left ∙ sym m.size))
+    (root_enters file l t device d is h (ap reverse stack) (ap (map assignment_of_answer) found) (left ∙ sym (size_is known file m)))
 
 no_items : (items : List OpenNode) → length items ≡ 0 → reverse items ≡ []
 no_items [] h = refl

@@ -9,28 +9,9 @@ use Rattle.byteorder.specs.Endian.{little_from}
 use Rattle.hwdb_spec.specs.declared.Layout.{Layout}
 use Rattle.hwdb_spec.specs.Tree.{Value}
 use Rattle.hwdb_spec.specs.Format.{number_at, text_at, value_at, IsPlace, IsValue, record_end, child_entry, child_byte, child_off, children_count, values_count, value_entries, prefix_off}
-use Rattle.hwdb_lookup.specs.Views.{IsOf, Stops}
+use Rattle.hwdb_lookup.specs.Views.{IsOf}
 use Rattle.hwdb_lookup.specs.Internal.Agreement.{AgreeIn}
 use Rattle.hwdb_lookup.specs.declared.known.Known.{Known}
-use Rattle.hwdb_lookup.specs.declared.stop.Stop.{Stop}
-use Rattle.hwdb_lookup.specs.declared.stop.Stop.TheVariants.{Missing, Fault, LongPath, Memory}
-
--- why it stops stays so where more is said of a file
-pub stops_weaker : (known : Known) (P Q : List ℕ → Type 0) → ((file : List ℕ) → IsOf known file → Q file → P file) → (s : Stop) → Stops known P s → Stops known Q s
-stops_weaker known P Q more (Missing block) h = h
-stops_weaker known P Q more (Fault fault) h = λ file is q. h file is (more file is q)
-stops_weaker known P Q more LongPath h = h
-stops_weaker known P Q more Memory h = h
-
--- an error that is handed on
-pub stop_given : {A : Type 0} (known : Known) (P Q : List ℕ → Type 0) → ((file : List ℕ) → IsOf known file → Q file → P file) → (s : Stop) (r : Result A Stop) → IsErrAnd r (λ t. t ≡ s) → Stops known P s → IfErr r (λ t. Stops known Q t)
-stop_given known P Q more s (Ok x) is h = tt
-stop_given known P Q more s (Err t) is h = stops_weaker known P Q more t (subst (Stops known P) (sym is) h)
-
--- an error that is returned
-pub stop_returned : {A : Type 0} (known : Known) (P Q : List ℕ → Type 0) → ((file : List ℕ) → IsOf known file → Q file → P file) → (r : Result A Stop) → IfErr r (λ t. Stops known P t) → IfErr r (λ t. Stops known Q t)
-stop_returned known P Q more (Ok x) h = tt
-stop_returned known P Q more (Err t) h = stops_weaker known P Q more t h
 
 -- the buffer may be the file
 pub itself : (known : Known) → IsOf known known.buffer.now

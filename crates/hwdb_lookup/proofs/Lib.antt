@@ -1,4 +1,5 @@
 pub mod KnownLemmas
+pub mod PartsLemmas
 pub mod OpeningLemmas
 pub mod TextLemmas
 pub mod TreeLemmas

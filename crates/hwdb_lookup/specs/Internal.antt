@@ -1,4 +1,5 @@
 -- What the proofs of this crate speak of.
 pub mod Agreement
+pub mod Parts
 pub mod Heads
 pub mod Descents

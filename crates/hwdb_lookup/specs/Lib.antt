@@ -1,2 +1,3 @@
 pub mod Views
+pub mod Windows
 pub mod Internal

@@ -4,12 +4,12 @@ ghost use Rattle.hwdb_pattern.specs.Laws.{MatchesIsTested, DeadMatchesNothing, D
 ghost use Rattle.hwdb_pattern.specs.Views.{StandsFor};
 ghost use Rattle.hwdb_spec.specs.Assignment.{Assignment};
 ghost use Rattle.hwdb_spec.specs.Format.{text_at};
-ghost use Rattle.hwdb_lookup.specs.Views.{IsOf, Stops};
+ghost use Rattle.hwdb_lookup.specs.Internal.Parts.{MayBeOf, Halts, size_of};
 ghost use Rattle.hwdb_lookup.specs.Internal.Heads.{IsHead};
 ghost use Rattle.hwdb_lookup.specs.Internal.Descents.{IsFed, IsArrival, HasCome, Rest, IsNext};
 
-use crate::known::Known;
 use crate::lazy_node::LazyNode;
+use crate::parts::Parts;
 use crate::stop::Stop;
 use hwdb_pattern::{Reach, dead_matches_nothing, dead_stays_dead, matches_is_tested};
 use std::alloc::Global;
@@ -65,17 +65,18 @@ const MAX_PATH: usize = 65_536;
 /// that is too long stops the lookup.
 fn along_prefix<'d>(
     alloc: Global,
-    known: Known<'_>,
+    known: Parts<'_>,
     prefix: usize,
     reach: Reach<'d>,
     path: &mut Vec<u8>,
 ) -> Result<Option<Reach<'d>>, Stop>
-    requires place { prefix < length known.buffer.now }
+    requires place { prefix < size_of known }
     requires stands { StandsFor reach path.old.items }
-    ensures fed { IfOk result (λ o. (file : List ℕ) → IsOf known.entry file
+    ensures fed { IfOk result (λ o. (file : List ℕ) → MayBeOf known.entry file
         → IsFed reach.entry.device path.old.items (text_at file prefix) path.new.items o) }
     ensures stands { IfOk result (λ o. IfSome o (λ r. StandsFor r path.new.items)) }
-    ensures stop { IfErr result (λ s. Stops known.entry (λ _. Unit {0}) s) }
+    ensures device { IfOk result (λ o. IfSome o (λ r. r.device ≡ reach.entry.device)) }
+    ensures stop { IfErr result (λ s. Halts known.entry (λ _. Unit {0}) s) }
 {
     path_laws();
     let mut reach = reach;
@@ -105,9 +106,9 @@ pub fn arrive<'a, 'd>(
 ) -> Result<Option<OpenNode<'a, 'd>>, Stop>
     requires { StandsFor reach path.items }
     ensures arrival { IfOk result (λ o. IsArrival node.entry levels reach.entry.device o) }
-    ensures come { IfOk result (λ o. (file : List ℕ) → IsOf node.entry.known file
+    ensures come { IfOk result (λ o. (file : List ℕ) → MayBeOf node.entry.known file
         → HasCome reach.entry.device path.items (text_at file node.entry.prefix) o) }
-    ensures stop { IfErr result (λ s. Stops node.entry.known (λ _. Unit {0}) s) }
+    ensures stop { IfErr result (λ s. Halts node.entry.known (λ _. Unit {0}) s) }
 {
     let mut path = path;
     let Some(reach) = along_prefix(alloc, node.known, node.prefix, reach, &mut path)? else {
@@ -127,12 +128,11 @@ impl<'a, 'd> OpenNode<'a, 'd> {
     pub fn next(&self) -> Result<Option<Candidate>, Stop>
         requires { StandsFor self.now.reach self.now.path.items }
         ensures next { IfOk result (λ k. (file : List ℕ) (from : ℕ) (assigned : List Assignment)
-            → IsOf self.now.node.known file → Rest file self.now self.now.done from assigned
+            → MayBeOf self.now.node.known file → Rest file self.now self.now.done from assigned
             → IsNext file self.now from assigned k) }
-        ensures stop { IfErr result (λ s. Stops self.now.node.known (λ _. Unit {0}) s) }
+        ensures stop { IfErr result (λ s. Halts self.now.node.known (λ _. Unit {0}) s) }
     {
         path_laws();
-        self.node.need_children()?;
         let children = self.node.children();
         let mut done = self.done;
         while done < children {

@@ -8,16 +8,16 @@ ghost use Rattle.hwdb_pattern.specs.Views.{StandsFor};
 ghost use Rattle.hwdb_query.specs.Views.{assignment_of_answer};
 ghost use Rattle.hwdb_spec.specs.Assignment.{Assignment};
 ghost use Rattle.hwdb_spec.specs.Answers.{is_wanted};
-ghost use Rattle.hwdb_lookup.specs.Views.{IsOf, Stops};
+ghost use Rattle.hwdb_lookup.specs.Internal.Parts.{MayBeOf, Halts, size_of};
 ghost use Rattle.hwdb_spec.specs.Tree.{Tree, Value, members_under};
 ghost use Rattle.hwdb_spec.specs.Format.{IsDatabase, layout_of};
 ghost use Rattle.hwdb_lookup.specs.Internal.Heads.{AreValues, own_members, value_of};
 ghost use Rattle.hwdb_lookup.specs.Internal.Descents.{AllStand, stack_of, found_in, Comes, ComesOn, Enters, Lands};
 
 use crate::arrivals::{OpenNode, arrive, path_laws};
-use crate::known::Known;
 use crate::lazy_node::LazyNode;
 use crate::nodes::{StoredValue, enter};
+use crate::parts::Parts;
 use crate::stop::Stop;
 use hwdb_pattern::Reach;
 use hwdb_query::StoredAssignment;
@@ -79,10 +79,10 @@ fn collect<'a>(
     into: &mut Vec<StoredAssignment<'a>>,
 ) -> Result<(), Stop>
     ensures collected { OnOk result ((file : List ℕ) (values : List Value)
-        → IsOf node.entry.known file → AreValues file node.entry values
+        → MayBeOf node.entry.known file → AreValues file node.entry values
         → map assignment_of_answer into.new.items
         ≡ map assignment_of_answer into.old.items ++ own_members pattern.now values) }
-    ensures stop { IfErr result (λ s. Stops node.entry.known
+    ensures stop { IfErr result (λ s. Halts node.entry.known
         (λ file. (values : List Value) × AreValues file node.entry values) s) }
 {
     let shared = shared(alloc, pattern)?;
@@ -100,10 +100,10 @@ fn collect_matching<'a>(
 ) -> Result<(), Stop>
     requires { StandsFor open.now.reach open.now.path.items }
     ensures collected { OnOk result ((file : List ℕ) (values : List Value)
-        → IsOf open.now.node.known file → AreValues file open.now.node values
+        → MayBeOf open.now.node.known file → AreValues file open.now.node values
         → map assignment_of_answer into.new.items ≡ map assignment_of_answer into.old.items
         ++ filter (is_wanted open.now.reach.device) (own_members open.now.path.items values)) }
-    ensures stop { IfErr result (λ s. Stops open.now.node.known
+    ensures stop { IfErr result (λ s. Halts open.now.node.known
         (λ file. (values : List Value) × AreValues file open.now.node values) s) }
 {
     path_laws();
@@ -147,7 +147,7 @@ impl<'a, 'd> Descent<'a, 'd> {
     }
 
     /// Collects what the values of a node assign, and puts it on the stack if it has children.
-    fn land(&mut self, alloc: Global, known: Known<'a>, open: OpenNode<'a, 'd>) -> Result<(), Stop>
+    fn land(&mut self, alloc: Global, known: Parts<'a>, open: OpenNode<'a, 'd>) -> Result<(), Stop>
         requires stands { StandsFor open.reach open.path.items }
         requires same { open.node.known ≡ known }
         requires all { AllStand known (stack_of self.old) }
@@ -156,7 +156,7 @@ impl<'a, 'd> Descent<'a, 'd> {
         ensures steps { OnOk result
             (length self.new.stack.items ≤ length self.old.stack.items + 1) }
         ensures left { OnOk result (self.new.left ≡ self.old.left) }
-        ensures stop { IfErr result (λ s. Stops known.entry
+        ensures stop { IfErr result (λ s. Halts known.entry
             (λ file. (values : List Value) × AreValues file open.entry.node values) s) }
     {
         collect_matching(alloc, &open, &mut self.found)?;
@@ -172,24 +172,24 @@ impl<'a, 'd> Descent<'a, 'd> {
     fn visit(
         &mut self,
         alloc: Global,
-        known: Known<'a>,
+        known: Parts<'a>,
         frame: Frame,
         levels: usize,
         off: usize,
         path: Vec<u8>,
         reach: Reach<'d>,
     ) -> Result<(), Stop>
-        requires inside { frame.sizes.strings ≤ length known.buffer.now }
+        requires inside { frame.sizes.strings ≤ size_of known }
         requires stands { StandsFor reach path.items }
         requires all { AllStand known (stack_of self.old) }
         ensures all { OnOk result (AllStand known.entry (stack_of self.new)) }
         ensures comes { OnOk result ((file : List ℕ) (all : List Assignment)
-            → IsOf known.entry file
+            → MayBeOf known.entry file
             → Enters file frame.sizes levels off path.items reach.entry.device self.old all
             → Comes file reach.entry.device self.new all) }
         ensures steps { OnOk result (self.new.left + length self.new.stack.items + 23
             ≤ self.old.left + length self.old.stack.items) }
-        ensures stop { IfErr result (λ s. Stops known.entry (λ file. (all : List Assignment)
+        ensures stop { IfErr result (λ s. Halts known.entry (λ file. (all : List Assignment)
             × Enters file frame.sizes levels off path.items reach.entry.device self.old all)
             s) }
     {
@@ -211,16 +211,16 @@ impl<'a, 'd> Descent<'a, 'd> {
 
     /// Goes on from the node on top of the stack. Visits its next child that may be live. If there is none, the node is
     /// done, and is taken off.
-    fn go_on(&mut self, alloc: Global, known: Known<'a>) -> Result<(), Stop>
+    fn go_on(&mut self, alloc: Global, known: Parts<'a>) -> Result<(), Stop>
         requires some { 0 < length self.old.stack.items }
         requires all { AllStand known (stack_of self.old) }
         ensures all { OnOk result (AllStand known.entry (stack_of self.new)) }
         ensures comes { OnOk result ((file device : List ℕ) (all : List Assignment)
-            → IsOf known.entry file
+            → MayBeOf known.entry file
             → Comes file device self.old all → Comes file device self.new all) }
         ensures steps { OnOk result (self.new.left + length self.new.stack.items
             < self.old.left + length self.old.stack.items) }
-        ensures stop { IfErr result (λ s. Stops known.entry (λ file. (device : List ℕ)
+        ensures stop { IfErr result (λ s. Halts known.entry (λ file. (device : List ℕ)
             × (all : List Assignment) × Comes file device self.old all) s) }
     {
         let last = self.stack.len() - 1;
@@ -241,22 +241,22 @@ impl<'a, 'd> Descent<'a, 'd> {
 /// The assignments of a file whose patterns match the device, node by node.
 pub fn descend<'a>(
     alloc: Global,
-    known: Known<'a>,
+    known: Parts<'a>,
     frame: Frame,
     device: &[u8],
 ) -> Result<Vec<StoredAssignment<'a>>, Stop>
-    requires { frame.sizes.strings ≤ length known.buffer.now }
-    ensures found { IfOk result (λ found. (file : List ℕ) (t : Tree) → IsOf known.entry file
+    requires { frame.sizes.strings ≤ size_of known }
+    ensures found { IfOk result (λ found. (file : List ℕ) (t : Tree) → MayBeOf known.entry file
         → frame.sizes ≡ layout_of file → IsDatabase file t
         → map assignment_of_answer found.items
         ≡ filter (is_wanted device.now) (members_under [] t)) }
-    ensures stop { IfErr result (λ s. Stops known.entry
+    ensures stop { IfErr result (λ s. Halts known.entry
         (λ file. (t : Tree) × (frame.sizes ≡ layout_of file) × IsDatabase file t) s) }
 {
     let mut descent = Descent {
         stack: Vec::with_capacity(alloc, DEPTH)?,
         found: Vec::new(alloc),
-        left: known.buffer.len(),
+        left: known.len(),
     };
     let start = Reach::start(alloc, device);
     descent.visit(

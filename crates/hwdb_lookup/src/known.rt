@@ -1,6 +1,7 @@
 //! The bytes of a file of which some blocks were read.
-ghost use Rattle.std.specs.Prelude.{◌≡◌, ◌≤◌, ◌<◌, ◌+◌, ℕ, List, length, take, IfOk, OnOk, IfErr};
+ghost use Rattle.std.specs.Prelude.{◌≡◌, ◌≤◌, ◌<◌, ◌+◌, ◌-◌, ℕ, List, length, take, IfOk, OnOk, IfErr};
 ghost use Rattle.hwdb_spec.specs.Format.{text_at};
+ghost use Rattle.hwdb_passes.specs.Views.{IsPart};
 ghost use Rattle.hwdb_lookup.specs.Views.{IsOf, Stops};
 ghost use Rattle.hwdb_lookup.specs.Internal.Agreement.{AgreeIn};
 
@@ -37,6 +38,19 @@ impl<'a> Known<'a> {
             }
         }
         Ok(())
+    }
+
+    /// The bytes from `from` to `to`.
+    pub fn part(self, from: usize, to: usize) -> Result<&'a [u8], Stop>
+        requires ordered { from ≤ to }
+        requires inside { to ≤ length self.buffer.now }
+        ensures long { IfOk result (λ p. length p.now ≡ to - from) }
+        ensures read { IfOk result (λ p. (file : List ℕ) → IsOf self.entry file
+            → IsPart file from p.now) }
+        ensures stop { IfErr result (λ s. Stops self.entry (λ _. Unit {0}) s) }
+    {
+        self.need(from, to)?;
+        Ok(&self.buffer[from..to])
     }
 
     /// The string at `i`: up to the next byte 0.

@@ -11,6 +11,8 @@
 //! |---|---|
 //! | `stop` | why a lookup stops before its end |
 //! | `known` | the bytes of a file, as far as they were read |
+//! | `windows` | a file of which the strings were read, and windows of its nodes |
+//! | `parts` | both |
 //! | `opening` | the header |
 //! | `lazy_node` | a node whose record was entered |
 //! | `nodes` | a node's record, its children and its values |
@@ -26,8 +28,11 @@ mod lazy_node;
 mod lookups;
 mod nodes;
 mod opening;
+mod parts;
 mod stop;
+mod windows;
 
 pub use known::{BLOCK, Known};
-pub use lookups::lookup;
+pub use lookups::{lookup, lookup_windows};
 pub use stop::Stop;
+pub use windows::{WINDOW, Windows};

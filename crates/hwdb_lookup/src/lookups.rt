@@ -5,11 +5,14 @@ ghost use Rattle.hwdb_spec.specs.Answers.{effective_of};
 ghost use Rattle.hwdb_spec.specs.Format.{IsDatabase};
 ghost use Rattle.hwdb_query.specs.Views.{pairs_bytes};
 ghost use Rattle.hwdb_lookup.specs.Views.{IsOf, Stops};
+ghost use Rattle.hwdb_lookup.specs.Windows.{IsOfWindows};
 
 use crate::descent::descend;
 use crate::known::Known;
 use crate::opening::frame_of;
+use crate::parts::Parts;
 use crate::stop::Stop;
+use crate::windows::Windows;
 use hwdb_query::effective_among;
 use std::alloc::Global;
 
@@ -36,7 +39,29 @@ pub fn lookup<'a>(
         (λ s. Stops known.entry (λ file. (t : Tree) × IsDatabase file t) s) }
 {
     let frame = frame_of(known)?;
-    let found = descend(alloc, known, frame, device)?;
+    let found = descend(alloc, Parts::Blocks(known), frame, device)?;
+    let pairs = effective_among(alloc, &found)?;
+    Ok(pairs)
+}
+
+/// The same, of a file that was accepted before, and of which windows were read. If bytes of the nodes are needed that
+/// no window has, [`Stop::Missing`] has the offset of the first. One window there, or the file's last, has them.
+///
+/// [`Stop::LongPath`] comes too if a record has more bytes than a window.
+pub fn lookup_windows<'a>(
+    alloc: Global,
+    windows: Windows<'a>,
+    device: &[u8],
+) -> Result<Vec<(&'a [u8], &'a [u8])>, Stop>
+    ensures answer { IfOk result (λ list. (file : List ℕ) (t : Tree)
+        → IsOfWindows windows.entry file → IsDatabase file t
+        → pairs_bytes list.items ≡ effective_of (answers device.now t)) }
+{
+    let frame = windows.outline.frame;
+    if frame.sizes.strings > windows.outline.size {
+        return Err(Stop::LongPath);
+    }
+    let found = descend(alloc, Parts::Windows(windows), frame, device)?;
     let pairs = effective_among(alloc, &found)?;
     Ok(pairs)
 }

@@ -1,16 +1,14 @@
-//! The records of nodes, of a file of which some blocks were read. Each is checked when it is entered.
-ghost use Rattle.std.specs.Prelude.{◌≡◌, ◌≤◌, ◌<◌, ◌+◌, ◌*◌, ℕ, List, length, IfOk, OnOk, IfErr};
+//! The records of nodes, of a file of which some parts were read. Each is checked when it is entered.
+ghost use Rattle.std.specs.Prelude.{◌≡◌, ◌≤◌, ◌<◌, ◌+◌, ◌*◌, ◌↔◌, ℕ, List, length, IfOk, OnOk, IfErr, IsTrue, SomeIff};
 ghost use Rattle.hwdb_spec.specs.Format.{child_entry, child_byte, child_off, children_count, values_count, value_entries, value_at, record_end, prefix_off, IsPlace, IsValue};
-ghost use Rattle.hwdb_lookup.specs.Views.{IsOf, Stops};
-ghost use Rattle.hwdb_lookup.specs.Internal.Agreement.{AgreeIn};
+ghost use Rattle.hwdb_lookup.specs.Internal.Parts.{MayBeOf, Halts, size_of};
 ghost use Rattle.hwdb_lookup.specs.Internal.Heads.{IsHead, Fits, value_of};
 
-use crate::known::Known;
 use crate::lazy_node::LazyNode;
+use crate::parts::Parts;
 use crate::stop::Stop;
 use hwdb_reader::{
-    Frame, check_value, child_entry_at, is_place, record_end_within, u16_at, u32_at, u64_at,
-    value_entry_at,
+    Frame, child_entry_at, record_end_within, u16_at, u32_at, u64_at, value_entry_at,
 };
 use hwdb_spec::DbFault;
 
@@ -38,36 +36,73 @@ pub struct StoredValue<'a> {
     pub path: &'a [u8],
 }
 
+/// Whether the offset is in the string section.
+#[inline(always)]
+fn is_string(known: Parts<'_>, frame: Frame, i: usize) -> bool
+    ensures { IsTrue result ↔ (frame.sizes.strings ≤ i) × (i < size_of known.entry) }
+{
+    frame.sizes.strings <= i && i < known.len()
+}
+
+/// How many bytes the record has that begins with these, if they are at most so many. No sum wraps.
+#[tactic(auto, unfolding(hwdb_spec::specs::Format::record_end))]
+fn record_size(b: &[u8], l: Frame, most: usize) -> Option<usize>
+    requires { 24 ≤ length b.now }
+    ensures { SomeIff result (record_end l.sizes b.now 0 ≤ most) (record_end l.sizes b.now 0) }
+{
+    let count = b[8] as usize;
+    let values = u64_at(b, 16);
+    match l.sizes.child_size.checked_mul(count) {
+        None => None,
+        Some(children) => match l.sizes.node_size.checked_add(children) {
+            None => None,
+            Some(entries) => match l.sizes.value_size.checked_mul(values) {
+                None => None,
+                Some(size) => match entries.checked_add(size) {
+                    None => None,
+                    Some(end) => { if end <= most { Some(end) } else { None } }
+                },
+            },
+        },
+    }
+}
+
 /// Enters the record at `off`. It has to end before the string section, and its prefix has to be in that.
 #[tactic(auto, unfolding(hwdb_spec::specs::Format::record_end))]
-pub fn enter<'a>(known: Known<'a>, frame: Frame, off: usize) -> Result<LazyNode<'a>, Stop>
-    requires { frame.sizes.strings ≤ length known.buffer.now }
+pub fn enter<'a>(known: Parts<'a>, frame: Frame, off: usize) -> Result<LazyNode<'a>, Stop>
+    requires { frame.sizes.strings ≤ size_of known }
     ensures node { IfOk result (λ n. (n.known ≡ known.entry) × (n.frame ≡ frame)
         × (n.off ≡ off)) }
-    ensures head { IfOk result (λ n. (file : List ℕ) → IsOf known.entry file → IsHead file n) }
-    ensures stop { IfErr result (λ s. Stops known.entry (λ file. Fits frame.sizes file off) s) }
+    ensures head { IfOk result (λ n. (file : List ℕ) → MayBeOf known.entry file → IsHead file n) }
+    ensures stop { IfErr result
+        (λ s. Halts known.entry (λ file. Fits frame.sizes file off) s) }
 {
     let limit = frame.sizes.strings;
     if limit < off || limit - off < frame.sizes.node_size {
         return Err(Stop::Fault(DbFault::Place(off as u64)));
     }
-    known.need(off, off + 24)?;
-    let buffer = known.buffer;
-    let Some(end) = record_end_within(buffer, frame, off, off, limit) else {
+    let fields = known.part(off, off + 24)?;
+    let Some(size) = record_size(fields, frame, limit - off) else {
         return Err(Stop::Fault(DbFault::Place(off as u64)));
     };
-    let prefix = u64_at(buffer, off);
-    if !is_place(buffer, frame, prefix) {
+    let bytes = known.part(off, off + size)?;
+    // The same bytes once more, so it is as long.
+    if record_end_within(bytes, frame, 0, 0, bytes.len()).is_none() {
+        return Err(Stop::LongPath);
+    }
+    let prefix = u64_at(bytes, 0);
+    if !is_string(known, frame, prefix) {
         return Err(Stop::Fault(DbFault::StringOffset(off as u64)));
     }
     Ok(LazyNode {
         known,
         frame,
         off,
+        bytes,
         prefix,
-        children: buffer[off + 8] as usize,
-        values: u64_at(buffer, off + 16),
-        end,
+        children: bytes[8] as usize,
+        values: u64_at(bytes, 16),
+        end: off + size,
     })
 }
 
@@ -79,64 +114,58 @@ impl<'a> LazyNode<'a> {
         self.children
     }
 
-    /// Stops if a block of the child entries wasn't read.
+    /// The child entry `i`, counted from 0.
     #[tactic(auto, unfolding(hwdb_spec::specs::Format::record_end))]
-    pub fn need_children(self) -> Result<(), Stop>
-        ensures read { OnOk result ((file : List ℕ) → IsOf self.entry.known file
-            → AgreeIn file self.entry.known.buffer.now
-            (child_entry self.entry.frame.sizes self.entry.off 0)
-            (child_entry self.entry.frame.sizes self.entry.off self.entry.children)) }
-        ensures stop { IfErr result (λ s. Stops self.entry.known (λ _. Unit {0}) s) }
-    {
-        let sizes = self.frame.sizes;
-        let first = self.off + sizes.node_size;
-        self.known
-            .need(first, first + sizes.child_size * self.children)
-    }
-
-    /// The child entry `i`, counted from 0, as the buffer has it.
     pub fn child(self, i: usize) -> ChildEntry
         requires { i < self.children }
-        ensures byte { result.byte ≡ child_byte self.entry.known.buffer.now
-            (child_entry self.entry.frame.sizes self.entry.off i) }
-        ensures place { result.off ≡ child_off self.entry.known.buffer.now
-            (child_entry self.entry.frame.sizes self.entry.off i) }
+        ensures { (file : List ℕ) → IsHead file self.entry
+            → (result.byte ≡ child_byte file
+            (child_entry self.entry.frame.sizes self.entry.off i))
+            × (result.off ≡ child_off file
+            (child_entry self.entry.frame.sizes self.entry.off i)) }
     {
-        let buffer = self.known.buffer;
-        let entry = child_entry_at(buffer, self.frame, self.off, i);
+        let entry = child_entry_at(self.bytes, self.frame, 0, i);
         ChildEntry {
-            byte: buffer[entry],
-            off: u64_at(buffer, entry + 8),
+            byte: self.bytes[entry],
+            off: u64_at(self.bytes, entry + 8),
         }
     }
 
     /// The value `i`, counted from 0. Its strings have to be in the string section, and its priority isn't 0.
     pub fn value(self, i: usize) -> Result<StoredValue<'a>, Stop>
         requires { i < self.values }
-        ensures read { IfOk result (λ v. (file : List ℕ) → IsOf self.entry.known file
+        ensures read { IfOk result (λ v. (file : List ℕ) → MayBeOf self.entry.known file
             → IsHead file self.entry
             → value_of v ≡ value_at file (value_entries self.entry.frame.sizes file self.entry.off
             + self.entry.frame.sizes.value_size * i)) }
-        ensures stop { IfErr result (λ s. Stops self.entry.known (λ file. IsHead file self.entry
+        ensures stop { IfErr result (λ s. Halts self.entry.known (λ file. IsHead file self.entry
             × IsValue self.entry.frame.sizes file
             (value_entries self.entry.frame.sizes file self.entry.off
             + self.entry.frame.sizes.value_size * i)) s) }
     {
-        let buffer = self.known.buffer;
-        let entry = value_entry_at(buffer, self.frame, self.off, i);
-        self.known.need(entry, entry + 32)?;
-        if let Err(fault) = check_value(buffer, self.frame, entry) {
-            return Err(Stop::Fault(fault));
+        let entry = value_entry_at(self.bytes, self.frame, 0, i);
+        let key = u64_at(self.bytes, entry);
+        if !is_string(self.known, self.frame, key) {
+            return Err(Stop::Fault(DbFault::StringOffset(self.off as u64)));
         }
-        let key = self.known.text(u64_at(buffer, entry))?;
-        let value = self.known.text(u64_at(buffer, entry + 8))?;
-        let path = self.known.text(u64_at(buffer, entry + 16))?;
+        let value = u64_at(self.bytes, entry + 8);
+        if !is_string(self.known, self.frame, value) {
+            return Err(Stop::Fault(DbFault::StringOffset(self.off as u64)));
+        }
+        let path = u64_at(self.bytes, entry + 16);
+        if !is_string(self.known, self.frame, path) {
+            return Err(Stop::Fault(DbFault::StringOffset(self.off as u64)));
+        }
+        let priority = u16_at(self.bytes, entry + 28);
+        if priority == 0 {
+            return Err(Stop::Fault(DbFault::Priority(self.off as u64)));
+        }
         Ok(StoredValue {
-            priority: u16_at(buffer, entry + 28),
-            line: u32_at(buffer, entry + 24),
-            key,
-            value,
-            path,
+            priority,
+            line: u32_at(self.bytes, entry + 24),
+            key: self.known.text(key)?,
+            value: self.known.text(value)?,
+            path: self.known.text(path)?,
         })
     }
 }

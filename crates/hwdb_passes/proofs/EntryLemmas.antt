@@ -12,7 +12,7 @@ use Rattle.hwdb_spec.specs.Format.{number_at, text_at, value_at, key_off, file_p
 use Rattle.hwdb_passes.specs.Views.{IsPart, IsOf}
 use Rattle.hwdb_passes.specs.Internal.{values_at, IsInside, ValuesStand}
 use Rattle.hwdb_passes.specs.declared.outline.Outline.{Outline}
-use Rattle.hwdb_passes.proofs.PartLemmas.{number_is, front_is}
+use Rattle.hwdb_passes.specs.Lemmas.Parts.{number_is, front_is}
 
 then_less : (o a b : Ordering) → (a ≡ Less → b ≡ Less) → ordering_then o a ≡ Less → ordering_then o b ≡ Less
 then_less Less a b f h = h

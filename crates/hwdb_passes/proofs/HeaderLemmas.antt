@@ -3,7 +3,7 @@ use Rattle.std.proofs.Common.{◌≡◌, ◌≤◌, ◌<◌, ◌-◌, ℕ, zero,
 use Rattle.hwdb_spec.specs.declared.Layout.{Layout}
 use Rattle.hwdb_spec.specs.Format.{layout_of, number_at, IsHeader}
 use Rattle.hwdb_passes.specs.Views.{IsPart, HasSections}
-use Rattle.hwdb_passes.proofs.PartLemmas.{byte_is, number_is}
+use Rattle.hwdb_passes.specs.Lemmas.Parts.{byte_is, number_is}
 
 take_same : (n : ℕ) (a b : List ℕ) → n ≤ length a → n ≤ length b → ((j : ℕ) → j < n → slice_index a j ≡ slice_index b j) → take n a ≡ take n b
 take_same zero a b la lb same = refl

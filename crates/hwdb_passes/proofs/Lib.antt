@@ -1,4 +1,3 @@
-pub mod PartLemmas
 pub mod HeaderLemmas
 pub mod EntryLemmas
 pub mod NodeLemmas

@@ -8,7 +8,7 @@ use Rattle.hwdb_spec.specs.Format.{number_at, NodeText, ChildrenText, ValuesText
 use Rattle.hwdb_passes.specs.Views.{IsPart, IsOf, Stand, Stands, pending}
 use Rattle.hwdb_passes.specs.Internal.{values_at, ChildrenStand}
 use Rattle.hwdb_passes.specs.declared.outline.Outline.{Outline}
-use Rattle.hwdb_passes.proofs.PartLemmas.{byte_is, number_is, children_there, values_there, prefix_there, end_there}
+use Rattle.hwdb_passes.specs.Lemmas.Parts.{byte_is, number_is, children_there, values_there, prefix_there, end_there}
 use Rattle.hwdb_passes.proofs.EntryLemmas.{values_many, place_is}
 
 mutual

@@ -7,9 +7,9 @@ use Rattle.hwdb_spec.specs.Answers.{is_wanted}
 use Rattle.hwdb_spec.specs.Tree.{Tree, Children, Value, IsLive, members_under, values_below, assigned_at, key_of, count}
 use Rattle.hwdb_spec.specs.Format.{NodeText, ChildrenText, record_end, child_entry}
 use Rattle.hwdb_query.specs.Views.{assignment_of_answer}
-use Rattle.hwdb_lookup.specs.Views.{IsOf}
+use Rattle.hwdb_lookup.specs.Internal.Parts.{MayBeOf}
 use Rattle.hwdb_lookup.specs.Internal.Heads.{IsHead, AreValues, own_members}
-use Rattle.hwdb_lookup.specs.declared.known.Known.{Known}
+use Rattle.hwdb_lookup.specs.declared.parts.Parts.{Parts}
 use Rattle.hwdb_lookup.specs.declared.lazy_node.LazyNode.{LazyNode}
 use Rattle.hwdb_lookup.specs.declared.arrivals.OpenNode.{OpenNode}
 use Rattle.hwdb_lookup.specs.declared.arrivals.Candidate.{Candidate}
@@ -76,13 +76,13 @@ IsNext file o from assigned None = assigned ≡ []
 IsNext file o from assigned (Some k) = Next file o from assigned k
 
 -- each node is one of the file, and its reach is the state of its path
-abbrev pub AllStand : Known → List OpenNode → Type 0
+abbrev pub AllStand : Parts → List OpenNode → Type 0
 AllStand known [] = Unit {0}
 AllStand known (o ∷ below) = (o.node.known ≡ known) × StandsFor o.reach o.path.items × AllStand known below
 
 -- an open node of the file: what its children assign that aren't done, and how many bytes their texts may have
 pub record Opens (file device : List ℕ) (o : OpenNode) (assigned : List Assignment) (bytes : ℕ) : Type 0 where
-  pub known : IsOf o.node.known file
+  pub known : MayBeOf o.node.known file
   pub same_device : o.reach.device ≡ device
   pub from : ℕ
   pub rest : Rest file o o.done from assigned
@@ -140,4 +140,4 @@ pub record Landing (file : List ℕ) (o : OpenNode) (d : Descent) (all : List As
 
 abbrev pub Lands : OpenNode → Descent → Descent → Type 0
 Lands o before now =
-    (file : List ℕ) (all : List Assignment) → IsOf o.node.known file → o.done ≡ 0 → Landing file o before all → Comes file o.reach.device now all
+    (file : List ℕ) (all : List Assignment) → MayBeOf o.node.known file → o.done ≡ 0 → Landing file o before all → Comes file o.reach.device now all

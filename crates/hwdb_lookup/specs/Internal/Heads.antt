@@ -4,6 +4,7 @@ use Rattle.hwdb_spec.specs.declared.Layout.{Layout}
 use Rattle.hwdb_spec.specs.Assignment.{Assignment}
 use Rattle.hwdb_spec.specs.Tree.{Value, assigned_at, key_of}
 use Rattle.hwdb_spec.specs.Format.{children_count, values_count, prefix_off, record_end, value_entries, IsPlace, ValuesText}
+use Rattle.hwdb_passes.specs.Views.{IsPart}
 use Rattle.hwdb_lookup.specs.declared.lazy_node.LazyNode.{LazyNode}
 use Rattle.hwdb_lookup.specs.declared.nodes.StoredValue.{StoredValue}
 
@@ -13,6 +14,7 @@ pub record IsHead (file : List ℕ) (n : LazyNode) : Type 0 where
   pub values : n.values ≡ values_count file n.off
   pub prefix : n.prefix ≡ prefix_off file n.off
   pub end : n.end ≡ record_end n.frame.sizes file n.off
+  pub part : IsPart file n.off n.bytes.now
 
 -- the record ends before the string section, and its prefix is in that
 abbrev pub Fits : Layout → List ℕ → ℕ → Type 0

@@ -3,7 +3,7 @@ use Rattle.std.proofs.Common.{List, ◌∙◌, ◌++◌, sym, ap, map, arith, ap
 use Rattle.hwdb_query.specs.Views.{assignment_of_answer}
 use Rattle.hwdb_lookup.specs.Internal.Heads.{AreValues, own_members, value_of}
 use Rattle.hwdb_lookup.proofs.ValueLemmas.{all_left, none_left, value_next, offered}
-use Rattle.hwdb_lookup.proofs.KnownLemmas.{stop_given}
+use Rattle.hwdb_lookup.proofs.PartsLemmas.{stop_given}
 use Rattle.hwdb_lookup.proofs.descent.collect.Goals as goal
 
 pub loop-i-init : goal.loop-i-init

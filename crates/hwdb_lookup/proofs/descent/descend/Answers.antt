@@ -4,32 +4,32 @@ use Rattle.hwdb_spec.specs.Tree.{Tree}
 use Rattle.hwdb_spec.specs.Format.{IsDatabase, layout_of, max_levels}
 use Rattle.hwdb_lookup.specs.declared.descent.Descent.{Descent}
 use Rattle.hwdb_lookup.specs.Internal.Descents.{Enters, Comes, wanted_under}
-use Rattle.hwdb_lookup.proofs.KnownLemmas.{stop_given}
+use Rattle.hwdb_lookup.proofs.PartsLemmas.{stop_given}
 use Rattle.hwdb_lookup.proofs.DescentLemmas.{begins, all_found, none_open}
 use Rattle.hwdb_lookup.proofs.descent.descend.Goals as goal
 
 pub returns-in_err-visit-clause-stop : goal.returns-in_err-visit-clause-stop
 returns-in_err-visit-clause-stop c =
     let l = c.args.frame.sizes in
-    let d : Descent = record { stack = c.in_ok-with_capacity.field-0; found = c.new.result; left = length c.args.known.buffer.now } in
+    let d : Descent = record { stack = c.in_ok-with_capacity.field-0; found = c.new.result; left = c.len.result } in
     stop_given c.args.known (λ file. (all : List Assignment) × Enters file l max_levels l.root c.new-2.result.items c.start-start.result.device d all)
     (λ file. (t : Tree) × (l ≡ layout_of file) × IsDatabase file t)
     (λ file m s. (
       wanted_under c.args.device.now [] s.0,
-      begins file c.args.known l s.0 c.args.device.now c.start-start.result.device c.new-2.result.items d m s.1 s.2 c.in_ok-with_capacity.ensures.items c.new.ensures.items refl c.new-2.ensures.items c.start-start.ensures.device,
+      begins file c.args.known l s.0 c.args.device.now c.start-start.result.device c.new-2.result.items d m s.1 s.2 c.in_ok-with_capacity.ensures.items c.new.ensures.items c.len.ensures c.new-2.ensures.items c.start-start.ensures.device,
     ))
     c.in_err-visit.field-0.0 c.from_residual-in_err-visit.result c.from_residual-in_err-visit.ensures.1 c.in_err-visit.ensures.stop
 
 pub open-init : goal.open-init
 open-init c =
     let l = c.args.frame.sizes in
-    let d : Descent = record { stack = c.in_ok-with_capacity.field-0; found = c.new.result; left = length c.args.known.buffer.now } in
+    let d : Descent = record { stack = c.in_ok-with_capacity.field-0; found = c.new.result; left = c.len.result } in
     record {
       all = c.in_ok-visit.ensures.all;
       comes = λ file t m is h.
           subst (λ x. Comes file x c.visit.new.self (wanted_under c.args.device.now [] t)) c.start-start.ensures.device
           (c.in_ok-visit.ensures.comes file (wanted_under c.args.device.now [] t) m
-          (begins file c.args.known l t c.args.device.now c.start-start.result.device c.new-2.result.items d m is h c.in_ok-with_capacity.ensures.items c.new.ensures.items refl c.new-2.ensures.items c.start-start.ensures.device));
+          (begins file c.args.known l t c.args.device.now c.start-start.result.device c.new-2.result.items d m is h c.in_ok-with_capacity.ensures.items c.new.ensures.items c.len.ensures c.new-2.ensures.items c.start-start.ensures.device));
     }
 
 pub open-preserved : goal.open-preserved

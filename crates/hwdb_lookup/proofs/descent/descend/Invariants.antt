@@ -1,14 +1,14 @@
 use Rattle.std.proofs.Common.{◌≡◌, ◌+◌, [], List, ℕ, length}
 use Rattle.hwdb_spec.specs.Tree.{Tree}
 use Rattle.hwdb_spec.specs.Format.{IsDatabase, layout_of}
-use Rattle.hwdb_lookup.specs.Views.{IsOf}
+use Rattle.hwdb_lookup.specs.Internal.Parts.{MayBeOf, size_of}
 use Rattle.hwdb_lookup.specs.Internal.Descents.{AllStand, Comes, stack_of, wanted_under}
 use Rattle.hwdb_lookup.proofs.descent.descend.Given as goal
 
 abbrev pub invariant-open : goal.invariant-open
 invariant-open l = record {
   all : AllStand l.known (stack_of l.descent);
-  comes : (file : List ℕ) (t : Tree) → IsOf l.known file → l.fn.frame.sizes ≡ layout_of file → IsDatabase file t → Comes file l.device l.descent (wanted_under l.device [] t);
+  comes : (file : List ℕ) (t : Tree) → MayBeOf l.known file → l.fn.frame.sizes ≡ layout_of file → IsDatabase file t → Comes file l.device l.descent (wanted_under l.device [] t);
 }
 
 abbrev pub decreases-open : goal.decreases-open

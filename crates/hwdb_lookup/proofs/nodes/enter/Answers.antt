@@ -1,28 +1,38 @@
-use Rattle.std.proofs.Common.{◌∙◌, sym, arith}
-use Rattle.hwdb_lookup.proofs.KnownLemmas.{children_same, values_same, prefix_same, end_same, place_same, refuted}
+use Rattle.std.proofs.Common.{◌≡◌, ◌≤◌, ◌+◌, ◌-◌, ◌∙◌, ℕ, ap, length, sym, arith}
+use Rattle.hwdb_spec.specs.Format.{record_end}
+use Rattle.hwdb_lookup.proofs.PartsLemmas.{children_same, values_same, prefix_same, end_same, place_there, refuted, record_room}
 use Rattle.hwdb_lookup.proofs.nodes.enter.Goals as goal
 
 pub returns-in_default-clause-stop : goal.returns-in_default-clause-stop
 returns-in_default-clause-stop c file m fits =
     let last = fits.0 in
-    let end = end_same c.args.frame.sizes file c.args.known.buffer.now c.args.off (c.in_ok-need.ensures.read file m) in
-    c.in_default.ensures (omega arith, omega (arith, last, end))
+    let long = c.in_ok-fields.ensures.long in
+    let end = end_same c.args.frame.sizes file c.in_ok-fields.fields.now c.args.off (c.in_ok-fields.ensures.read file m) (omega (arith, long)) in
+    c.in_default.ensures (omega (arith, last, end))
 
-pub returns-then-not-is_place-clause-stop : goal.returns-then-not-is_place-clause-stop
-returns-then-not-is_place-clause-stop c file m fits =
+pub returns-then-not-is_string-clause-stop : goal.returns-then-not-is_string-clause-stop
+returns-then-not-is_string-clause-stop c file m fits =
     let l = c.args.frame.sizes in
-    let b = c.args.known.buffer.now in
-    let at = prefix_same l file b c.args.off (c.in_ok-need.ensures.read file m) ∙ sym c.u64_at-prefix.ensures in
-    refuted _ _ c.if-not-is_place.true c.is_place.ensures (place_same l file b _ _ m.size at fits.1)
+    let long = c.in_ok-bytes.ensures.long in
+    let is = c.in-Some.ensures.1 in
+    let room = record_room l c.in_ok-fields.fields.now 0 c.args.frame.node_fields in
+    let at = prefix_same l file c.in_ok-bytes.bytes.now c.args.off (c.in_ok-bytes.ensures.read file m) (omega (arith, long, is, room)) in
+    refuted _ _ c.if-not-is_string.true c.is_string.ensures (place_there l c.args.known file _ _ m (c.u64_at-prefix.ensures ∙ at) fits.1)
 
 pub returns-clause-head : goal.returns-clause-head
 returns-clause-head c file m =
     let l = c.args.frame.sizes in
-    let b = c.args.known.buffer.now in
-    let same = c.in_ok-need.ensures.read file m in
+    let part = c.in_ok-bytes.bytes.now in
+    let p = c.in_ok-bytes.ensures.read file m in
+    let long = c.in_ok-bytes.ensures.long in
+    let is = c.in-Some.ensures.1 in
+    let first = c.in_ok-fields.ensures.long in
+    let room = record_room l c.in_ok-fields.fields.now 0 c.args.frame.node_fields in
+    let all : 24 ≤ length part = omega (arith, long, is, room) in
     record {
-      children = sym (children_same l file b c.args.off same);
-      values = c.u64_at.ensures ∙ sym (values_same l file b c.args.off same);
-      prefix = c.u64_at-prefix.ensures ∙ sym (prefix_same l file b c.args.off same);
-      end = c.in-Some.ensures.1 ∙ sym (end_same l file b c.args.off same);
+      children = children_same l file part c.args.off p all;
+      values = c.u64_at.ensures ∙ values_same l file part c.args.off p all;
+      prefix = c.u64_at-prefix.ensures ∙ prefix_same l file part c.args.off p all;
+      end = ap (λ n. c.args.off + n) is ∙ end_same l file c.in_ok-fields.fields.now c.args.off (c.in_ok-fields.ensures.read file m) (omega (arith, first));
+      part = p;
     }

@@ -2,7 +2,7 @@ use Rattle.std.proofs.Common.{◌≡◌, ◌≤◌, ◌<◌, ◌-◌, ◌+◌, �
 use Rattle.hwdb_spec.specs.Assignment.{text_cmp}
 use Rattle.hwdb_spec.specs.Format.{text_at}
 use Rattle.hwdb_passes.specs.Internal.{IsInside}
-use Rattle.hwdb_passes.proofs.PartLemmas.{number_is}
+use Rattle.hwdb_passes.specs.Lemmas.Parts.{number_is}
 use Rattle.hwdb_passes.proofs.EntryLemmas.{values_none, values_more, values_all, stepped, ended}
 use Rattle.hwdb_passes.proofs.entries.are_values.Goals as goal
 

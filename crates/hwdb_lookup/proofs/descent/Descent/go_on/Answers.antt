@@ -5,7 +5,7 @@ use Rattle.hwdb_pattern.specs.Views.{StandsFor}
 use Rattle.hwdb_spec.specs.Assignment.{Assignment}
 use Rattle.hwdb_lookup.specs.declared.descent.Descent.{Descent}
 use Rattle.hwdb_lookup.specs.Internal.Descents.{AllStand, Enters, Comes, IsNext, stack_of, found_in}
-use Rattle.hwdb_lookup.proofs.KnownLemmas.{stop_returned}
+use Rattle.hwdb_lookup.proofs.PartsLemmas.{stop_returned}
 use Rattle.hwdb_lookup.proofs.DescentLemmas.{goes_ends, goes_down, goes_from, comes_at, enters_at_path, on_top, changed, taken_off}
 use Rattle.hwdb_lookup.proofs.descent.Descent.go_on.Goals as goal
 

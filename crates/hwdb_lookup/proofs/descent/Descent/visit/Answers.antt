@@ -3,10 +3,10 @@ use Rattle.std.proofs.lemmas.Result.{on_ok_weaker}
 use Rattle.hwdb_spec.specs.Assignment.{Assignment}
 use Rattle.hwdb_spec.specs.Tree.{Value}
 use Rattle.hwdb_spec.specs.Format.{text_at}
-use Rattle.hwdb_lookup.specs.Views.{IsOf}
+use Rattle.hwdb_lookup.specs.Internal.Parts.{MayBeOf, size_of}
 use Rattle.hwdb_lookup.specs.Internal.Heads.{Fits, AreValues}
 use Rattle.hwdb_lookup.specs.Internal.Descents.{Enters, Comes, HasCome, IsArrival}
-use Rattle.hwdb_lookup.proofs.KnownLemmas.{stop_given, stop_returned}
+use Rattle.hwdb_lookup.proofs.PartsLemmas.{stop_given, stop_returned}
 use Rattle.hwdb_lookup.proofs.TreeLemmas.{no_levels}
 use Rattle.hwdb_lookup.proofs.DescentLemmas.{enters_fits, enters_pays, node_end, visit_passes, visit_lands, kept_left}
 use Rattle.hwdb_lookup.proofs.descent.Descent.visit.Goals as goal
@@ -37,7 +37,7 @@ returns-in_default-clause-comes c file all m e =
     let same = c.in_ok-node.ensures.node in
     let path = c.args.path.items in
     let device = c.args.reach.device in
-    let come = c.in_ok-open.ensures.come file (subst (λ k. IsOf k file) (sym same.0) m) in
+    let come = c.in_ok-open.ensures.come file (subst (λ k. MayBeOf k file) (sym same.0) m) in
     let size = n.end - c.args.off in
     visit_passes file c.args.known c.args.frame c.args.levels c.args.off path device c.args.self.now (record c.args.self.now { left = c.args.self.now.left - size }) all n same (c.in_ok-node.ensures.head file m)
     c.path_laws.ensures.matched c.path_laws.ensures.below (subst (HasCome device path (text_at file n.prefix)) c.in_default.is come) refl refl
@@ -54,7 +54,7 @@ returns-clause-comes c =
     let a = subst (IsArrival n (c.args.levels - 1) device) c.in-Some.is c.in_ok-open.ensures.arrival in
     on_ok_weaker c.land.result
     (λ lands file all m e.
-    let come = subst (HasCome device path (text_at file n.prefix)) c.in-Some.is (c.in_ok-open.ensures.come file (subst (λ k. IsOf k file) (sym same.0) m)) in
+    let come = subst (HasCome device path (text_at file n.prefix)) c.in-Some.is (c.in_ok-open.ensures.come file (subst (λ k. MayBeOf k file) (sym same.0) m)) in
     let l = visit_lands file c.args.known c.args.frame c.args.levels c.args.off path device c.args.self.now (record c.args.self.now { left = c.args.self.now.left - size }) all n o same
     (c.in_ok-node.ensures.head file m) m c.if-levels-eq0.false a come refl refl (kept_left c.args.self.now.left size c.if-self-size.false) e in
     subst (λ d. Comes file d c.land.new.self all) a.same_device (lands file all (l.opens).known a.none_done l))
@@ -72,7 +72,7 @@ returns-clause-stop c =
     stop_returned c.args.known (λ file. (values : List Value) × AreValues file o.node values)
     (λ file. (all : List Assignment) × Enters file c.args.frame.sizes c.args.levels c.args.off path device c.args.self.now all)
     (λ file m s.
-    let come = subst (HasCome device path (text_at file n.prefix)) c.in-Some.is (c.in_ok-open.ensures.come file (subst (λ k. IsOf k file) (sym same.0) m)) in
+    let come = subst (HasCome device path (text_at file n.prefix)) c.in-Some.is (c.in_ok-open.ensures.come file (subst (λ k. MayBeOf k file) (sym same.0) m)) in
     let l = visit_lands file c.args.known c.args.frame c.args.levels c.args.off path device c.args.self.now (record c.args.self.now { left = c.args.self.now.left - size }) s.0 n o same
     (c.in_ok-node.ensures.head file m) m c.if-levels-eq0.false a come refl refl (kept_left c.args.self.now.left size c.if-self-size.false) s.1 in
     (l.values, l.are))

@@ -8,7 +8,7 @@ use Rattle.hwdb_spec.specs.declared.Layout.{Layout}
 use Rattle.hwdb_spec.specs.Format.{number_at, text_at, record_end, children_count, values_count, prefix_off}
 use Rattle.hwdb_passes.specs.Views.{IsPart}
 
-slice_index_drop : (xs : List ℕ) (i j : ℕ) → slice_index (drop i xs) j ≡ slice_index xs (i + j)
+pub slice_index_drop : (xs : List ℕ) (i j : ℕ) → slice_index (drop i xs) j ≡ slice_index xs (i + j)
 slice_index_drop xs i j = get_or-drop i xs j 0
 
 same_from : (xs ys : List ℕ) (k n : ℕ) → ((j : ℕ) → k ≤ j → j < k + n → slice_index xs j ≡ slice_index ys j) → little_from k n xs ≡ little_from k n ys
@@ -72,6 +72,26 @@ part_same p (suc n) (x ∷ xs) [] size same = absurd (omega (arith, size))
 part_same p (suc n) (x ∷ xs) (y ∷ ys) size same =
     part_step p n x xs y ys (same 0 (omega arith))
     (part_same p n xs ys (omega (arith, size)) (λ j lt. same (suc j) (omega (arith, lt)))) (p x) refl
+
+-- lists that agree are one
+pub same_lists : (xs ys : List ℕ) → length xs ≡ length ys → ((j : ℕ) → j < length xs → slice_index xs j ≡ slice_index ys j) → xs ≡ ys
+same_lists [] [] size same = refl
+same_lists [] (y ∷ ys) size same = absurd (omega (arith, size))
+same_lists (x ∷ xs) [] size same = absurd (omega (arith, size))
+same_lists (x ∷ xs) (y ∷ ys) size same =
+    let first : x ≡ y = same 0 (omega arith) in
+    let rest = same_lists xs ys (omega (arith, size)) (λ j lt. same (suc j) (omega (arith, lt))) in
+    ap (λ (more : List ℕ). x ∷ more) rest ∙ ap (λ z. z ∷ ys) first
+
+-- a string of the part, up to the file's end, is the file's
+pub text_is : (file part : List ℕ) (at i j : ℕ) → IsPart file at part → at + length part ≡ length file → at + i ≡ j → text_at part i ≡ text_at file j
+unfolding text_at
+text_is file part at i j p whole is =
+    let here = length-drop i part in
+    let there = length-drop j file in
+    ap (take_while (λ x. not (x == 0)))
+    (same_lists (drop i part) (drop j file) (omega (arith, here, there, whole, is))
+    (λ k lt. slice_index_drop part i k ∙ byte_is file part at (i + k) (j + k) p (omega (arith, lt, here)) (omega (arith, is)) ∙ sym (slice_index_drop file j k)))
 
 -- the front of a string of the part is that of the file's
 pub front_is : (file part : List ℕ) (at i j most : ℕ) → IsPart file at part → at + length part ≡ length file → at + i ≡ j → take most (text_at part i) ≡ take most (text_at file j)

@@ -1,0 +1,79 @@
+//! A file of which the header and the strings were read, and windows of its nodes.
+ghost use Rattle.std.specs.Prelude.{◌≡◌, ◌≤◌, ◌<◌, ◌+◌, ◌-◌, ℕ, List, length, take, IfOk, IfErr};
+ghost use Rattle.hwdb_spec.specs.Format.{text_at};
+ghost use Rattle.hwdb_passes.specs.Views.{IsPart};
+ghost use Rattle.hwdb_lookup.specs.Windows.{IsOfWindows, IsPause};
+
+use crate::stop::Stop;
+use hwdb_passes::Outline;
+use hwdb_reader::{text, text_front};
+
+/// How many bytes a window has.
+pub const WINDOW: usize = 4096;
+
+/// What was read of a file.
+#[derive(Clone, Copy)]
+pub struct Windows<'a> {
+    /// Its layout, its size and its strings.
+    pub outline: Outline<'a>,
+    /// The bytes of the windows, one after another.
+    pub bytes: &'a [u8],
+    /// Where each is in the file.
+    pub places: &'a [usize],
+}
+
+impl<'a> Windows<'a> {
+    /// The file's bytes from `from` to `to`, of a window that has them.
+    pub fn part(self, from: usize, to: usize) -> Result<&'a [u8], Stop>
+        requires { from ≤ to }
+        ensures long { IfOk result (λ p. length p.now ≡ to - from) }
+        ensures read { IfOk result (λ p. (file : List ℕ) → IsOfWindows self.entry file
+            → IsPart file from p.now) }
+        ensures stop { IfErr result (λ s. IsPause s) }
+    {
+        let size = to - from;
+        if size > WINDOW {
+            return Err(Stop::LongPath);
+        }
+        for k in 0..self.places.len() {
+            let place = self.places[k];
+            if k >= self.bytes.len() / WINDOW {
+                break;
+            }
+            if place <= from && from - place <= WINDOW - size {
+                let first = k * WINDOW + (from - place);
+                return Ok(&self.bytes[first..first + size]);
+            }
+        }
+        Err(Stop::Missing(from))
+    }
+
+    /// The string at `i`: up to the next byte 0.
+    pub fn text(self, i: usize) -> Result<&'a [u8], Stop>
+        requires { i < self.outline.size }
+        ensures read { IfOk result (λ s. (file : List ℕ) → IsOfWindows self.entry file
+            → s.now ≡ text_at file i) }
+        ensures stop { IfErr result (λ s. IsPause s) }
+    {
+        let first = self.outline.frame.sizes.strings;
+        if i < first {
+            return Err(Stop::LongPath);
+        }
+        Ok(text(self.outline.strings, i - first))
+    }
+
+    /// The first bytes of the string at `i`, at most so many.
+    pub fn text_front(self, i: usize, most: usize) -> Result<&'a [u8], Stop>
+        requires { i ≤ self.outline.size }
+        ensures read { IfOk result (λ s. (file : List ℕ) → IsOfWindows self.entry file
+            → s.now ≡ take most (text_at file i)) }
+        ensures within { IfOk result (λ s. i + length s.now ≤ self.entry.outline.size) }
+        ensures stop { IfErr result (λ s. IsPause s) }
+    {
+        let first = self.outline.frame.sizes.strings;
+        if i < first {
+            return Err(Stop::LongPath);
+        }
+        Ok(text_front(self.outline.strings, i - first, most))
+    }
+}
