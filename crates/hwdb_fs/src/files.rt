@@ -10,7 +10,9 @@ use crate::identity::Identity;
 use crate::ignored::{ignored_in, text_folder};
 use crate::parts::{Lockable, clear_parts, is_ours};
 use crate::raw::StdFiles;
-use crate::reads::{any_bytes, database_bytes, folder_names, is_there, names_in, part_at, text_bytes};
+use crate::reads::{
+    any_bytes, database_bytes, folder_names, is_there, names_in, part_at, text_bytes,
+};
 use crate::rooted::Rooted;
 use crate::roots::Root;
 use crate::system::System;

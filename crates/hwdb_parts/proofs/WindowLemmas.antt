@@ -63,7 +63,7 @@ window_added file window place old now size bytes places part of =
         ap (λ (l : List ℕ). slice_index l k) places ∙ ap (λ j. slice_index (old.places.items ++ place ∷ []) j) is ∙ get_or-append_seam old.places.items place [] 0 in
         let part_is : take 4096 (drop (k * 4096) now.bytes.items) ≡ window =
         ap (λ (l : List ℕ). take 4096 (drop (k * 4096) l)) bytes ∙ ap (λ j. take 4096 (drop (j * 4096) (old.bytes.items ++ window))) is
-            ∙ window_new (length old.places.items) old.bytes.items window of.many size in
+        ∙ window_new (length old.places.items) old.bytes.items window of.many size in
         subst (λ (p : ℕ × List ℕ). IsPart file p.0 p.1) (λ i. (sym at i, sym part_is i)) part
 
 -- none was read

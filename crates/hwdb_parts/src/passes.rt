@@ -52,12 +52,22 @@ impl Pass {
             → IsOf o.entry file → Stands file (waiting self.old) at
             → Stands file (waiting self.new) (at + used)) }
     {
-        let n = self.piece.len().min(o.frame.sizes.strings.saturating_sub(at));
+        let n = self
+            .piece
+            .len()
+            .min(o.frame.sizes.strings.saturating_sub(at));
         let piece = &mut self.piece[..n];
         if !fill(places, at, piece) {
             return None;
         }
-        feed(o, piece, at, &mut self.offsets, &mut self.heights, &mut self.done)
+        feed(
+            o,
+            piece,
+            at,
+            &mut self.offsets,
+            &mut self.heights,
+            &mut self.done,
+        )
     }
 }
 

@@ -1,5 +1,5 @@
 //! The windows of a file that were read.
-ghost use Rattle.std.specs.Prelude.{◌≡◌, ℕ, List, IsTrue, length};
+ghost use Rattle.std.specs.Prelude.{◌≡◌, ℕ, List, IsTrue, OnOk, length};
 ghost use Rattle.hwdb_lookup.specs.Windows.{IsOfWindows};
 ghost use Rattle.hwdb_passes.specs.Views.{IsPart};
 ghost use Rattle.hwdb_parts.specs.Views.{AreOf, IsKept};
@@ -8,7 +8,7 @@ use crate::kept::KeptFile;
 use crate::places::{Places, fill};
 use hwdb_lookup::{WINDOW, Windows};
 use hwdb_passes::Outline;
-use std::alloc::Global;
+use std::alloc::{AllocError, Global};
 
 /// The windows of a file that were read so far.
 #[derive(Drop)]
@@ -32,13 +32,14 @@ impl ReadWindows {
     }
 
     /// Takes one more window.
-    #[tactic(auto, using(crate::proofs::WindowLemmas::window_added))]
-    fn push(&mut self, window: &[u8], place: usize) -> bool
+    fn push(&mut self, window: &[u8], place: usize) -> Result<(), AllocError>
         requires { length window.now ≡ 4096 }
-        ensures { IsTrue result → (file : List ℕ) → IsPart file place window.now
-            → AreOf self.old file → AreOf self.new file }
+        ensures { OnOk result ((file : List ℕ) → IsPart file place window.now
+            → AreOf self.old file → AreOf self.new file) }
     {
-        self.bytes.extend_from_slice(window).is_ok() && self.places.push(place).is_ok()
+        self.bytes.extend_from_slice(window)?;
+        self.places.push(place)?;
+        Ok(())
     }
 
     /// Reads one more window: that at a place, or the file's last.
@@ -51,7 +52,10 @@ impl ReadWindows {
         if !fill(places, first, &mut window) {
             return false;
         }
-        self.push(&window, first)
+        match self.push(&window, first) {
+            Ok(()) => true,
+            Err(_) => false,
+        }
     }
 
     /// What a lookup is told of the file.

@@ -21,7 +21,7 @@ use std::alloc::{AllocError, Global};
 const MOST: usize = 4096;
 
 /// What is printed of a device with these properties, after those before it.
-fn text_of_properties(
+fn lines_of_properties(
     alloc: Global,
     device: &[u8],
     properties: &[(&[u8], &[u8])],
@@ -36,6 +36,24 @@ fn text_of_properties(
         device_line(alloc, device, properties)
     } else {
         behind(alloc, property_lines(alloc, properties)?, is_first)
+    }
+}
+
+/// The same, or None if memory is refused.
+fn text_of_properties(
+    alloc: Global,
+    device: &[u8],
+    properties: &[(&[u8], &[u8])],
+    json: bool,
+    is_first: bool,
+) -> Option<Vec<u8>>
+    ensures { IfSome result (λ text. (t : Tree)
+        → pairs_bytes properties.now ≡ effective_of (answers device.now t)
+        → text.items ≡ answer_text (Form.Query json) is_first device.now t) }
+{
+    match lines_of_properties(alloc, device, properties, json, is_first) {
+        Ok(text) => Some(text),
+        Err(_) => None,
     }
 }
 
@@ -56,12 +74,15 @@ fn text_of_kept<P: Places>(
         → text.items ≡ answer_text (Form.Query json) is_first device.now t) }
 {
     'reading: for _ in 0..MOST {
-        match lookup_windows(alloc, windows.of(kept), device) {
+        let place = match lookup_windows(alloc, windows.of(kept), device) {
             Ok(properties) => {
-                return text_of_properties(alloc, device, &properties, json, is_first).ok();
+                return text_of_properties(alloc, device, &properties, json, is_first);
             }
-            Err(Stop::Missing(place)) if windows.add(places, kept.size, place) => {}
+            Err(Stop::Missing(place)) => place,
             Err(_) => return None,
+        };
+        if !windows.add(places, kept.size, place) {
+            return None;
         }
     }
     None
@@ -87,8 +108,9 @@ pub fn texts_of_kept<P: Places>(
     'answering: while let Some((device, more)) = left.split_first() {
         let device = device.as_bytes();
         let text = text_of_kept(alloc, places, kept, &mut windows, device, json, is_first)?;
-        if all.extend_from_slice(&text).is_err() {
-            return None;
+        match all.extend_from_slice(&text) {
+            Ok(()) => {}
+            Err(_) => return None,
         }
         left = more;
         is_first = false;

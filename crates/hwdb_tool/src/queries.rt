@@ -97,9 +97,29 @@ fn query_given<D: System>(
     ensures reason { IfErr result
         (HasReason (D.System.may_fail system.now) ⊥ (D.Store.seen system.now)) }
 {
-    if let Some(answer) = answer_in_parts(alloc, root, devices, system) {
-        return Ok(answer);
+    match answer_in_parts(alloc, root, devices, json, system) {
+        Some(answer) => Ok(answer),
+        None => query_whole(alloc, root, devices, json, system),
     }
+}
+
+/// The same of a database that is read as a whole.
+fn query_whole<D: System>(
+    alloc: Global,
+    root: &str,
+    devices: &[String],
+    json: bool,
+    system: &D,
+) -> Result<Answer, Refusal>
+    ensures status { IfOk result (λ a. a.status ≡ 0) }
+    ensures answered { D.Store.tells → IfOk result (λ a. OnOut (IsAnswered root.now
+        (IsTextOf (texts_of (Form.Query json) (map string_bytes devices.now)))
+        (D.Store.seen system.now)) (texts_in a)) }
+    ensures refused { D.Store.tells → IfErr result
+        (IsUnanswered root.now (D.Store.seen system.now)) }
+    ensures reason { IfErr result
+        (HasReason (D.System.may_fail system.now) ⊥ (D.Store.seen system.now)) }
+{
     let found = asked(alloc, root, system)?;
     match answers(alloc, &found.bytes, devices, Form::Query { json }) {
         Ok(text) => Ok(Answer::new(alloc, text, 0)),
