@@ -38,7 +38,6 @@ impl<'a, D: System> Places for FileAt<'a, D> {
 }
 
 /// The path of the database that is asked, if something is there.
-#[tactic(auto, using(crate::proofs::AskedPartLemmas::etc_asked, crate::proofs::AskedPartLemmas::usr_asked))]
 fn asked_path<D: System>(alloc: Global, root: &str, system: &D) -> Option<String>
     ensures { D.Store.tells → IfSome result
         (λ path. IsAskedFile root.now (D.Store.seen system.now) (string_bytes path)) }
