@@ -10,7 +10,7 @@ use Rattle.hwdb_passes.specs.Views.{IsPart}
 use Rattle.hwdb_passes.specs.Lemmas.Parts.{byte_is, number_is, slice_index_drop}
 use Rattle.hwdb_lookup.specs.Views.{Stops}
 use Rattle.hwdb_lookup.specs.Windows.{IsPause}
-use Rattle.hwdb_lookup.specs.declared.windows.Windows.{Windows as WindowsOf}
+use Rattle.hwdb_lookup.specs.declared.seen.Seen.{Seen}
 use Rattle.hwdb_lookup.specs.Internal.Agreement.{AgreeIn}
 use Rattle.hwdb_lookup.specs.Internal.Parts.{MayBeOf, Halts, size_of}
 use Rattle.hwdb_lookup.specs.declared.known.Known.{Known}
@@ -50,7 +50,7 @@ blocks_given known P Q more s (Err t) is h = blocks_stop known Q t (stops_weaker
 -- how long the file is
 pub size_is : (known : Parts) (file : List ℕ) → MayBeOf known file → length file ≡ size_of known
 size_is (Blocks known) file m = m.size
-size_is (Windows w) file m = sym m.outline.size
+size_is (Windows w) file m = m.size
 
 -- what a record says of itself, in its first 24 bytes
 module _ (l : Layout) (file part : List ℕ) (off : ℕ) (p : IsPart file off part) (room : 24 ≤ length part) where
@@ -72,6 +72,12 @@ module _ (l : Layout) (file part : List ℕ) (off : ℕ) (p : IsPart file off pa
       sums (children_count part 0) (values_count part 0)
       ∙ ap (λ n. off + l.node_size + l.child_size * n + l.value_size * values_count part 0) children_same
       ∙ ap (λ n. off + l.node_size + l.child_size * children_count file off + l.value_size * n) values_same
+
+-- bytes whose numbers of children and of values are those of others give a record of the same size
+pub same_end : (l : Layout) (a b : List ℕ) → slice_index a 8 ≡ slice_index b 8 → number_at 8 16 a ≡ number_at 8 16 b → record_end l a 0 ≡ record_end l b 0
+unfolding record_end
+same_end l a b count values =
+    ap (λ n. 0 + l.node_size + l.child_size * n + l.value_size * number_at 8 16 a) count ∙ ap (λ n. 0 + l.node_size + l.child_size * slice_index b 8 + l.value_size * n) values
 
 pub record_room : (l : Layout) (b : List ℕ) (off : ℕ) → 24 ≤ l.node_size → off + 24 ≤ record_end l b off
 unfolding record_end
@@ -164,7 +170,7 @@ blocks_back known P (Err (Fault fault)) h = h
 blocks_back known P (Err LongPath) h = h
 blocks_back known P (Err Memory) h = h
 
-pub windows_back : {A : Type 0} (w : WindowsOf) (P : List ℕ → Type 0) (r : Result A Stop) → IfErr r (λ s. IsPause s) → IfErr r (λ s. Halts (Windows w) P s)
+pub windows_back : {A : Type 0} (w : Seen) (P : List ℕ → Type 0) (r : Result A Stop) → IfErr r (λ s. IsPause s) → IfErr r (λ s. Halts (Windows w) P s)
 windows_back w P (Ok x) h = tt
 windows_back w P (Err (Missing block)) h = tt
 windows_back w P (Err (Fault fault)) h = absurd h

@@ -1,5 +1,6 @@
 -- What the proofs of this crate speak of.
 pub mod Agreement
+pub mod Seen
 pub mod Parts
 pub mod Heads
 pub mod Descents

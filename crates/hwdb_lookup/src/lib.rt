@@ -11,8 +11,8 @@
 //! |---|---|
 //! | `stop` | why a lookup stops before its end |
 //! | `known` | the bytes of a file, as far as they were read |
-//! | `windows` | a file of which the strings were read, and windows of its nodes |
-//! | `parts` | both |
+//! | `windows`, `seen` | a file of which the strings were read, and windows of its nodes |
+//! | `parts` | a file of which blocks were read, or windows |
 //! | `opening` | the header |
 //! | `lazy_node` | a node whose record was entered |
 //! | `nodes` | a node's record, its children and its values |
@@ -29,6 +29,7 @@ mod lookups;
 mod nodes;
 mod opening;
 mod parts;
+mod seen;
 mod stop;
 mod windows;
 

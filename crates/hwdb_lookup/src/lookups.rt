@@ -12,7 +12,7 @@ use crate::known::Known;
 use crate::opening::frame_of;
 use crate::parts::Parts;
 use crate::stop::Stop;
-use crate::windows::Windows;
+use crate::windows::{Windows, seen_of};
 use hwdb_query::effective_among;
 use std::alloc::Global;
 
@@ -61,7 +61,7 @@ pub fn lookup_windows<'a>(
     if frame.sizes.strings > windows.outline.size {
         return Err(Stop::LongPath);
     }
-    let found = descend(alloc, Parts::Windows(windows), frame, device)?;
+    let found = descend(alloc, Parts::Windows(seen_of(windows)), frame, device)?;
     let pairs = effective_among(alloc, &found)?;
     Ok(pairs)
 }

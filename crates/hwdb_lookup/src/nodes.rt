@@ -7,9 +7,7 @@ ghost use Rattle.hwdb_lookup.specs.Internal.Heads.{IsHead, Fits, value_of};
 use crate::lazy_node::LazyNode;
 use crate::parts::Parts;
 use crate::stop::Stop;
-use hwdb_reader::{
-    Frame, child_entry_at, record_end_within, u16_at, u32_at, u64_at, value_entry_at,
-};
+use hwdb_reader::{Frame, child_entry_at, u16_at, u32_at, u64_at, value_entry_at};
 use hwdb_spec::DbFault;
 
 /// A child entry of a node.
@@ -86,8 +84,10 @@ pub fn enter<'a>(known: Parts<'a>, frame: Frame, off: usize) -> Result<LazyNode<
         return Err(Stop::Fault(DbFault::Place(off as u64)));
     };
     let bytes = known.part(off, off + size)?;
-    // The same bytes once more, so it is as long.
-    if record_end_within(bytes, frame, 0, 0, bytes.len()).is_none() {
+    let children = bytes[8];
+    let values = u64_at(bytes, 16);
+    // They are the same bytes once more.
+    if children != fields[8] || values != u64_at(fields, 16) {
         return Err(Stop::LongPath);
     }
     let prefix = u64_at(bytes, 0);
@@ -100,8 +100,8 @@ pub fn enter<'a>(known: Parts<'a>, frame: Frame, off: usize) -> Result<LazyNode<
         off,
         bytes,
         prefix,
-        children: bytes[8] as usize,
-        values: u64_at(bytes, 16),
+        children: children as usize,
+        values,
         end: off + size,
     })
 }

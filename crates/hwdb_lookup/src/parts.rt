@@ -5,8 +5,8 @@ ghost use Rattle.hwdb_passes.specs.Views.{IsPart};
 ghost use Rattle.hwdb_lookup.specs.Internal.Parts.{MayBeOf, Halts, size_of};
 
 use crate::known::Known;
+use crate::seen::Seen;
 use crate::stop::Stop;
-use crate::windows::Windows;
 
 /// A file's bytes, as far as they were read.
 #[derive(Clone, Copy)]
@@ -14,7 +14,7 @@ pub enum Parts<'a> {
     /// Blocks of it, in a buffer of its length.
     Blocks(Known<'a>),
     /// Its strings, and windows of its nodes.
-    Windows(Windows<'a>),
+    Windows(Seen<'a>),
 }
 
 impl<'a> Parts<'a> {
@@ -24,7 +24,7 @@ impl<'a> Parts<'a> {
     {
         match self {
             Parts::Blocks(known) => known.buffer.len(),
-            Parts::Windows(windows) => windows.outline.size,
+            Parts::Windows(seen) => seen.size,
         }
     }
 
@@ -40,7 +40,7 @@ impl<'a> Parts<'a> {
     {
         match self {
             Parts::Blocks(known) => known.part(from, to),
-            Parts::Windows(windows) => windows.part(from, to),
+            Parts::Windows(seen) => seen.part(from, to),
         }
     }
 
@@ -54,7 +54,7 @@ impl<'a> Parts<'a> {
     {
         match self {
             Parts::Blocks(known) => known.text(i),
-            Parts::Windows(windows) => windows.text(i),
+            Parts::Windows(seen) => seen.text(i),
         }
     }
 
@@ -69,7 +69,7 @@ impl<'a> Parts<'a> {
     {
         match self {
             Parts::Blocks(known) => known.text_front(i, most),
-            Parts::Windows(windows) => windows.text_front(i, most),
+            Parts::Windows(seen) => seen.text_front(i, most),
         }
     }
 }

@@ -3,7 +3,9 @@ ghost use Rattle.std.specs.Prelude.{◌≡◌, ◌≤◌, ◌<◌, ◌+◌, ◌-
 ghost use Rattle.hwdb_spec.specs.Format.{text_at};
 ghost use Rattle.hwdb_passes.specs.Views.{IsPart};
 ghost use Rattle.hwdb_lookup.specs.Windows.{IsOfWindows, IsPause};
+ghost use Rattle.hwdb_lookup.specs.Internal.Seen.{IsSeen};
 
+use crate::seen::Seen;
 use crate::stop::Stop;
 use hwdb_passes::Outline;
 use hwdb_reader::{text, text_front};
@@ -22,12 +24,25 @@ pub struct Windows<'a> {
     pub places: &'a [usize],
 }
 
-impl<'a> Windows<'a> {
+/// The same without the layout, which each node has.
+pub fn seen_of(windows: Windows<'_>) -> Seen<'_>
+    ensures seen { (file : List ℕ) → IsOfWindows windows.entry file → IsSeen result file }
+    ensures size { result.size ≡ windows.entry.outline.size }
+{
+    Seen {
+        size: windows.outline.size,
+        strings: windows.outline.strings,
+        bytes: windows.bytes,
+        places: windows.places,
+    }
+}
+
+impl<'a> Seen<'a> {
     /// The file's bytes from `from` to `to`, of a window that has them.
     pub fn part(self, from: usize, to: usize) -> Result<&'a [u8], Stop>
         requires { from ≤ to }
         ensures long { IfOk result (λ p. length p.now ≡ to - from) }
-        ensures read { IfOk result (λ p. (file : List ℕ) → IsOfWindows self.entry file
+        ensures read { IfOk result (λ p. (file : List ℕ) → IsSeen self.entry file
             → IsPart file from p.now) }
         ensures stop { IfErr result (λ s. IsPause s) }
     {
@@ -50,30 +65,30 @@ impl<'a> Windows<'a> {
 
     /// The string at `i`: up to the next byte 0.
     pub fn text(self, i: usize) -> Result<&'a [u8], Stop>
-        requires { i < self.outline.size }
-        ensures read { IfOk result (λ s. (file : List ℕ) → IsOfWindows self.entry file
+        requires { i < self.size }
+        ensures read { IfOk result (λ s. (file : List ℕ) → IsSeen self.entry file
             → s.now ≡ text_at file i) }
         ensures stop { IfErr result (λ s. IsPause s) }
     {
-        let first = self.outline.frame.sizes.strings;
+        let first = self.size - self.strings.len();
         if i < first {
             return Err(Stop::LongPath);
         }
-        Ok(text(self.outline.strings, i - first))
+        Ok(text(self.strings, i - first))
     }
 
     /// The first bytes of the string at `i`, at most so many.
     pub fn text_front(self, i: usize, most: usize) -> Result<&'a [u8], Stop>
-        requires { i ≤ self.outline.size }
-        ensures read { IfOk result (λ s. (file : List ℕ) → IsOfWindows self.entry file
+        requires { i ≤ self.size }
+        ensures read { IfOk result (λ s. (file : List ℕ) → IsSeen self.entry file
             → s.now ≡ take most (text_at file i)) }
-        ensures within { IfOk result (λ s. i + length s.now ≤ self.entry.outline.size) }
+        ensures within { IfOk result (λ s. i + length s.now ≤ self.entry.size) }
         ensures stop { IfErr result (λ s. IsPause s) }
     {
-        let first = self.outline.frame.sizes.strings;
+        let first = self.size - self.strings.len();
         if i < first {
             return Err(Stop::LongPath);
         }
-        Ok(text_front(self.outline.strings, i - first, most))
+        Ok(text_front(self.strings, i - first, most))
     }
 }

@@ -2,7 +2,7 @@
 use Rattle.std.specs.Prelude.{List, ℕ, ◌*◌, ◌<◌, ◌≢◌, length, slice_index}
 use Rattle.hwdb_spec.specs.Blocks.{block_bytes}
 use Rattle.hwdb_lookup.specs.Views.{IsOf}
-use Rattle.hwdb_lookup.specs.Windows.{IsOfWindows}
+use Rattle.hwdb_lookup.specs.Internal.Seen.{IsSeen}
 use Rattle.hwdb_lookup.specs.declared.parts.Parts.{Parts}
 use Rattle.hwdb_lookup.specs.declared.parts.Parts.TheVariants.{Blocks, Windows}
 use Rattle.hwdb_lookup.specs.declared.stop.Stop.{Stop}
@@ -11,12 +11,12 @@ use Rattle.hwdb_lookup.specs.declared.stop.Stop.TheVariants.{Missing, Fault, Lon
 -- how many bytes the file has
 abbrev pub size_of : Parts → ℕ
 size_of (Blocks known) = length known.buffer.now
-size_of (Windows w) = w.outline.size
+size_of (Windows w) = w.size
 
 -- the file may be the one of which these parts are
 abbrev pub MayBeOf : Parts → List ℕ → Type 0
 MayBeOf (Blocks known) file = IsOf known file
-MayBeOf (Windows w) file = IsOfWindows w file
+MayBeOf (Windows w) file = IsSeen w file
 
 -- what has to be read: a block that wasn't, or a window
 abbrev pub IsMissing : Parts → ℕ → Type 0

@@ -9,6 +9,6 @@ pub returns : goal.returns
 unfolding answers
 returns c = record {
   answer = λ file t m h.
-      let found = c.in_ok-found.ensures.found file t m m.outline.layout h in
+      let found = c.in_ok-found.ensures.found file t (c.seen_of.ensures.seen file m) m.outline.layout h in
       c.in_ok-pairs.ensures ∙ ap (λ l. effective_of (in_order assignment_cmp l)) (ap (map assignment_of_answer) c.deref.ensures.value ∙ found);
 }

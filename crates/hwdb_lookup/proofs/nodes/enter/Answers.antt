@@ -31,7 +31,7 @@ returns-clause-head c file m =
     let all : 24 ≤ length part = omega (arith, long, is, room) in
     record {
       children = children_same l file part c.args.off p all;
-      values = c.u64_at.ensures ∙ values_same l file part c.args.off p all;
+      values = c.u64_at-values.ensures ∙ values_same l file part c.args.off p all;
       prefix = c.u64_at-prefix.ensures ∙ prefix_same l file part c.args.off p all;
       end = ap (λ n. c.args.off + n) is ∙ end_same l file c.in_ok-fields.fields.now c.args.off (c.in_ok-fields.ensures.read file m) (omega (arith, first));
       part = p;

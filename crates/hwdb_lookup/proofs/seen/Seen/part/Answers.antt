@@ -1,7 +1,7 @@
 use Rattle.std.proofs.Common.{◌≡◌, ◌≤◌, ◌<◌, ◌+◌, ◌-◌, ◌*◌, ℕ, List, subst, take, drop, length, slice_index, arith}
 use Rattle.hwdb_passes.specs.Views.{IsPart}
 use Rattle.hwdb_lookup.proofs.PartsLemmas.{window_part}
-use Rattle.hwdb_lookup.proofs.windows.Windows.part.Goals as goal
+use Rattle.hwdb_lookup.proofs.seen.Seen.part.Goals as goal
 
 pub returns-then-from-place-clause-read : goal.returns-then-from-place-clause-read
 returns-then-from-place-clause-read c file is =
