@@ -10,7 +10,9 @@ use crate::identity::Identity;
 use crate::ignored::{ignored_in, text_folder};
 use crate::parts::{Lockable, clear_parts, is_ours};
 use crate::raw::StdFiles;
-use crate::reads::{any_bytes, database_bytes, folder_names, is_there, names_in, text_bytes};
+use crate::reads::{
+    any_bytes, database_bytes, folder_names, is_there, names_in, part_at, text_bytes,
+};
 use crate::rooted::Rooted;
 use crate::roots::Root;
 use crate::system::System;
@@ -361,6 +363,10 @@ where
 
     fn identity(&self, path: &str) -> Option<Identity> {
         self.files().identity_of(path)
+    }
+
+    fn part(&self, path: &str, from: usize, buf: &mut [u8]) -> Option<usize> {
+        part_at(&self.files(), path, from, buf)
     }
 }
 

@@ -1,5 +1,5 @@
 //! A file system that tells its answers, for tests: one thing is at each place.
-ghost use Rattle.std.specs.Prelude.{false, true, Ok, None};
+ghost use Rattle.std.specs.Prelude.{◌≡◌, ◌≤◌, drop, false, length, take, true, Ok, None};
 ghost use Rattle.hwdb_fs.specs.Raw.{told_bytes};
 
 use crate::raw::{Kind, RawFiles, Unread};
@@ -21,6 +21,17 @@ impl OneFile {
     pub fn new(alloc: Global, kind: Kind, bytes: Vec<u8>) -> OneFile {
         OneFile { kind, bytes, alloc }
     }
+}
+
+/// Copies what bytes have from a place on into the front of the buffer, up to the end of one of them. Answers how many these are.
+fn copy_part(bytes: &[u8], from: usize, buf: &mut [u8]) -> usize
+    ensures within { result ≤ length buf.new }
+    ensures copied { take result buf.new ≡ take (length buf.new) (drop from bytes.now) }
+{
+    let from = from.min(bytes.len());
+    let n = buf.len().min(bytes.len() - from);
+    buf[..n].copy_from_slice(&bytes[from..from + n]);
+    n
 }
 
 impl RawFiles for OneFile {
@@ -65,6 +76,10 @@ impl RawFiles for OneFile {
             Ok(bytes) => Ok(bytes),
             Err(_) => Err(Unread::Memory),
         }
+    }
+
+    fn part_of(&self, _: &str, from: usize, buf: &mut [u8]) -> Option<usize> {
+        Some(copy_part(&self.bytes, from, buf))
     }
 
     fn listing_of(&self, _: Global, _: &str) -> Result<Option<Vec<u8>>, Unread> {

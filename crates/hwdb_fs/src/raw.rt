@@ -1,5 +1,5 @@
 //! What a file system answers, call by call, and nothing decided: this alone is believed of reading (docs/assumptions.md).
-ghost use Rattle.std.specs.Prelude.{◌≡◌, ◌≤◌, ℕ, List, Bool, false, Option, Result, Err, IfOk, IfSome, string_bytes, vec_len, option_map};
+ghost use Rattle.std.specs.Prelude.{◌≡◌, ◌≤◌, ℕ, List, Bool, false, Option, Result, Ok, Err, IfOk, IfSome, drop, length, string_bytes, take, vec_len, option_map};
 ghost use Rattle.hwdb_spec.specs.Texts.{max_file};
 ghost use Rattle.hwdb_spec.specs.declared.causes.Cause.{Cause};
 ghost use Rattle.hwdb_spec.specs.declared.causes.Cause.TheVariants.{Memory};
@@ -10,10 +10,10 @@ ghost use Rattle.hwdb_fs.specs.Raw.{IsTold, IsToldRead};
 
 use crate::identity::Identity;
 use crate::roots::Root;
-use hwdb_io::{Cause, FromRead, MAX_BYTES, ReadError, read_all};
+use hwdb_io::{Cause, FromRead, MAX_BYTES, ReadError, Source, read_all};
 use std::alloc::Global;
 use std::fs::{self, File, OpenFile};
-use std::io::{self, ErrorKind, Read};
+use std::io::{self, ErrorKind, Read, Seek, SeekFrom};
 use std::os::unix::fs::{FileTypeExt, MetadataExt};
 use std::rt::Files;
 
@@ -81,6 +81,14 @@ pub trait RawFiles {
     fn contents_of(&self, alloc: Global, at: &str) -> Result<Vec<u8>, Unread>
         ensures told { tells → IsToldRead (λ v. v.items) (contents self.now at.now) result }
         ensures within { IfOk result (λ bytes. vec_len bytes ≤ max_file) };
+
+    /// Reads what is at a place from `from` on, up to its end or the buffer's. Answers how many bytes these are, or None if that
+    /// can't be told.
+    fn part_of(&self, at: &str, from: usize, buf: &mut [u8]) -> Option<usize>
+        ensures within { IfSome result (λ n. n ≤ length buf.new) }
+        ensures told { tells → IfSome result (λ n. (bytes : List ℕ)
+            → contents self.now at.now ≡ Ok bytes
+            → take n buf.new ≡ take (length buf.new) (drop from bytes)) };
 
     /// Lists a folder.
     fn listing_of(&self, alloc: Global, folder: &str) -> Result<Option<Vec<u8>>, Unread>
@@ -169,6 +177,21 @@ pub fn up_to<R: Read + Drop>(alloc: Global, reader: R, limit: u32) -> Result<Vec
     }
 }
 
+/// Reads up to a source's end or the buffer's. Answers how many bytes these are, or None if a call fails.
+fn filled<S: Source>(source: &mut S, buf: &mut [u8]) -> Option<usize>
+    ensures { IfSome result (λ n. n ≤ length buf.new) }
+{
+    let mut n = 0;
+    'filling: while n < buf.len() {
+        match source.read(&mut buf[n..]) {
+            Ok(0) => return Some(n),
+            Ok(more) => n += more,
+            Err(_) => return None,
+        }
+    }
+    Some(n)
+}
+
 impl<'a, R: Files> RawFiles for StdFiles<'a, R>
 where
     R::File: Drop,
@@ -218,6 +241,16 @@ where
         match File::open(self.rt, at) {
             Ok(file) => all_of(alloc, file),
             Err(error) => Err(failed(&error)),
+        }
+    }
+
+    fn part_of(&self, at: &str, from: usize, buf: &mut [u8]) -> Option<usize> {
+        let Ok(mut file) = File::open(self.rt, at) else {
+            return None;
+        };
+        match file.seek(SeekFrom::Start(from as u64)) {
+            Ok(_) => filled(&mut FromRead::new(file), buf),
+            Err(_) => None,
         }
     }
 

@@ -1,5 +1,5 @@
 //! What the program asks of a file system.
-ghost use Rattle.std.specs.Prelude.{◌≡◌, ◌≤◌, ℕ, List, Some, IfOk, IfErr, IfSome, OnOk, is_some, map, option_map, string_bytes, vec_len};
+ghost use Rattle.std.specs.Prelude.{◌≡◌, ◌≤◌, ℕ, List, Some, IfOk, IfErr, IfSome, OnOk, drop, is_some, length, map, option_map, string_bytes, take, vec_len};
 ghost use Rattle.hwdb_spec.specs.Texts.{max_file};
 ghost use Rattle.hwdb_spec.specs.System.{AreNamesIn, bytes_at};
 ghost use Rattle.hwdb_spec.specs.GivenFolders.{IsUnlistedFolder};
@@ -92,6 +92,17 @@ pub trait System: Store {
     /// What tells the file at a path from one that replaces it; None if nothing is there, or it can't be told. No promise
     /// speaks of it.
     fn identity(&self, _path: &str) -> Option<Identity> {
+        None
+    }
+
+    /// Reads what a regular file at a path has from `from` on, up to its end or the buffer's. Answers how many bytes these are, or
+    /// None if that can't be told.
+    fn part(&self, path: &str, from: usize, buf: &mut [u8]) -> Option<usize>
+        ensures within { IfSome result (λ n. n ≤ length buf.new) }
+        ensures part { Self.tells → IfSome result (λ n. (bytes : List ℕ)
+            → bytes_at (Self.seen self.now) path.now ≡ Some bytes
+            → take n buf.new ≡ take (length buf.new) (drop from bytes)) }
+    {
         None
     }
 }

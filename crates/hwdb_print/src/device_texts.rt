@@ -18,7 +18,7 @@ use hwdb_spec::Form;
 use std::alloc::{AllocError, Global};
 
 /// A text, and in front of it an empty line if it isn't the first.
-fn behind(alloc: Global, lines: Vec<u8>, is_first: bool) -> Result<Vec<u8>, AllocError>
+pub fn behind(alloc: Global, lines: Vec<u8>, is_first: bool) -> Result<Vec<u8>, AllocError>
     ensures { IfOk result (λ text. text.items ≡ text_behind is_first lines.items) }
 {
     if is_first {

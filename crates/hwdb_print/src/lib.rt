@@ -9,6 +9,7 @@
 //! | `json_explanations` | the lines of JSON of `explain` |
 //! | `json_laws` | what is read of JSON is what was written |
 //! | `device_texts` | what is printed of devices, one after another |
+//! | `kept_texts` | what `query` prints of a database of which the strings alone are held |
 //! | `queries` | `query` and `explain`: what a database gives devices |
 //! | `hit_lines` | the hits of a cursor, one line after another |
 //! | `listing` | `list`: the hits that a database has for a device |
@@ -27,6 +28,7 @@ mod hit_lines;
 mod json_explanations;
 mod json_laws;
 mod json_lines;
+mod kept_texts;
 mod line_reader;
 mod listing;
 mod queries;
@@ -42,6 +44,7 @@ pub use hwdb_spec::{Form, ToolError};
 pub use json_explanations::explanation_lines_json;
 pub use json_laws::json_is_read_back;
 pub use json_lines::{put_named, put_raw, raw_of};
+pub use kept_texts::texts_of_kept;
 pub use listing::{print_list, run_list};
 pub use queries::{answer, answers, run_query};
 pub use renewal::{Kept, Renewal};

@@ -8,7 +8,7 @@ use Rattle.hwdb_spec.specs.Folders.{Source, all_assignments}
 use Rattle.hwdb_spec.specs.Explanations.{explain_text}
 use Rattle.hwdb_spec.specs.Json.{explain_json}
 use Rattle.hwdb_spec.specs.Store.{Contents}
-use Rattle.hwdb_spec.specs.System.{AreFilesIn, bytes_at, etc_files, usr_files}
+use Rattle.hwdb_spec.specs.System.{AreFilesIn, asked_database, bytes_at, etc_files, usr_files}
 use Rattle.hwdb_spec.specs.Tree.{Tree}
 use Rattle.hwdb_text.specs.Views.{choice_of}
 use Rattle.hwdb_compile.specs.Views.{AreChosenOf}
@@ -66,3 +66,9 @@ IsDoneOver job database before now status =
 abbrev pub IsNotDoneOver : Job → (database : List ℕ) (before now : World) → Refusal → Type 0
 IsNotDoneOver job database before now refusal =
     IsNotDone job.task (root_of job) job.usr job.strict (world_over (root_of job) database before) (world_over (root_of job) database now) refusal
+
+-- a database is at the path, and it is the one that is asked
+pub record IsAskedFile (root : List ℕ) (contents : Contents) (path : List ℕ) : Type 0 where
+  pub bytes : List ℕ
+  pub there : bytes_at contents path ≡ Some bytes
+  pub asked : asked_database root contents ≡ Some bytes

@@ -8,7 +8,7 @@
 //! | `outlet` | where standard output goes to: a sink whose reader may go away |
 //! | `coloured` | one that shows in colour what it takes |
 //! | `updates` | `update`; `progress`: what it says of its files; `hiding`: of a database that hides the new one |
-//! | `queries` | `query`, of the devices of the words or of standard input |
+//! | `queries` | `query`, of the devices of the words or of standard input; `in_parts`: of a database whose strings alone are held |
 //! | `answers` | `explain`, `list` and `ask` |
 //! | `input_devices` | `query -` and `explain -`: the devices that standard input names |
 //! | `reloading` | the database that answers them, and the one that replaces it |
@@ -49,6 +49,7 @@ mod failures;
 mod given;
 mod given_folders;
 mod hiding;
+mod in_parts;
 mod input_devices;
 mod laws;
 mod missing;

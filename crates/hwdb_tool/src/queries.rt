@@ -14,6 +14,7 @@ ghost use Rattle.hwdb_tool.specs.Views.{texts_in};
 
 use crate::answer::Answer;
 use crate::databases::asked;
+use crate::in_parts::answer_in_parts;
 use crate::input_devices::answer_input;
 use crate::printing::printed;
 use hwdb_fs::{Refusal, System};
@@ -81,6 +82,29 @@ fn is_input(devices: &[String]) -> bool
 
 /// The properties that the database below the root gives each of these devices.
 fn query_given<D: System>(
+    alloc: Global,
+    root: &str,
+    devices: &[String],
+    json: bool,
+    system: &D,
+) -> Result<Answer, Refusal>
+    ensures status { IfOk result (λ a. a.status ≡ 0) }
+    ensures answered { D.Store.tells → IfOk result (λ a. OnOut (IsAnswered root.now
+        (IsTextOf (texts_of (Form.Query json) (map string_bytes devices.now)))
+        (D.Store.seen system.now)) (texts_in a)) }
+    ensures refused { D.Store.tells → IfErr result
+        (IsUnanswered root.now (D.Store.seen system.now)) }
+    ensures reason { IfErr result
+        (HasReason (D.System.may_fail system.now) ⊥ (D.Store.seen system.now)) }
+{
+    match answer_in_parts(alloc, root, devices, json, system) {
+        Some(answer) => Ok(answer),
+        None => query_whole(alloc, root, devices, json, system),
+    }
+}
+
+/// The same of a database that is read as a whole.
+fn query_whole<D: System>(
     alloc: Global,
     root: &str,
     devices: &[String],

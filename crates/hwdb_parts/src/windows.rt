@@ -1,0 +1,76 @@
+//! The windows of a file that were read.
+ghost use Rattle.std.specs.Prelude.{◌≡◌, ℕ, List, IsTrue, OnOk, length};
+ghost use Rattle.hwdb_lookup.specs.Windows.{IsOfWindows};
+ghost use Rattle.hwdb_passes.specs.Views.{IsPart};
+ghost use Rattle.hwdb_parts.specs.Views.{AreOf, IsKept};
+
+use crate::kept::KeptFile;
+use crate::places::{Places, fill};
+use hwdb_lookup::{WINDOW, Windows};
+use hwdb_passes::Outline;
+use std::alloc::{AllocError, Global};
+
+/// The windows of a file that were read so far.
+#[derive(Drop)]
+pub struct ReadWindows {
+    /// Their bytes, one window after another.
+    pub bytes: Vec<u8>,
+    /// Where each is in the file.
+    pub places: Vec<usize>,
+}
+
+impl ReadWindows {
+    /// None was read.
+    #[tactic(auto, using(crate::proofs::WindowLemmas::none_read))]
+    pub fn new(alloc: Global) -> ReadWindows
+        ensures { (file : List ℕ) → AreOf result file }
+    {
+        ReadWindows {
+            bytes: Vec::new(alloc),
+            places: Vec::new(alloc),
+        }
+    }
+
+    /// Takes one more window.
+    fn push(&mut self, window: &[u8], place: usize) -> Result<(), AllocError>
+        requires { length window.now ≡ 4096 }
+        ensures { OnOk result ((file : List ℕ) → IsPart file place window.now
+            → AreOf self.old file → AreOf self.new file) }
+    {
+        self.bytes.extend_from_slice(window)?;
+        self.places.push(place)?;
+        Ok(())
+    }
+
+    /// Reads one more window: that at a place, or the file's last.
+    pub fn add<P: Places>(&mut self, places: &P, size: usize, place: usize) -> bool
+        ensures { IsTrue result → (file : List ℕ) → P.is_of places.now file
+            → AreOf self.old file → AreOf self.new file }
+    {
+        let mut window = [0u8; WINDOW];
+        let first = place.min(size.saturating_sub(WINDOW));
+        if !fill(places, first, &mut window) {
+            return false;
+        }
+        match self.push(&window, first) {
+            Ok(()) => true,
+            Err(_) => false,
+        }
+    }
+
+    /// What a lookup is told of the file.
+    pub fn of<'a>(&'a self, kept: &'a KeptFile) -> Windows<'a>
+        ensures { (file : List ℕ) → IsKept kept.now file → AreOf self.now file
+            → IsOfWindows result file }
+    {
+        Windows {
+            outline: Outline {
+                frame: kept.frame,
+                size: kept.size,
+                strings: &kept.strings,
+            },
+            bytes: &self.bytes,
+            places: &self.places,
+        }
+    }
+}

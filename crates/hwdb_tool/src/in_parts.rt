@@ -1,0 +1,100 @@
+//! `query` of a database of which the strings alone are held. The file is checked while it is read. After that the few records
+//! are read that the devices need.
+//!
+//! None says nothing: the file isn't accepted, a call failed, memory was refused, or the file was replaced meanwhile. Then the
+//! whole file is read, which tells the error if there is one.
+ghost use Rattle.std.specs.Prelude.{◌≡◌, ◌≤◌, ℕ, List, Some, length, map, string_bytes, IfSome};
+ghost use Rattle.hwdb_spec.specs.Asked.{IsAnswered};
+ghost use Rattle.hwdb_spec.specs.Databases.{IsTextOf};
+ghost use Rattle.hwdb_spec.specs.Runs.{OnOut};
+ghost use Rattle.hwdb_spec.specs.Streams.{texts_of};
+ghost use Rattle.hwdb_spec.specs.System.{bytes_at};
+ghost use Rattle.hwdb_spec.specs.Texts.{max_file};
+ghost use Rattle.hwdb_tool.specs.Internal.{IsAskedFile};
+ghost use Rattle.hwdb_tool.specs.Views.{texts_in};
+
+use crate::answer::Answer;
+use crate::hiding::database_path;
+use hwdb_fs::System;
+use hwdb_io::MAX_BYTES;
+use hwdb_parts::{Places, accepted};
+use hwdb_print::{Form, texts_of_kept};
+use std::alloc::Global;
+
+/// The file at a path.
+#[derive(Clone, Copy)]
+struct FileAt<'a, D: System> {
+    system: &'a D,
+    path: &'a str,
+}
+
+impl<'a, D: System> Places for FileAt<'a, D> {
+    ghost is_of = { λ f file. D.Store.tells
+        × (bytes_at (D.Store.seen f.system.now) f.path.now ≡ Some file) };
+
+    fn part(&self, from: usize, buf: &mut [u8]) -> Option<usize> {
+        self.system.part(self.path, from, buf)
+    }
+}
+
+/// The path of the database that is asked, if something is there.
+fn asked_path<D: System>(alloc: Global, root: &str, system: &D) -> Option<String>
+    ensures { D.Store.tells → IfSome result
+        (λ path. IsAskedFile root.now (D.Store.seen system.now) (string_bytes path)) }
+{
+    let Ok(etc) = database_path(alloc, root, false) else {
+        return None;
+    };
+    match system.is_there(alloc, etc.as_str()) {
+        Ok(true) => return Some(etc),
+        Ok(false) => {}
+        Err(_) => return None,
+    }
+    let Ok(usr) = database_path(alloc, root, true) else {
+        return None;
+    };
+    match system.is_there(alloc, usr.as_str()) {
+        Ok(true) => Some(usr),
+        _ => None,
+    }
+}
+
+/// What `query` prints of the devices, if the file at the path is accepted, and is the same before and after that.
+fn text_in_parts<D: System>(
+    alloc: Global,
+    path: &str,
+    devices: &[String],
+    json: bool,
+    system: &D,
+) -> Option<Vec<u8>>
+    ensures { D.Store.tells → IfSome result (λ text. (bytes : List ℕ)
+        → bytes_at (D.Store.seen system.now) path.now ≡ Some bytes → (length bytes ≤ max_file)
+        × IsTextOf (texts_of (Form.Query json) (map string_bytes devices.now)) bytes text.items) }
+{
+    let before = system.identity(path)?;
+    let file = FileAt { system, path };
+    let kept = accepted(alloc, &file, MAX_BYTES as usize)?;
+    let text = texts_of_kept(alloc, &file, &kept, devices, json)?;
+    if system.identity(path) != Some(before) {
+        return None;
+    }
+    Some(text)
+}
+
+/// What `query` prints of the devices, if it can be told without all of the database in memory.
+pub fn answer_in_parts<D: System>(
+    alloc: Global,
+    root: &str,
+    devices: &[String],
+    json: bool,
+    system: &D,
+) -> Option<Answer>
+    ensures status { IfSome result (λ a. a.status ≡ 0) }
+    ensures answered { D.Store.tells → IfSome result (λ a. OnOut (IsAnswered root.now
+        (IsTextOf (texts_of (Form.Query json) (map string_bytes devices.now)))
+        (D.Store.seen system.now)) (texts_in a)) }
+{
+    let path = asked_path(alloc, root, system)?;
+    let text = text_in_parts(alloc, path.as_str(), devices, json, system)?;
+    Some(Answer::new(alloc, text, 0))
+}
