@@ -5,7 +5,7 @@ ghost use Rattle.hwdb_parts.specs.Views.{IsKept};
 
 use crate::kept::KeptFile;
 use crate::passes::is_accepted;
-use crate::places::{Places, ends_at, read_part};
+use crate::places::{Places, ends_at, fill, read_part};
 use hwdb_passes::{open_outline, open_sections};
 use hwdb_reader::{Frame, u64_at};
 use std::alloc::Global;
@@ -52,6 +52,10 @@ pub fn accepted<P: Places>(alloc: Global, places: &P, most: usize) -> Option<Kep
     let header = read_part(alloc, places, 0, HEADER)?;
     let size = u64_at(&header, 16);
     if size > most || !ends_at(places, size) {
+        return None;
+    }
+    // A file that was cut asks for no memory.
+    if !fill(places, size.saturating_sub(1), &mut [0u8; 1]) {
         return None;
     }
     let Some(frame) = open_sections(&header, size) else {
