@@ -1,14 +1,10 @@
 -- What was read of a file is what is in it.
-use Rattle.std.proofs.Common.{Result, Ok, Err, IfErr, IsTrue, ◌↔◌, ◌≡◌, ◌≤◌, ◌<◌, ◌-◌, ◌/◌, ℕ, zero, suc, ◌+◌, ◌*◌, List, [], ◌∷◌, length, take, drop, slice_index, Bool, true, false, not, cond, ◌==◌, refl, sym, ◌∙◌, ap, subst, arith}
-use Rattle.std.specs.Result.{IsErrAnd}
+use Rattle.std.proofs.Common.{◌≡◌, ◌≤◌, ◌<◌, ◌-◌, ◌/◌, ℕ, zero, suc, ◌+◌, ◌*◌, List, [], ◌∷◌, length, take, drop, slice_index, Bool, true, false, not, cond, ◌==◌, refl, sym, ◌∙◌, ap, arith}
 use Rattle.std.proofs.lemmas.List.{get_or-drop, length-drop}
-use Rattle.std.proofs.lemmas.Nat.{mul-le}
 use Rattle.std.proofs.lemmas.List.Sums.{take_while-cons}
 use Rattle.std.specs.List.{take_while}
 use Rattle.byteorder.specs.Endian.{little_from}
-use Rattle.hwdb_spec.specs.declared.Layout.{Layout}
-use Rattle.hwdb_spec.specs.Tree.{Value}
-use Rattle.hwdb_spec.specs.Format.{number_at, text_at, value_at, IsPlace, IsValue, record_end, child_entry, child_byte, child_off, children_count, values_count, value_entries, prefix_off}
+use Rattle.hwdb_spec.specs.Format.{number_at, text_at}
 use Rattle.hwdb_lookup.specs.Views.{IsOf}
 use Rattle.hwdb_lookup.specs.Internal.Agreement.{AgreeIn}
 use Rattle.hwdb_lookup.specs.declared.known.Known.{Known}
@@ -45,10 +41,6 @@ unfolding number_at
 number_same a b n i same =
     same_from (drop i a) (drop i b) 0 n
     (λ j above below. slice_index_drop a i j ∙ same (i + j) (omega arith) (omega (arith, below)) ∙ sym (slice_index_drop b i j))
-
--- the number at i, of bytes that agree in a longer stretch
-pub number_in : (a b : List ℕ) (from to n i : ℕ) → from ≤ i → i + n ≤ to → AgreeIn a b from to → number_at n i a ≡ number_at n i b
-number_in a b from to n i above below same = number_same a b n i (agree_part a b from to i (i + n) above below same)
 
 front_step : (p : ℕ → Bool) (x : ℕ) (xs : List ℕ) (y : ℕ) (ys : List ℕ) → x ≡ y → (p x ≡ true → take_while p xs ≡ take_while p ys) → (t : Bool) → p x ≡ t → take_while p (x ∷ xs) ≡ take_while p (y ∷ ys)
 front_step p x xs y ys first rest true is =
@@ -109,69 +101,3 @@ text_front_same a b i most to size reach same =
     (λ j lt below.
     let rest = length-drop i a in
     slice_index_drop a i j ∙ same (i + j) (omega arith) (reach j lt (omega (arith, below, rest))) ∙ sym (slice_index_drop b i j))
-
--- what a record says of itself is in its first 24 bytes
-module _ (l : Layout) (a b : List ℕ) (off : ℕ) (same : AgreeIn a b off (off + 24)) where
-  pub children_same : children_count a off ≡ children_count b off
-  children_same = same (off + 8) (omega arith) (omega arith)
-
-  pub values_same : values_count a off ≡ values_count b off
-  values_same = number_in a b off (off + 24) 8 (off + 16) (omega arith) (omega arith) same
-
-  pub prefix_same : prefix_off a off ≡ prefix_off b off
-  prefix_same = number_in a b off (off + 24) 8 off (omega arith) (omega arith) same
-
-  entries_same : value_entries l a off ≡ value_entries l b off
-  entries_same = ap (λ n. off + l.node_size + l.child_size * n) children_same
-
-  pub end_same : record_end l a off ≡ record_end l b off
-  unfolding record_end
-  end_same = ap (λ n. n + l.value_size * values_count a off) entries_same ∙ ap (λ n. value_entries l b off + l.value_size * n) values_same
-
--- one of the child entries is the same where the two agree in all of them
-module _ (l : Layout) (a b : List ℕ) (off count i : ℕ) (big : 16 ≤ l.child_size) (lt : i < count) (same : AgreeIn a b (child_entry l off 0) (child_entry l off count)) where
-  entry_within : (child_entry l off 0 ≤ child_entry l off i) × (child_entry l off i + 16 ≤ child_entry l off count)
-  entry_within =
-      let k : i + 1 ≤ count = omega (arith, lt) in
-      let room = mul-le l.child_size (i + 1) l.child_size count (omega arith) k in (omega arith, omega (arith, room, big))
-
-  pub byte_there : child_byte b (child_entry l off i) ≡ child_byte a (child_entry l off i)
-  byte_there = let w = entry_within in sym (same (child_entry l off i) w.0 (let end = w.1 in omega (arith, end)))
-
-  pub off_there : child_off b (child_entry l off i) ≡ child_off a (child_entry l off i)
-  off_there =
-      let w = entry_within in
-      let first = w.0 in
-      let end = w.1 in
-      sym (number_in a b (child_entry l off 0) (child_entry l off count) 8 (child_entry l off i + 8) (omega (arith, first)) (omega (arith, end)) same)
-
-pub place_same : (l : Layout) (a b : List ℕ) (i j : ℕ) → length a ≡ length b → i ≡ j → IsPlace l a i → IsPlace l b j
-place_same l a b i j size is p = let above = p.above in let below = p.below in record { above = omega (arith, above, is); below = omega (arith, below, is, size) }
-
-value_same : (l : Layout) (a b : List ℕ) (e : ℕ) → length a ≡ length b → AgreeIn a b e (e + 32) → IsValue l a e → IsValue l b e
-value_same l a b e size same v =
-    let priority = v.priority in
-    let number = number_in a b e (e + 32) 2 (e + 28) (omega arith) (omega arith) same in
-    record {
-      key = place_same l a b _ _ size (number_in a b e (e + 32) 8 e (omega arith) (omega arith) same) v.key;
-      value = place_same l a b _ _ size (number_in a b e (e + 32) 8 (e + 8) (omega arith) (omega arith) same) v.value;
-      path = place_same l a b _ _ size (number_in a b e (e + 32) 8 (e + 16) (omega arith) (omega arith) same) v.path;
-      priority = omega (arith, priority, number);
-    }
-
--- where a value entry is, by the number of children
-pub entries_are : (l : Layout) (a b : List ℕ) (off n i : ℕ) → n ≡ children_count a off → n ≡ children_count b off
-    → value_entries l a off + l.value_size * i ≡ value_entries l b off + l.value_size * i
-entries_are l a b off n i p q = ap (λ k. child_entry l off k + l.value_size * i) (sym p ∙ q)
-
--- a value entry at one place is sound as in the other bytes
-pub value_there : (l : Layout) (a b : List ℕ) (there here : ℕ) → length a ≡ length b → AgreeIn a b here (here + 32) → there ≡ here → IsValue l a there → IsValue l b here
-value_there l a b there here size same is v = value_same l a b here size same (subst (IsValue l a) is v)
-
-pub value_is : (file : List ℕ) (e : ℕ) (v : Value) → v.priority ≡ number_at 2 (e + 28) file → v.line ≡ number_at 4 (e + 24) file → v.key ≡ text_at file (number_at 8 e file)
-    → v.value ≡ text_at file (number_at 8 (e + 8) file) → v.path ≡ text_at file (number_at 8 (e + 16) file) → v ≡ value_at file e
-unfolding value_at
-value_is file e v p l k w q = λ i. record { priority = p i; line = l i; key = k i; value = w i; path = q i }
-
-pub refuted : (P : Type 0) (b : Bool) → b ≡ false → (IsTrue b ↔ P) → P → ⊥
-refuted P b e h p = let t : b ≡ true = h.1 p in cc

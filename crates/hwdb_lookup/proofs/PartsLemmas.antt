@@ -1,11 +1,11 @@
 -- What was read of a file, in either form.
-use Rattle.std.proofs.Common.{Result, Ok, Err, IfErr, IsTrue, ◌↔◌, ◌≡◌, ◌≢◌, ◌≤◌, ◌<◌, ◌-◌, ◌+◌, ◌*◌, ℕ, zero, suc, List, [], ◌∷◌, length, take, drop, slice_index, Bool, true, false, refl, sym, ◌∙◌, ap, subst, arith}
+use Rattle.std.proofs.Common.{Result, Ok, Err, IfErr, IsTrue, ◌↔◌, ◌≡◌, ◌≤◌, ◌<◌, ◌-◌, ◌+◌, ◌*◌, ℕ, zero, suc, List, [], ◌∷◌, length, take, drop, slice_index, Bool, true, false, refl, sym, ◌∙◌, ap, subst, arith}
 use Rattle.std.specs.Result.{IsErrAnd}
 use Rattle.std.proofs.lemmas.Grind.{common_steps}
 use Rattle.std.proofs.lemmas.List.{length-drop}
 use Rattle.hwdb_spec.specs.declared.Layout.{Layout}
 use Rattle.hwdb_spec.specs.Tree.{Value}
-use Rattle.hwdb_spec.specs.Format.{number_at, text_at, value_at, IsPlace, IsValue, record_end, child_entry, child_byte, child_off, children_count, values_count, value_entries, prefix_off}
+use Rattle.hwdb_spec.specs.Format.{number_at, text_at, value_at, IsPlace, record_end, child_entry, child_byte, child_off, children_count, values_count, value_entries, prefix_off}
 use Rattle.hwdb_passes.specs.Views.{IsPart}
 use Rattle.hwdb_passes.specs.Lemmas.Parts.{byte_is, number_is, slice_index_drop}
 use Rattle.hwdb_lookup.specs.Views.{Stops}

@@ -7,10 +7,10 @@ use Rattle.std.specs.Ordering.{nat_cmp, ordering_then}
 use Rattle.std.specs.Cmp.Lexicographic.{slice_cmp}
 use Rattle.hwdb_spec.specs.declared.Layout.{Layout}
 use Rattle.hwdb_spec.specs.Assignment.{text_cmp}
-use Rattle.hwdb_spec.specs.Tree.{Value, IsAbove}
-use Rattle.hwdb_spec.specs.Format.{number_at, text_at, value_at, key_off, file_priority, IsPlace, IsValue, ValuesText}
+use Rattle.hwdb_spec.specs.Tree.{IsAbove}
+use Rattle.hwdb_spec.specs.Format.{number_at, text_at, value_at, key_off, IsPlace, IsValue, ValuesText}
 use Rattle.hwdb_passes.specs.Views.{IsPart, IsOf}
-use Rattle.hwdb_passes.specs.Internal.{values_at, IsInside, ValuesStand}
+use Rattle.hwdb_passes.specs.Internal.{values_at, ValuesStand}
 use Rattle.hwdb_passes.specs.declared.outline.Outline.{Outline}
 use Rattle.hwdb_passes.specs.Lemmas.Parts.{number_is, front_is}
 

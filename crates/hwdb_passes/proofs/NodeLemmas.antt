@@ -1,10 +1,10 @@
 -- A node takes its children's place.
-use Rattle.std.proofs.Common.{◌≡◌, ◌≢◌, ◌≤◌, ◌<◌, ◌-◌, ℕ, zero, suc, ◌+◌, ◌*◌, List, [], ◌∷◌, None, length, set, slice_index, get_or, refl, sym, ◌∙◌, ap, subst, arith, add-one, get_or-set_same, get_or-set_other}
+use Rattle.std.proofs.Common.{◌≡◌, ◌≤◌, ◌<◌, ◌-◌, ℕ, zero, suc, ◌+◌, ◌*◌, List, ◌∷◌, None, length, set, slice_index, refl, sym, ◌∙◌, ap, subst, arith, get_or-set_same, get_or-set_other}
 use Rattle.hwdb_spec.specs.declared.Layout.{Layout}
 use Rattle.hwdb_spec.specs.Tree.{Value, Tree, Children, count}
 use Rattle.hwdb_spec.specs.Tree.Tree.{Node}
 use Rattle.hwdb_spec.specs.Tree.Children.{NoMore, Child}
-use Rattle.hwdb_spec.specs.Format.{number_at, NodeText, ChildrenText, ValuesText, IsPlace, IsDatabase, layout_of, max_levels, record_end, child_entry, child_byte, child_off, children_count, values_count, value_entries, prefix_off, text_at}
+use Rattle.hwdb_spec.specs.Format.{number_at, NodeText, ChildrenText, ValuesText, IsPlace, IsDatabase, max_levels, record_end, child_entry, child_byte, child_off, children_count, values_count, value_entries, prefix_off, text_at}
 use Rattle.hwdb_passes.specs.Views.{IsPart, IsOf, Stand, Stands, pending}
 use Rattle.hwdb_passes.specs.Internal.{values_at, ChildrenStand}
 use Rattle.hwdb_passes.specs.declared.outline.Outline.{Outline}

@@ -1,4 +1,4 @@
-use Rattle.std.proofs.Common.{◌≡◌, ◌≤◌, ◌-◌, ◌++◌, List, ℕ, length}
+use Rattle.std.proofs.Common.{◌≡◌, ◌≤◌, ◌-◌, ◌++◌, List, ℕ}
 use Rattle.hwdb_pattern.specs.Views.{StandsFor}
 use Rattle.hwdb_spec.specs.Format.{text_at}
 use Rattle.hwdb_lookup.specs.Internal.Parts.{MayBeOf, size_of}

@@ -1,7 +1,7 @@
 use Rattle.std.proofs.Common.{◌≡◌, ◌++◌, List, ℕ, map}
 use Rattle.hwdb_query.specs.Views.{assignment_of_answer}
 use Rattle.hwdb_spec.specs.Tree.{Value}
-use Rattle.hwdb_lookup.specs.Internal.Parts.{MayBeOf, size_of}
+use Rattle.hwdb_lookup.specs.Internal.Parts.{MayBeOf}
 use Rattle.hwdb_lookup.specs.Internal.Heads.{AreValues, ValuesLeft, own_members}
 use Rattle.hwdb_lookup.proofs.descent.collect.Given as goal
 

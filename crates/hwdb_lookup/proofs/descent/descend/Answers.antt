@@ -1,4 +1,4 @@
-use Rattle.std.proofs.Common.{◌≡◌, ◌∙◌, [], List, ℕ, length, refl, sym, subst, eqb-true}
+use Rattle.std.proofs.Common.{◌≡◌, ◌∙◌, [], List, ℕ, sym, subst, eqb-true}
 use Rattle.hwdb_spec.specs.Assignment.{Assignment}
 use Rattle.hwdb_spec.specs.Tree.{Tree}
 use Rattle.hwdb_spec.specs.Format.{IsDatabase, layout_of, max_levels}

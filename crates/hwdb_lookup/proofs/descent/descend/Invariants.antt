@@ -1,7 +1,7 @@
 use Rattle.std.proofs.Common.{◌≡◌, ◌+◌, [], List, ℕ, length}
 use Rattle.hwdb_spec.specs.Tree.{Tree}
 use Rattle.hwdb_spec.specs.Format.{IsDatabase, layout_of}
-use Rattle.hwdb_lookup.specs.Internal.Parts.{MayBeOf, size_of}
+use Rattle.hwdb_lookup.specs.Internal.Parts.{MayBeOf}
 use Rattle.hwdb_lookup.specs.Internal.Descents.{AllStand, Comes, stack_of, wanted_under}
 use Rattle.hwdb_lookup.proofs.descent.descend.Given as goal
 

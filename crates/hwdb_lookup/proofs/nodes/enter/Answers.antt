@@ -1,5 +1,4 @@
-use Rattle.std.proofs.Common.{◌≡◌, ◌≤◌, ◌+◌, ◌-◌, ◌∙◌, ℕ, ap, length, sym, arith}
-use Rattle.hwdb_spec.specs.Format.{record_end}
+use Rattle.std.proofs.Common.{◌≤◌, ◌+◌, ◌∙◌, ap, length, arith}
 use Rattle.hwdb_lookup.proofs.PartsLemmas.{children_same, values_same, prefix_same, end_same, place_there, refuted, record_room}
 use Rattle.hwdb_lookup.proofs.nodes.enter.Goals as goal
 

@@ -1,4 +1,4 @@
-use Rattle.std.proofs.Common.{◌≡◌, ◌≤◌, ◌+◌, ◌-◌, ℕ, List, length, subst, sym, arith}
+use Rattle.std.proofs.Common.{◌≡◌, ◌-◌, length, subst, sym, arith}
 use Rattle.hwdb_passes.specs.Views.{IsPart}
 use Rattle.hwdb_lookup.proofs.windows.seen_of.Goals as goal
 

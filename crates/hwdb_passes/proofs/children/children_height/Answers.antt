@@ -1,5 +1,5 @@
-use Rattle.std.proofs.Common.{◌≡◌, ◌-◌, ◌+◌, ◌∙◌, ℕ, suc, sym, arith}
-use Rattle.hwdb_passes.proofs.NodeLemmas.{children_begin, children_end, child_there, child_taken}
+use Rattle.std.proofs.Common.{◌-◌, ◌+◌, ◌∙◌, sym, arith}
+use Rattle.hwdb_passes.proofs.NodeLemmas.{children_begin, child_there, child_taken}
 use Rattle.hwdb_passes.proofs.children.children_height.Goals as goal
 
 pub loop-i-init : goal.loop-i-init

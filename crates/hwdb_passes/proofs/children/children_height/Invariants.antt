@@ -1,4 +1,4 @@
-use Rattle.std.proofs.Common.{◌≡◌, ◌≤◌, ◌+◌, ◌-◌, ℕ, List}
+use Rattle.std.proofs.Common.{◌≤◌, ◌+◌, ◌-◌, ℕ, List}
 use Rattle.hwdb_passes.specs.Views.{IsPart, Stand, pending}
 use Rattle.hwdb_passes.specs.Internal.{ChildrenStand}
 use Rattle.hwdb_passes.proofs.children.children_height.Given as goal

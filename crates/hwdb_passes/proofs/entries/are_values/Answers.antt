@@ -1,4 +1,4 @@
-use Rattle.std.proofs.Common.{◌≡◌, ◌≤◌, ◌<◌, ◌-◌, ◌+◌, ◌*◌, ◌∙◌, ℕ, suc, Option, None, MatchOption, sym, refl, subst, arith, Less, length}
+use Rattle.std.proofs.Common.{◌≡◌, ◌-◌, ◌+◌, ◌*◌, ◌∙◌, suc, None, MatchOption, sym, refl, subst, arith, Less, length}
 use Rattle.hwdb_spec.specs.Assignment.{text_cmp}
 use Rattle.hwdb_spec.specs.Format.{text_at}
 use Rattle.hwdb_passes.specs.Internal.{IsInside}

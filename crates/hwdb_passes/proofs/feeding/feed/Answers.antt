@@ -1,4 +1,4 @@
-use Rattle.std.proofs.Common.{◌≡◌, ◌<◌, ◌-◌, ◌+◌, ℕ, length, arith}
+use Rattle.std.proofs.Common.{◌<◌, ◌-◌, length, arith}
 use Rattle.hwdb_passes.proofs.NodeLemmas.{record_room}
 use Rattle.hwdb_passes.proofs.feeding.feed.Goals as goal
 

@@ -1,4 +1,4 @@
-use Rattle.std.proofs.Common.{◌≡◌, ◌≤◌, ◌+◌, ◌-◌, ℕ, List, length}
+use Rattle.std.proofs.Common.{◌≤◌, ◌+◌, ◌-◌, ℕ, List, length}
 use Rattle.hwdb_passes.specs.Views.{IsPart, IsOf, Stands, pending}
 use Rattle.hwdb_passes.proofs.feeding.feed.Given as goal
 

@@ -1,4 +1,4 @@
-use Rattle.std.proofs.Common.{◌≡◌, ◌<◌, ◌-◌, ◌+◌, ℕ, suc, refl, sym, subst, set, length, slice_index, arith}
+use Rattle.std.proofs.Common.{◌-◌, ◌+◌, refl, sym, subst, set, slice_index, arith}
 use Rattle.hwdb_spec.specs.Format.{record_end}
 use Rattle.hwdb_spec.specs.declared.Layout.{Layout}
 use Rattle.hwdb_passes.specs.Views.{Stand, pending}

@@ -1,4 +1,4 @@
-use Rattle.std.proofs.Common.{◌≡◌, ◌≤◌, ◌<◌, ◌+◌, ◌-◌, ◌==◌, ◌∙◌, sym, subst, ℕ, Bool, false, length, arith, zero, suc}
+use Rattle.std.proofs.Common.{◌≡◌, ◌<◌, ◌-◌, ◌==◌, ◌∙◌, sym, subst, ℕ, false, length, arith, zero, suc}
 use Rattle.hwdb_spec.specs.declared.Layout.{Layout}
 use Rattle.hwdb_passes.specs.Views.{IsPart}
 use Rattle.hwdb_passes.proofs.HeaderLemmas.{header_whole}

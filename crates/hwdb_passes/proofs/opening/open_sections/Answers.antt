@@ -1,4 +1,4 @@
-use Rattle.std.proofs.Common.{arith, Bool, true}
+use Rattle.std.proofs.Common.{arith}
 use Rattle.hwdb_passes.proofs.HeaderLemmas.{sections}
 use Rattle.hwdb_passes.proofs.opening.open_sections.Goals as goal
 

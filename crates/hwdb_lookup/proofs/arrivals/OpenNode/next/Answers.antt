@@ -1,4 +1,4 @@
-use Rattle.std.proofs.Common.{◌≡◌, ◌∙◌, ◌<◌, ℕ, refl, arith}
+use Rattle.std.proofs.Common.{◌≡◌, ◌<◌, ℕ, refl, arith}
 use Rattle.hwdb_lookup.proofs.RestLemmas.{rest_ends, rest_passes, rest_next}
 use Rattle.hwdb_lookup.proofs.arrivals.OpenNode.next.Goals as goal
 

@@ -1,6 +1,6 @@
 use Rattle.std.proofs.Common.{◌-◌, List, ℕ}
 use Rattle.hwdb_spec.specs.Assignment.{Assignment}
-use Rattle.hwdb_lookup.specs.Internal.Parts.{MayBeOf, size_of}
+use Rattle.hwdb_lookup.specs.Internal.Parts.{MayBeOf}
 use Rattle.hwdb_lookup.specs.Internal.Descents.{Rest}
 use Rattle.hwdb_lookup.proofs.arrivals.OpenNode.next.Given as goal
 

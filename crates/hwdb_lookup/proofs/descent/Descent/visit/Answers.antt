@@ -3,7 +3,7 @@ use Rattle.std.proofs.lemmas.Result.{on_ok_weaker}
 use Rattle.hwdb_spec.specs.Assignment.{Assignment}
 use Rattle.hwdb_spec.specs.Tree.{Value}
 use Rattle.hwdb_spec.specs.Format.{text_at}
-use Rattle.hwdb_lookup.specs.Internal.Parts.{MayBeOf, size_of}
+use Rattle.hwdb_lookup.specs.Internal.Parts.{MayBeOf}
 use Rattle.hwdb_lookup.specs.Internal.Heads.{Fits, AreValues}
 use Rattle.hwdb_lookup.specs.Internal.Descents.{Enters, Comes, HasCome, IsArrival}
 use Rattle.hwdb_lookup.proofs.PartsLemmas.{stop_given, stop_returned}

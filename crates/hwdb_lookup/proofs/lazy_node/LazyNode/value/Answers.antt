@@ -1,5 +1,5 @@
-use Rattle.std.proofs.Common.{◌≡◌, ◌≤◌, ◌+◌, ◌*◌, ◌∙◌, ap, refl, sym, ℕ, List, length, arith}
-use Rattle.hwdb_spec.specs.Format.{text_at, value_at, value_entries}
+use Rattle.std.proofs.Common.{◌+◌, ◌*◌, ◌∙◌, ap, refl, arith}
+use Rattle.hwdb_spec.specs.Format.{text_at, value_entries}
 use Rattle.hwdb_lookup.proofs.PartsLemmas.{field_there, place_there, refuted, value_is}
 use Rattle.hwdb_lookup.proofs.lazy_node.LazyNode.value.Goals as goal
 

@@ -1,4 +1,4 @@
-use Rattle.std.proofs.Common.{◌≡◌, ◌≤◌, ◌<◌, ◌+◌, ◌-◌, ◌*◌, ℕ, List, subst, take, drop, length, slice_index, arith}
+use Rattle.std.proofs.Common.{◌≡◌, ◌+◌, ◌-◌, ◌*◌, subst, take, drop, slice_index, arith}
 use Rattle.hwdb_passes.specs.Views.{IsPart}
 use Rattle.hwdb_lookup.proofs.PartsLemmas.{window_part}
 use Rattle.hwdb_lookup.proofs.seen.Seen.part.Goals as goal
