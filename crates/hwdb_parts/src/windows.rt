@@ -10,6 +10,9 @@ use hwdb_lookup::{WINDOW, Windows};
 use hwdb_passes::Outline;
 use std::alloc::{AllocError, Global};
 
+/// How far before a place a window may begin.
+const BEFORE: usize = 3072;
+
 /// The windows of a file that were read so far.
 #[derive(Drop)]
 pub struct ReadWindows {
@@ -42,13 +45,21 @@ impl ReadWindows {
         Ok(())
     }
 
-    /// Reads one more window: that at a place, or the file's last.
+    /// Reads one more window, which has the byte at a place. Every other one begins there, so that a long record is in it.
+    /// The rest begin before it: a node's children come before the node.
     pub fn add<P: Places>(&mut self, places: &P, size: usize, place: usize) -> bool
         ensures { IsTrue result → (file : List ℕ) → P.is_of places.now file
             → AreOf self.old file → AreOf self.new file }
     {
         let mut window = [0u8; WINDOW];
-        let first = place.min(size.saturating_sub(WINDOW));
+        let before = if self.places.len() % 2 == 0 {
+            0
+        } else {
+            BEFORE
+        };
+        let first = place
+            .saturating_sub(before)
+            .min(size.saturating_sub(WINDOW));
         if !fill(places, first, &mut window) {
             return false;
         }

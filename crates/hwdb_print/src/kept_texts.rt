@@ -17,8 +17,9 @@ use hwdb_parts::{KeptFile, Places, ReadWindows};
 use hwdb_spec::Form;
 use std::alloc::{AllocError, Global};
 
-/// How many windows are read for one device. Few need a hundred.
-const MOST: usize = 4096;
+/// How many windows are read for one device, since each begins its lookup anew. Devices need at most 16 of Debian's
+/// database. A device that needs more is asked of the whole file.
+const MOST: usize = 32;
 
 /// What is printed of a device with these properties, after those before it.
 fn lines_of_properties(
