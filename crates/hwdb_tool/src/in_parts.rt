@@ -21,6 +21,9 @@ use hwdb_parts::{Places, accepted};
 use hwdb_print::{Form, texts_of_kept};
 use std::alloc::Global;
 
+/// For more devices than these the whole file is read: the records that many need are most of it.
+const FEW: usize = 8;
+
 /// The file at a path.
 #[derive(Clone, Copy)]
 struct FileAt<'a, D: System> {
@@ -94,6 +97,9 @@ pub fn answer_in_parts<D: System>(
         (IsTextOf (texts_of (Form.Query json) (map string_bytes devices.now)))
         (D.Store.seen system.now)) (texts_in a)) }
 {
+    if devices.len() > FEW {
+        return None;
+    }
     let path = asked_path(alloc, root, system)?;
     let text = text_in_parts(alloc, path.as_str(), devices, json, system)?;
     Some(Answer::new(alloc, text, 0))
