@@ -251,7 +251,7 @@ static void calls(const char *path, const char *other) {
     EXPECT(sd_hwdb_get(hwdb, "", "K", &value) == -ENOENT);
     EXPECT(strcmp(value, "left") == 0);
 
-    /* A get behind a seek ends the enumeration, and a seek begins one. */
+    /* A get after a seek ends the enumeration, and a seek begins one. */
     EXPECT(sd_hwdb_enumerate(hwdb, &key, &value) == -EAGAIN);
     EXPECT(sd_hwdb_seek(hwdb, "a") == 0);
     EXPECT(sd_hwdb_enumerate(hwdb, &key, &value) == 1 && strcmp(key, "E") == 0 && strcmp(value, "") == 0);
