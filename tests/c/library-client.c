@@ -102,8 +102,6 @@ int __wrap_munmap(void *at, size_t length) {
     return 0;
 }
 
-uint32_t hwdb_c_check(const uint8_t *bytes, size_t length, uint64_t *place);
-
 /* A file's bytes. */
 static uint8_t *bytes_of(const char *path, size_t *length) {
     struct stat status;
