@@ -1,5 +1,5 @@
 -- Strings of two databases whose bytes are the same.
-use Rattle.std.proofs.Common.{◌≡◌, ◌≤◌, ◌<◌, ◌+◌, ◌-◌, ℕ, zero, suc, List, [], ◌∷◌, length, take, drop, get_or, Bool, true, false, not, cond, Option, None, Some, is_some, All, refl, sym, subst, ◌∙◌, ap, arith, length-drop, ◌⊎◌, inl, inr, ◌==◌}
+use Rattle.std.proofs.Common.{◌≡◌, ◌≤◌, ◌<◌, ◌+◌, ◌-◌, ℕ, zero, suc, List, [], ◌∷◌, length, take, drop, get_or, Bool, true, false, not, cond, None, Some, is_some, All, refl, sym, subst, ◌∙◌, ap, arith, length-drop, ◌⊎◌, inl, inr, ◌==◌}
 use Rattle.std.specs.List.{take_while}
 use Rattle.std.proofs.lemmas.List.{get_or-drop, get_or-take}
 use Rattle.std.proofs.lemmas.Bool.{cases_lt}

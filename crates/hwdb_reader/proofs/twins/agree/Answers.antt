@@ -1,4 +1,4 @@
-use Rattle.std.proofs.Common.{◌∙◌, ◌+◌, ◌-◌, ap, arith, drop, sym, take}
+use Rattle.std.proofs.Common.{◌∙◌, sym}
 use Rattle.hwdb_spec.specs.Lemmas.Orders.{same_text}
 use Rattle.hwdb_reader.proofs.SharedLemmas.{cut_to}
 use Rattle.hwdb_reader.proofs.twins.agree.Goals as goal
