@@ -60,6 +60,15 @@ impl<'t> Assignments<'t> {
         }
     }
 
+    /// No assignment, and room for so many.
+    pub fn with_room(alloc: Global, assignments: usize) -> Result<Self, AllocError>
+        ensures { IfOk result (λ tree. tree ≡ empty) }
+    {
+        Ok(Assignments {
+            entries: Vec::with_capacity(alloc, assignments)?,
+        })
+    }
+
     /// A copy of the list. The texts stay borrowed.
     pub fn copied(&self, alloc: Global) -> Result<Assignments<'t>, AllocError>
         ensures { IfOk result (λ tree. tree ≡ self.now) }
