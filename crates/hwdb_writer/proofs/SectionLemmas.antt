@@ -64,6 +64,7 @@ new_sectioned old ts (suc j) now next lt new e h = record {
   where
     t : List ℕ
     t = text_in ts (suc j)
+
     rest : List (List ℕ)
     rest = drop (suc j + 1) ts
 

@@ -100,7 +100,11 @@ fn room_for(words: &[NumberedStr<'_>]) -> usize {
 /// The table of the strings of an interner, the first of them at `first`.
 ///
 /// A string can have several numbers, and each of these gets its offset. The strings are let go of.
-pub fn table_of(alloc: Global, interner: Interner<'_>, first: usize) -> Result<StringTable, AllocError>
+pub fn table_of(
+    alloc: Global,
+    interner: Interner<'_>,
+    first: usize,
+) -> Result<StringTable, AllocError>
     ensures { IfOk result (IsTable first interner.entry) }
 {
     let mut ordered = interner.into_words();
