@@ -177,10 +177,11 @@ pub fn compile_chosen(
         (λ etc usr. IsRefusal etc usr max_bytes e)) }
 {
     compiled_answers_are_last();
+    keep_pages(alloc);
     let made = paths_of(alloc, files)?;
     let paths = made.as_slice();
-    keep_pages(alloc);
-    let mut tree = Assignments::with_room(alloc, room_for(files))?;
+    let mut tree = Assignments::new(alloc);
+    tree.make_room(room_for(files));
     let mut faults = Vec::new(alloc);
     let given = add_files(alloc, files, paths, &mut tree, &mut faults)?;
     let database = into_database(alloc, tree, max_bytes)?;

@@ -1,5 +1,5 @@
 -- The section of strings that are in order, each once.
-use Rattle.std.proofs.Common.{◌≡◌, ◌≤◌, ◌<◌, ℕ, zero, suc, ◌+◌, List, [], ◌∷◌, ◌++◌, length, get_or, drop, cond, Bool, true, false, refl, sym, ◌∙◌, ap, subst, arith, append_assoc, nat_eq}
+use Rattle.std.proofs.Common.{◌≡◌, ◌≤◌, ◌<◌, ℕ, zero, suc, ◌+◌, List, [], ◌∷◌, ◌++◌, length, get_or, drop, cond, Bool, true, false, refl, sym, ◌∙◌, ap, arith, append_assoc, nat_eq}
 use Rattle.std.specs.List.{dedup_from}
 use Rattle.std.specs.Cmp.Lexicographic.{pointwise, nat_list_eq_equiv}
 use Rattle.std.proofs.lemmas.List.{get_or_default}

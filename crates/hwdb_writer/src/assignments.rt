@@ -60,13 +60,11 @@ impl<'t> Assignments<'t> {
         }
     }
 
-    /// No assignment, and room for so many.
-    pub fn with_room(alloc: Global, assignments: usize) -> Result<Self, AllocError>
-        ensures { IfOk result (λ tree. tree ≡ empty) }
+    /// Makes room for so many assignments, if there is as much memory. The map stays.
+    pub fn make_room(&mut self, assignments: usize)
+        ensures { self.new ≡ self.old }
     {
-        Ok(Assignments {
-            entries: Vec::with_capacity(alloc, assignments)?,
-        })
+        let _ = self.entries.reserve_exact(assignments);
     }
 
     /// A copy of the list. The texts stay borrowed.
