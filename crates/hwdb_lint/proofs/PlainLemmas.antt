@@ -1,11 +1,16 @@
 -- Files of whose lines only the marks of comments have to be looked at.
-use Rattle.std.proofs.Common.{◌≡◌, ℕ, zero, suc, ◌+◌, ◌-◌, ◌<◌, ◌≤◌, ◌==◌, Bool, true, false, not, nat_lt, List, [], ◌∷◌, ◌++◌, map, take, drop, get_or, length, refl, ap, ◌∙◌, sym, subst, cond, arith, Option, None, ◌||◌, ◌&&◌}
-use Rattle.std.specs.Prelude.{filter, nat_eq, if◌then◌else◌}
+use Rattle.std.proofs.Common.{add-one, append-nil,  ◌≡◌, ℕ, zero, suc, ◌+◌, ◌-◌, ◌<◌, ◌≤◌, ◌==◌, Bool, true, false, not, nat_lt, List, [], ◌∷◌, ◌++◌, map, take, drop, get_or, length, refl, ap, ◌∙◌, sym, subst, cond, arith, Option, None, ◌||◌, ◌&&◌}
+use Rattle.std.specs.Prelude.{filter, flat_map, nat_eq, if◌then◌else◌}
 use Rattle.std.specs.List.{list_all, list_any, onto_first, position_or_len, starts_with}
 use Rattle.std.specs.List.Sorted.{IsStrictlySortedBy}
-use Rattle.std.specs.Option.{is_some}
+use Rattle.std.specs.Option.{is_some, unwrap_or}
+use Rattle.std.specs.BTreeMap.{is_at}
+use Rattle.std.specs.BTreeSet.{contains}
+use Rattle.std.specs.Map.{lookup}
+use Rattle.std.specs.Ordering.{nat_cmp}
 use Rattle.std.proofs.lemmas.Bool.{eqb-true, ltb-false, ltb-true}
-use Rattle.std.proofs.lemmas.List.{drop_all, length-take, get_or-take}
+use Rattle.std.proofs.lemmas.List.{drop_all, length-take-le, get_or-take}
+use Rattle.std.proofs.Math.Seq.{drop-cons}
 use Rattle.hwdb_spec.specs.Assignment.{Assignment}
 use Rattle.hwdb_spec.specs.Folders.{same}
 use Rattle.hwdb_spec.specs.FormTable.{prefixes}
@@ -14,15 +19,18 @@ use Rattle.hwdb_spec.specs.Properties.{before, misuse}
 use Rattle.hwdb_spec.specs.Records.{Section, assignments, faults, sections_from}
 use Rattle.hwdb_spec.specs.Surroundings.{companions_text, is_alone, is_elsewhere, is_given, is_read_below, is_unpaired, is_unread, prefix_of}
 use Rattle.hwdb_spec.specs.Unmatched.{is_unmatched, judgement_of}
-use Rattle.hwdb_spec.specs.Warnings.{greatest, is_cut, line_kinds, is_spaced, misused, repeated_lines, replacing}
+use Rattle.hwdb_spec.specs.Warnings.{all_warnings, greatest, is_cut, line_kinds, is_spaced, line_warnings, misused, repeated_lines, replacing}
+use Rattle.hwdb_spec.specs.declared.WarningKind.{WarningKind}
 use Rattle.hwdb_spec.specs.declared.vocabulary.Misuse.{Misuse}
 use Rattle.hwdb_text.specs.declared.outcome.Given.{Given}
 use Rattle.hwdb_text.specs.Laws.{SectionsAreTheBlock}
 use Rattle.hwdb_text.specs.Views.{given_in}
-use Rattle.hwdb_lint.specs.Internal.{by_place, line_of, own, replacing_of}
+use Rattle.hwdb_lint.specs.Internal.{IsKnown, by_place, line_of, own, replacing_of}
+use Rattle.hwdb_lint.specs.declared.known.Known.{Known}
 use Rattle.hwdb_lint.specs.Plain.{AreQuiet, AreSteady, IsPlainAssignment, IsPlainFile, IsPlainPattern, IsPlainProperty, IsQuiet}
 use Rattle.hwdb_lint.proofs.AscendLemmas.{none_replaced}
 use Rattle.hwdb_lint.proofs.BracketLemmas.{no_empty_range, no_match_line, no_open_bracket}
+use Rattle.hwdb_lint.proofs.CalmLemmas.{calm_set}
 use Rattle.hwdb_lint.proofs.RecordLemmas.{AreRead, IsGiven, Steady, file_read}
 use Rattle.hwdb_lint.proofs.ReplaceLemmas.{some_replaces}
 use Rattle.hwdb_lint.proofs.WarningLemmas.{AreSilent, none_warned}
@@ -206,11 +214,11 @@ module _ (file : List ℕ) (f : IsFlat file) (l : Line) where
   silent [] h c g = silent_empty
   silent (x ∷ t) h c g = go (x == 32) refl
     where
-      abbrev At : ℕ → Type 0
-      At y = has 13 (y ∷ t) ≡ false → is_cut l (line_of l.number (y ∷ t)) ≡ false → IsGiven own IsOwn (line_of l.number (y ∷ t)) → Silent (y ∷ t)
-
       go : (b : Bool) → (x == 32) ≡ b → Silent (x ∷ t)
-      go true e = subst At (sym (eqb-true x 32 e)) (silent_property t) h c (g refl)
+      go true e =
+          subst
+          (λ (y : ℕ). has 13 (y ∷ t) ≡ false → is_cut l (line_of l.number (y ∷ t)) ≡ false → IsGiven own IsOwn (line_of l.number (y ∷ t)) → Silent (y ∷ t))
+          (sym (eqb-true x 32 e)) (silent_property t) h c (g refl)
       go false e = silent_match (x ∷ t) (ap not e) e h (g refl)
 
   quiet_line : (is_dropped l ≡ false → is_empty (clean_line l) ≡ false → IsGiven own IsOwn (clean_line l)) → has 13 l.text ≡ false → IsQuiet file l
@@ -290,12 +298,70 @@ uncut_without t e = go (nat_lt size (length t)) refl
     go true l = let h = ltb-true size (length t) l in not_there size t (omega (arith, h, e))
     go false l = let h = ltb-false size (length t) l in not_after size t h
 
-pub uncut_blank : (t : List ℕ) (place d : ℕ) → place ≡ position_or_len (is 35) t → 0 < place → place ≤ length t → is_blank (get_or t (place - 1) d) ≡ true
+pub uncut_blank : (t : List ℕ) (place k d : ℕ) → place ≡ position_or_len (is 35) t → place ≡ suc k → place ≤ length t → is_blank (get_or t k d) ≡ true
     → is_cut (line_of 0 t) (clean_line (line_of 0 t)) ≡ false
-uncut_blank t zero d e some within b = absurd (omega (arith, some))
-uncut_blank t (suc k) d e some within b =
-    let front : List ℕ = take (suc k) t in
-    let size : length front ≡ suc k = omega (arith, length-take (suc k) t, within) in
-    let last : is_blank (get_or front k d) ≡ true = ap is_blank (get_or-take (suc k) t k d (omega arith)) ∙ b in
-    let short : length (trimmed front) ≤ k = trimmed_shorter front k d (sym size) last in
-    subst (λ (n : ℕ). begins_with 35 (drop (length (trimmed (take n t))) t) ≡ false) e (not_there (length (trimmed front)) t (omega (arith, short, e)))
+uncut_blank t place k d e next within b =
+    let front : List ℕ = take place t in
+    let size : length front ≡ place = length-take-le place t within in
+    let last : is_blank (get_or front k d) ≡ true = ap is_blank (get_or-take place t k d (omega (arith, next))) ∙ b in
+    let short : length (trimmed front) ≤ k = trimmed_shorter front k d (sym (size ∙ next)) last in
+    subst (λ (n : ℕ). begins_with 35 (drop (length (trimmed (take n t))) t) ≡ false) e (not_there (length (trimmed front)) t (omega (arith, short, e, next)))
+
+pub blank_space : (b : ℕ) → b ≡ 32 → is_blank b ≡ true
+blank_space b e = ap is_blank e
+
+pub blank_tab : (b : ℕ) → b ≡ 9 → is_blank b ≡ true
+blank_tab b e = ap is_blank e
+
+pub no_members : {A : Type 0} (xs : List A) → length xs ≡ 0 → xs ≡ []
+no_members [] e = refl
+no_members (x ∷ xs) e = absurd (omega (arith, e))
+
+-- ---- loops
+
+pub false_if : (b : Bool) → not b ≡ true → b ≡ false
+false_if true e = cc
+false_if false e = refl
+
+-- what is left passes, so the whole does
+pub steady_step : (all : List Given) (i above : ℕ) (d : Given) (W : Type 0) → i < length all → above < (get_or all i d).line → IsPlainAssignment (given_in own (get_or all i d))
+    → (AreSteady above (map (given_in own) (drop i all)) → W) → AreSteady (get_or all i d).line (map (given_in own) (drop (i + 1) all)) → W
+steady_step all i above d W h below plain f more =
+    f (subst (λ (l : List Given). AreSteady above (map (given_in own) l)) (sym (drop-cons all i d h))
+    (below, plain, subst (λ (n : ℕ). AreSteady (get_or all i d).line (map (given_in own) (drop n all))) (add-one i) more))
+
+pub steady_end : (all : List Given) (i above : ℕ) (W : Type 0) → length all ≤ i → (AreSteady above (map (given_in own) (drop i all)) → W) → W
+steady_end all i above W h f = f (subst (λ (l : List Given). AreSteady above (map (given_in own) l)) (sym (drop_all i all h)) tt)
+
+-- ---- lines without a warning
+
+no_comment : (c z : Bool) → cond c true z ≡ false → c ≡ false
+no_comment true z e = e
+no_comment false z e = refl
+
+pub no_warnings : (file : List ℕ) (l : Line) → IsQuiet file l → (begins_with 35 l.text ≡ false → is_cut l (clean_line l) ≡ false) → (allowed : List (List ℕ)) → line_warnings allowed file l ≡ []
+no_warnings file l q uncut allowed = go (is_dropped l) refl
+  where
+    go : (b : Bool) → is_dropped l ≡ b → cond b [] (all_warnings allowed file l (clean_line l)) ≡ []
+    go true e = refl
+    go false e = q e (uncut (no_comment (begins_with 35 l.text) (has 0 l.text) e)) allowed
+
+pub nothing_told : (f : WarningKind → List ℕ) (old : List ℕ) (kinds : List WarningKind) → kinds ≡ [] → old ≡ old ++ flat_map f kinds
+nothing_told f old kinds e = sym (append-nil old) ∙ ap (λ (ks : List WarningKind). old ++ flat_map f ks) (sym e)
+
+pub nothing_found : (old kinds : List WarningKind) → kinds ≡ [] → old ≡ old ++ kinds
+nothing_found old kinds e = sym (append-nil old) ∙ ap (λ (ks : List WarningKind). old ++ ks) (sym e)
+
+pub first_quiet : (file : List ℕ) (n : ℕ) (t : List ℕ) (rest left : List (List ℕ)) → left ≡ t ∷ rest → AreQuiet file (numbered n left) → IsQuiet file (line_of n t) × AreQuiet file (numbered (n + 1) rest)
+unfolding numbered
+first_quiet file n t rest left e h = subst (λ (l : List (List ℕ)). AreQuiet file (numbered n l)) e h
+
+-- ---- what is known of a plain file
+
+pub known_nothing : (k : Known) → IsPlainFile k.bytes.now → k.repeated.keys ≡ [] → k.replaced.entries ≡ [] → k.unread.elsewhere.keys ≡ [] → k.unpaired.keys ≡ [] → IsKnown k
+known_nothing k p e f g h = record {
+  repeated = calm_set k.bytes.now k.repeated p.repeated e;
+  replaced = λ n. ap (λ es. unwrap_or (lookup (is_at (nat_cmp n)) es) 0) f ∙ sym (p.replaced n);
+  unread = λ n. ap (λ (b : Bool). cond b (not (contains nat_cmp k.unread.read n)) false) (calm_set k.bytes.now k.unread.elsewhere p.repeated g n ∙ ap (list_any (is n)) p.repeated) ∙ sym (p.unread n);
+  unpaired = λ n. calm_set k.bytes.now k.unpaired p.repeated h n ∙ ap (list_any (is n)) p.repeated ∙ sym (p.unpaired n);
+}

@@ -51,14 +51,16 @@ pub fn nothing_known<'a>(alloc: Global, bytes: &'a [u8]) -> Known<'a>
     requires { IsPlainFile bytes.now }
     ensures { IsKnown result × (result.bytes.now ≡ bytes.now) }
 {
+    let repeated = BTreeSet::new(alloc);
+    let replaced = BTreeMap::new(alloc);
+    let elsewhere = BTreeSet::new(alloc);
+    let read = BTreeSet::new(alloc);
+    let unpaired = BTreeSet::new(alloc);
     Known {
         bytes,
-        repeated: BTreeSet::new(alloc),
-        replaced: BTreeMap::new(alloc),
-        unread: UnreadLines {
-            elsewhere: BTreeSet::new(alloc),
-            read: BTreeSet::new(alloc),
-        },
-        unpaired: BTreeSet::new(alloc),
+        repeated,
+        replaced,
+        unread: UnreadLines { elsewhere, read },
+        unpaired,
     }
 }

@@ -113,5 +113,11 @@ pub fn may_be_cut(text: &[u8]) -> bool
     if place == 0 {
         return false;
     }
-    text[place - 1] != b' ' && text[place - 1] != b'\t'
+    if text[place - 1] == b' ' {
+        return false;
+    }
+    if text[place - 1] == b'\t' {
+        return false;
+    }
+    true
 }

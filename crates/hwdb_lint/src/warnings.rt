@@ -7,7 +7,7 @@ ghost use Rattle.hwdb_spec.specs.Reports.{hint_line};
 ghost use Rattle.hwdb_spec.specs.Warnings.{all_warnings, gets, line_kinds, line_warnings, warnings, warning_text, warning_place, warning_hint, warning_line, warning_report};
 ghost use Rattle.hwdb_text.specs.Views.{given_in};
 ghost use Rattle.hwdb_lint.specs.Internal.{IsKnown, IsPlain, IsRead, clean_of, line_of, number_text, own, read_line};
-ghost use Rattle.hwdb_lint.specs.Plain.{IsPlainFile};
+ghost use Rattle.hwdb_lint.specs.Plain.{IsPlainFile, IsQuiet};
 
 use crate::json_lines::{Finding, finding_line};
 use crate::judgements::{judgement_of, judgement_place, judgement_text, push_judgement_hint};
@@ -375,6 +375,31 @@ impl Warned {
             }
         }
     }
+
+    /// As `put_line`, of a line that gets no warning unless a `#` cuts it.
+    fn put_quiet(
+        &mut self,
+        alloc: Global,
+        telling: &Telling<'_>,
+        path: &[u8],
+        known: &Known<'_>,
+        number: u64,
+        text: &[u8],
+    ) -> Result<(), AllocError>
+        requires known { IsKnown known.now }
+        requires quiet { IsQuiet known.now.bytes.now (line_of number text.now) }
+        ensures text { OnOk result (self.new.text.items ≡ self.old.text.items
+            ++ line_text telling.now.json (map string_bytes telling.now.allowed.now) path.now
+            known.now.bytes.now (line_of number text.now)) }
+        ensures found { OnOk result (self.new.found.items ≡ self.old.found.items
+            ++ line_warnings (map string_bytes telling.now.allowed.now) known.now.bytes.now
+            (line_of number text.now)) }
+    {
+        if may_be_cut(text) {
+            return self.put_line(alloc, telling, path, known, number, text);
+        }
+        Ok(())
+    }
 }
 
 /// As `warnings_of`, of any file.
@@ -428,9 +453,7 @@ fn cut_warnings(
     };
     let mut number = 1;
     for text in Lines::new(bytes) {
-        if may_be_cut(text) {
-            warned.put_line(alloc, telling, path, &known, number, text)?;
-        }
+        warned.put_quiet(alloc, telling, path, &known, number, text)?;
         number += 1;
     }
     Ok(warned)
