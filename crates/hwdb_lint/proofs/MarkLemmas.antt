@@ -1,5 +1,5 @@
 -- The marks of comments in a file, and in its lines.
-use Rattle.std.proofs.Common.{◌≡◌, ℕ, zero, suc, ◌+◌, ◌-◌, ◌<◌, ◌≤◌, ◌==◌, Bool, true, false, not, nat_lt, List, [], ◌∷◌, ◌++◌, map, take, drop, get_or, length, refl, ap, ◌∙◌, sym, subst, cond, arith, append-nil, append_assoc, eq-eqb}
+use Rattle.std.proofs.Common.{◌≡◌, ℕ, zero, suc, ◌+◌, ◌-◌, ◌<◌, ◌≤◌, Bool, true, false, not, nat_lt, List, [], ◌∷◌, ◌++◌, take, drop, get_or, length, refl, ap, ◌∙◌, sym, subst, cond, arith, append-nil, append_assoc, eq-eqb}
 use Rattle.std.specs.Prelude.{flat_map}
 use Rattle.std.specs.List.{onto_first, position_or_len}
 use Rattle.std.proofs.lemmas.Bool.{eqb-true, ltb-false, ltb-true}

@@ -1,7 +1,7 @@
 -- Files of whose lines only the marks of comments have to be looked at.
-use Rattle.std.proofs.Common.{add-one, append-nil,  ◌≡◌, ℕ, zero, suc, ◌+◌, ◌-◌, ◌<◌, ◌≤◌, ◌==◌, Bool, true, false, not, nat_lt, List, [], ◌∷◌, ◌++◌, map, take, drop, get_or, length, refl, ap, ◌∙◌, sym, subst, cond, arith, Option, None, ◌||◌, ◌&&◌}
-use Rattle.std.specs.Prelude.{filter, flat_map, nat_eq, if◌then◌else◌}
-use Rattle.std.specs.List.{list_all, list_any, onto_first, position_or_len, starts_with}
+use Rattle.std.proofs.Common.{add-one, append-nil, ◌≡◌, ℕ, zero, suc, ◌+◌, ◌<◌, ◌≤◌, ◌==◌, Bool, true, false, not, nat_lt, List, [], ◌∷◌, ◌++◌, map, take, drop, get_or, length, refl, ap, ◌∙◌, sym, subst, cond, arith, Option, None, ◌||◌, ◌&&◌}
+use Rattle.std.specs.Prelude.{filter, flat_map}
+use Rattle.std.specs.List.{list_all, list_any, onto_first, position_or_len}
 use Rattle.std.specs.List.Sorted.{IsStrictlySortedBy}
 use Rattle.std.specs.Option.{is_some, unwrap_or}
 use Rattle.std.specs.BTreeMap.{is_at}
@@ -14,12 +14,12 @@ use Rattle.std.proofs.Math.Seq.{drop-cons}
 use Rattle.hwdb_spec.specs.Assignment.{Assignment}
 use Rattle.hwdb_spec.specs.Folders.{same}
 use Rattle.hwdb_spec.specs.FormTable.{prefixes}
-use Rattle.hwdb_spec.specs.Lines.{Line, begins_with, byte, clean_line, has, has_equals, has_key, is, is_blank, is_dropped, is_empty, is_indent, is_match, is_none, is_property, key, lines, numbered, pieces, trimmed, value}
+use Rattle.hwdb_spec.specs.Lines.{Line, begins_with, byte, clean_line, has, has_equals, has_key, is, is_blank, is_dropped, is_empty, is_match, is_none, is_property, key, lines, numbered, pieces, trimmed, value}
 use Rattle.hwdb_spec.specs.Properties.{before, misuse}
-use Rattle.hwdb_spec.specs.Records.{Section, assignments, faults, sections_from}
-use Rattle.hwdb_spec.specs.Surroundings.{companions_text, is_alone, is_elsewhere, is_given, is_read_below, is_unpaired, is_unread, prefix_of}
+use Rattle.hwdb_spec.specs.Records.{assignments, faults}
+use Rattle.hwdb_spec.specs.Surroundings.{is_alone, is_elsewhere, is_given, is_unpaired, is_unread, prefix_of}
 use Rattle.hwdb_spec.specs.Unmatched.{is_unmatched, judgement_of}
-use Rattle.hwdb_spec.specs.Warnings.{all_warnings, greatest, is_cut, line_kinds, is_spaced, line_warnings, misused, repeated_lines, replacing}
+use Rattle.hwdb_spec.specs.Warnings.{all_warnings, greatest, is_cut, line_kinds, is_spaced, line_warnings, repeated_lines, replacing}
 use Rattle.hwdb_spec.specs.declared.WarningKind.{WarningKind}
 use Rattle.hwdb_spec.specs.declared.vocabulary.Misuse.{Misuse}
 use Rattle.hwdb_text.specs.declared.outcome.Given.{Given}
@@ -192,23 +192,73 @@ module _ (file : List ℕ) (f : IsFlat file) (l : Line) where
       let clean = line_of l.number (32 ∷ t) in
       let from = g.property refl in
       let one : IsPlainProperty (key clean) from.0.value = subst (λ (k : List ℕ). IsPlainProperty k from.0.value) from.2 from.1.property in
-      let p : IsPlainProperty (key clean) (value clean) = subst (IsPlainProperty (key clean)) from.3 one in
-      (refl, (refl, (h, (refl, (refl, (
-      spaced_by true (has_equals clean) (has_key clean) (is_spaced clean) p.spaced, (
-      cut_by true (has_equals clean) (is_cut l clean) c, (not_repeated, (not_replaced, (
-      misused_by true (has_equals clean) (has_key clean) (is_spaced clean) (misuse (key clean) (value clean)) (p.common.any (value clean)),
-      (f.unread l.number, (f.unpaired l.number, (judged_property t, tt)))))))))))))
+      let p : IsPlainProperty (key clean) (value clean) = subst (IsPlainProperty (key clean)) from.3 one in (
+        refl,
+        (
+          refl,
+          (
+            h,
+            (
+              refl,
+              (
+                refl,
+                (
+                  spaced_by true (has_equals clean) (has_key clean) (is_spaced clean) p.spaced,
+                  (
+                    cut_by true (has_equals clean) (is_cut l clean) c,
+                    (
+                      not_repeated,
+                      (
+                        not_replaced,
+                        (
+                          misused_by true (has_equals clean) (has_key clean) (is_spaced clean) (misuse (key clean) (value clean)) (p.common.any (value clean)),
+                          (f.unread l.number, (f.unpaired l.number, (judged_property t, tt))),
+                        ),
+                      ),
+                    ),
+                  ),
+                ),
+              ),
+            ),
+          ),
+        ),
+      )
 
   silent_match : (t : List ℕ) → is_match (line_of l.number t) ≡ true → is_property (line_of l.number t) ≡ false → has 13 t ≡ false → IsGiven own IsOwn (line_of l.number t) → Silent t
   silent_match t m n h g =
       let clean = line_of l.number t in
       let from = g.pattern m in
-      let p : IsPlainPattern t = subst IsPlainPattern from.2 from.1.pattern in
-      (p.mark, (p.tab, (h, (no_open_bracket (is_match clean) t p.bracket, (no_empty_range (is_match clean) t p.bracket, (
-      no_match_line (is_property clean) _ n, (
-      no_match_line (is_property clean) _ n, (not_repeated, (not_replaced, (
-      no_misuse (is_property clean) _ n,
-      (f.unread l.number, (f.unpaired l.number, (p.judged, tt)))))))))))))
+      let p : IsPlainPattern t = subst IsPlainPattern from.2 from.1.pattern in (
+        p.mark,
+        (
+          p.tab,
+          (
+            h,
+            (
+              no_open_bracket (is_match clean) t p.bracket,
+              (
+                no_empty_range (is_match clean) t p.bracket,
+                (
+                  no_match_line (is_property clean) _ n,
+                  (
+                    no_match_line (is_property clean) _ n,
+                    (
+                      not_repeated,
+                      (
+                        not_replaced,
+                        (
+                          no_misuse (is_property clean) _ n,
+                          (f.unread l.number, (f.unpaired l.number, (p.judged, tt))),
+                        ),
+                      ),
+                    ),
+                  ),
+                ),
+              ),
+            ),
+          ),
+        ),
+      )
 
   silent : (t : List ℕ) → has 13 t ≡ false → is_cut l (line_of l.number t) ≡ false → (is_none t ≡ false → IsGiven own IsOwn (line_of l.number t)) → Silent t
   silent [] h c g = silent_empty

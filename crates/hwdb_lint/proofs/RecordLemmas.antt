@@ -1,6 +1,6 @@
 -- Records without faults, of assignments each on a line of its own: what each line gives is in the assignments.
-use Rattle.std.proofs.Common.{◌≡◌, ℕ, zero, suc, ◌+◌, ◌-◌, ◌<◌, Bool, true, false, not, List, [], ◌∷◌, ◌++◌, map, take, refl, ap, ◌∙◌, sym, subst, cond, arith, append_assoc, append-nil, ◌||◌}
-use Rattle.std.specs.Prelude.{flat_map, if◌then◌else◌}
+use Rattle.std.proofs.Common.{◌≡◌, ℕ, zero, suc, ◌+◌, ◌-◌, ◌<◌, Bool, true, false, not, List, [], ◌∷◌, ◌++◌, map, take, refl, ap, ◌∙◌, sym, subst, cond, arith, append_assoc, append-nil}
+use Rattle.std.specs.Prelude.{flat_map}
 use Rattle.std.specs.List.{list_any, onto_first, take_while, prefix_len}
 use Rattle.std.specs.Ordering.{is_gt}
 use Rattle.std.proofs.lemmas.Grind.{flat_map-append}
@@ -163,13 +163,15 @@ module _ (o : Origin) (Q : Assignment → Type 0) where
       let f = both_none (property_faults l) (flat_map property_faults more) e in
       let g = no_fault l f.0 in
       let rest = steady_rest n (property_assignments o (t ∷ []) l) (flat_map (property_assignments o (t ∷ [])) more) s in
-      let own : Steady n (assign o l t ∷ []) = subst (Steady n) (alone l t f.0) (steady_front n (property_assignments o (t ∷ []) l) (flat_map (property_assignments o (t ∷ [])) more) s) in
-      (record {
-        pattern = λ m. absurd (match_no_property l m p.0);
-        equals = λ q. g.0;
-        keyed = λ q. g.1;
-        property = λ q. (assign o l t, own.1, refl, refl);
-      }, each_given t more p.1 f.1 rest.0 rest.1)
+      let own : Steady n (assign o l t ∷ []) = subst (Steady n) (alone l t f.0) (steady_front n (property_assignments o (t ∷ []) l) (flat_map (property_assignments o (t ∷ [])) more) s) in (
+        record {
+          pattern = λ m. absurd (match_no_property l m p.0);
+          equals = λ q. g.0;
+          keyed = λ q. g.1;
+          property = λ q. (assign o l t, own.1, refl, refl);
+        },
+        each_given t more p.1 f.1 rest.0 rest.1,
+      )
 
   other_passed : (l : Line) (above : List (List ℕ)) (more : List Line) → is_property l ≡ true → repeated_from above (l ∷ more) ≡ repeated_from [] more
   unfolding repeated_from

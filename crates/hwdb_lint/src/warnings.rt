@@ -14,8 +14,8 @@ use crate::judgements::{judgement_of, judgement_place, judgement_text, push_judg
 use crate::kinds::{Telling, is_told, warning_name};
 use crate::known::{Known, known_of, nothing_known};
 use crate::line_warnings::{Read, closed, is_warned, is_warned_at_all, kinds_of};
-use crate::plain_files::{is_plain, tame_after, tame_size};
 use crate::misuses::{misuse_in, push_hint_of_misuse, push_unpaired_hint, push_unread_hint};
+use crate::plain_files::{is_plain, tame_after, tame_size};
 use hwdb_pattern::{open_place, range_place};
 use hwdb_properties::misuse_text;
 use hwdb_show::{push_mark_line, push_shown_line};

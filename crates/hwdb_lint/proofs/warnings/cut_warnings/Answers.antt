@@ -1,4 +1,4 @@
-use Rattle.std.proofs.Common.{◌≡◌, ◌-◌, ◌++◌, ◌∙◌, ap, arith, drop, length, map, subst, sym, take, List, ℕ}
+use Rattle.std.proofs.Common.{◌-◌, ◌++◌, ◌∙◌, ap, arith, drop, length, map, refl, subst, sym, take, List, ℕ}
 use Rattle.std.specs.Prelude.{string_bytes}
 use Rattle.std.proofs.lemmas.List.{length-drop, take_rest}
 use Rattle.hwdb_spec.specs.Findings.{line_text}
@@ -20,7 +20,7 @@ loop-at-preserved c =
     record {
       within = omega (arith, ap length rest, length-drop at file, c.end_of-end.ensures.within, c.loop-at-test.true);
       near = omega (arith, c.loop-at.invariant.near);
-      tame = tame_on file _ at end _ rest c.tame_after.ensures;
+      tame = tame_on file _ at end _ rest c.tame_after-tame.ensures;
       quiet = (quiet_on file n at end _ c.loop-at-test.true rest c.end_of-end.ensures.place c.loop-at.invariant.quiet).1;
       text = told_on (line_text c.args.telling.now.json allowed c.args.path.now file) file _ _ _ n at end _ c.loop-at-test.true rest c.end_of-end.ensures.place
           (c.in_ok-put_tame.ensures.text ∙ ap (λ (b : List ℕ). c.loop-at.warned.text.items ++ line_text c.args.telling.now.json allowed c.args.path.now b line) c.nothing_known-known.ensures.1)
@@ -48,3 +48,18 @@ returns-clause-text c =
 pub returns-clause-found : goal.returns-clause-found
 returns-clause-found c =
     told_end (line_warnings (map string_bytes c.args.telling.now.allowed.now) c.args.bytes.now) c.args.bytes.now _ _ c.loop-at.number c.loop-at.at c.loop-at-test.false c.loop-at.invariant.found
+
+pub put_tame-requires-clause-quiet : goal.put_tame-requires-clause-quiet
+put_tame-requires-clause-quiet c =
+    let file = c.args.bytes.now in
+    let at = c.loop-at.at in
+    let line = line_of c.loop-at.number (take c.end_of-end.result (take (length file - at) (drop at file))) in
+    subst (λ (b : List ℕ). IsQuiet b line) (sym c.nothing_known-known.ensures.1)
+    ((quiet_on file c.loop-at.number at c.end_of-end.result _ c.loop-at-test.true (take_rest file at) c.end_of-end.ensures.place c.loop-at.invariant.quiet).0)
+
+pub put_tame-requires-clause-tame : goal.put_tame-requires-clause-tame
+put_tame-requires-clause-tame c =
+    let file = c.args.bytes.now in
+    let at = c.loop-at.at in
+    front_tame (take (length file - at) (drop at file)) _ c.end_of-end.result c.loop-at.tame refl
+    (subst (λ (l : List ℕ). IsTame 10 (take c.loop-at.tame l)) (sym (take_rest file at)) c.loop-at.invariant.tame)
