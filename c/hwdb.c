@@ -5,13 +5,13 @@
  * what others write to the file, and ends the process if the file is cut. A lookup gives the strings of all properties of a
  * device at once: `get` looks for its key among them. */
 #define _GNU_SOURCE
+#include "exports.h"
 #include "hwdb.h"
 
 #include <errno.h>
 #include <fcntl.h>
 #include <search.h>
 #include <stdbool.h>
-#include <stdint.h>
 #include <stdlib.h>
 #include <string.h>
 #include <sys/mman.h>
@@ -33,38 +33,14 @@
 /* The room, in bytes, that there is at first for the strings of one lookup. */
 #define FIRST_ROOM 1024
 
-/* How many bytes a block has, as in crates/hwdb_lookup. */
-#define BLOCK 4096
-
 /* A handle reads one block at once for each so many that it has read. So who asks much reads in larger pieces, of which few bytes
  * are for nothing. Whatever a file's bytes are, some hundred reads are enough for all of it. */
 #define FEW_BLOCKS 64
-
-/* How many bytes of a header are known. */
-#define HEADER 80
 
 /* How many bytes of the nodes are read at once by hwdb_check, and how many nodes may wait for their parents there. In Debian's
  * database 76 do, and no record has more than 1,784 bytes. */
 #define PIECE (64 << 10)
 #define ROWS 8192
-
-/* What hwdb_c_lookup and hwdb_c_properties answer. */
-enum { WRITTEN = 0, TOO_SHORT = 1, NO_MEMORY = 2, MISSING = 3, FAULT = 4, LONG_PATH = 5 };
-
-/* crates/hwdb_c/src/lib.rt. All but hwdb_c_properties are for any bytes; that one is for bytes for which hwdb_c_check answered 0. No
- * pointer that is handed to them is NULL. */
-uint32_t hwdb_c_check(const uint8_t *bytes, size_t length, uint64_t *place);
-uint32_t hwdb_c_sections(const uint8_t *header, size_t header_length, size_t size, size_t *nodes, size_t *strings);
-size_t hwdb_c_feed(const uint8_t *header, size_t header_length, size_t size, const uint8_t *strings, size_t strings_length,
-                   const uint8_t *piece, size_t length, size_t at, size_t *offsets, size_t offset_rows, uint16_t *heights,
-                   size_t height_rows, size_t *done);
-uint32_t hwdb_c_is_whole(const uint8_t *header, size_t header_length, size_t size, const uint8_t *strings, size_t strings_length,
-                         size_t at, const size_t *offsets, size_t offset_rows, const uint16_t *heights, size_t height_rows,
-                         size_t done);
-uint32_t hwdb_c_lookup(const uint8_t *bytes, size_t length, const uint8_t *present, size_t blocks, const uint8_t *device,
-                       size_t device_length, uint8_t *out, size_t room, size_t *needed);
-uint32_t hwdb_c_properties(const uint8_t *bytes, size_t length, const uint8_t *device, size_t device_length, uint8_t *out,
-                           size_t room, size_t *needed);
 
 /* A file, of which some blocks were read. */
 struct database {

@@ -7,13 +7,6 @@
 
 #include "library-pass.h"
 
-uint32_t hwdb_c_check(const uint8_t *bytes, size_t length, uint64_t *place);
-uint32_t hwdb_c_lookup(const uint8_t *bytes, size_t length, const uint8_t *present, size_t blocks, const uint8_t *device,
-                       size_t device_length, uint8_t *out, size_t room, size_t *needed);
-
-uint32_t hwdb_c_properties(const uint8_t *bytes, size_t length, const uint8_t *device, size_t device_length, uint8_t *out,
-                           size_t room, size_t *needed);
-
 static const char EMPTY[] =
     "4b534c50484852480100000000000000690000000000000050000000000000001800000000000000100000000000000020000000000000"
     "0050000000000000001800000000000000010000000000000068000000000000000000000000000000000000000000000000";

@@ -102,8 +102,6 @@ int __wrap_munmap(void *at, size_t length) {
     return 0;
 }
 
-uint32_t hwdb_c_check(const uint8_t *bytes, size_t length, uint64_t *place);
-
 /* A file's bytes. */
 static uint8_t *bytes_of(const char *path, size_t *length) {
     struct stat status;
@@ -251,7 +249,7 @@ static void calls(const char *path, const char *other) {
     EXPECT(sd_hwdb_get(hwdb, "", "K", &value) == -ENOENT);
     EXPECT(strcmp(value, "left") == 0);
 
-    /* A get behind a seek ends the enumeration, and a seek begins one. */
+    /* A get after a seek ends the enumeration, and a seek begins one. */
     EXPECT(sd_hwdb_enumerate(hwdb, &key, &value) == -EAGAIN);
     EXPECT(sd_hwdb_seek(hwdb, "a") == 0);
     EXPECT(sd_hwdb_enumerate(hwdb, &key, &value) == 1 && strcmp(key, "E") == 0 && strcmp(value, "") == 0);

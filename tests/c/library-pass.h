@@ -6,16 +6,10 @@
 #include <stdlib.h>
 #include <string.h>
 
-/* The most nodes that may wait for their parents. */
-enum { PASS_ROWS = 8192, PASS_HEADER = 80 };
+#include "exports.h"
 
-uint32_t hwdb_c_sections(const uint8_t *header, size_t header_length, size_t size, size_t *nodes, size_t *strings);
-size_t hwdb_c_feed(const uint8_t *header, size_t header_length, size_t size, const uint8_t *strings, size_t strings_length,
-                   const uint8_t *piece, size_t length, size_t at, size_t *offsets, size_t offset_rows, uint16_t *heights,
-                   size_t height_rows, size_t *done);
-uint32_t hwdb_c_is_whole(const uint8_t *header, size_t header_length, size_t size, const uint8_t *strings, size_t strings_length,
-                         size_t at, const size_t *offsets, size_t offset_rows, const uint16_t *heights, size_t height_rows,
-                         size_t done);
+/* The most nodes that may wait for their parents. */
+enum { PASS_ROWS = 8192 };
 
 /* Whether a pass in pieces of so many bytes accepts them, with so many rows. Each piece is a block of malloc's, whose end is known. */
 static int is_passed(const uint8_t *bytes, size_t size, size_t most, size_t rows) {
@@ -23,7 +17,7 @@ static int is_passed(const uint8_t *bytes, size_t size, size_t most, size_t rows
     static uint16_t heights[PASS_ROWS];
     size_t at = 0, end = 0, used = 1, done = 0;
 
-    if (size < PASS_HEADER || !hwdb_c_sections(bytes, PASS_HEADER, size, &at, &end) || at > end || end > size)
+    if (size < HEADER || !hwdb_c_sections(bytes, HEADER, size, &at, &end) || at > end || end > size)
         return 0;
     while (at < end && used > 0) {
         size_t length = end - at < most ? end - at : most;
@@ -31,13 +25,13 @@ static int is_passed(const uint8_t *bytes, size_t size, size_t most, size_t rows
         if (!piece)
             abort();
         memcpy(piece, bytes + at, length);
-        used = hwdb_c_feed(bytes, PASS_HEADER, size, bytes + end, size - end, piece, length, at, offsets, rows, heights, rows, &done);
+        used = hwdb_c_feed(bytes, HEADER, size, bytes + end, size - end, piece, length, at, offsets, rows, heights, rows, &done);
         free(piece);
         if (used > length || done > rows)
             abort();
         at += used;
     }
-    return hwdb_c_is_whole(bytes, PASS_HEADER, size, bytes + end, size - end, at, offsets, rows, heights, rows, done) == 1;
+    return hwdb_c_is_whole(bytes, HEADER, size, bytes + end, size - end, at, offsets, rows, heights, rows, done) == 1;
 }
 
 #endif

@@ -24,16 +24,9 @@
 #include "../c/library-pass.h"
 #include "hwdb.h"
 
-/* Blocks of crates/hwdb_lookup, and what it answers. */
-enum { BLOCK = 4096, WRITTEN = 0, TOO_SHORT = 1, MISSING = 3, FAULT = 4 };
 /* An input's most bytes, a device's, and what a block holds that wasn't read. */
 enum { MOST = 1 << 16, MOST_DEVICE = 255, UNREAD = 0xa5 };
 
-uint32_t hwdb_c_check(const uint8_t *bytes, size_t length, uint64_t *place);
-uint32_t hwdb_c_lookup(const uint8_t *bytes, size_t length, const uint8_t *present, size_t blocks, const uint8_t *device,
-                       size_t device_length, uint8_t *out, size_t room, size_t *needed);
-uint32_t hwdb_c_properties(const uint8_t *bytes, size_t length, const uint8_t *device, size_t device_length, uint8_t *out,
-                           size_t room, size_t *needed);
 int LLVMFuzzerTestOneInput(const uint8_t *data, size_t size);
 size_t LLVMFuzzerCustomMutator(uint8_t *data, size_t size, size_t most, unsigned seed);
 

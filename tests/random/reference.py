@@ -129,7 +129,7 @@ def read_block(block, path, priority, assignments, faults):
 
 
 def run_of(holds, block):
-    """The longest run of such lines in front of a block, and the lines behind it."""
+    """The longest run of such lines in front of a block, and the lines after it."""
     length = 0
     while length < len(block) and holds(block[length][1]):
         length += 1
@@ -164,7 +164,7 @@ CLASSES = {
 
 
 def item_at(pattern, at):
-    """The item of a bracket at this place: the bytes that it has, and the place behind it."""
+    """The item of a bracket at this place: the bytes that it has, and the place after it."""
     for name, members in CLASSES.items():
         if pattern.startswith(b"[:" + name + b":]", at):
             return members, at + len(name) + 4
@@ -174,7 +174,7 @@ def item_at(pattern, at):
 
 
 def bracket_at(pattern, at):
-    """The closed bracket that begins at this `[`: the bytes that it admits, and the place behind it. None if none does."""
+    """The closed bracket that begins at this `[`: the bytes that it admits, and the place after it. None if none does."""
     at += 1
     inverts = pattern[at : at + 1] in (b"!", b"^")
     if inverts:

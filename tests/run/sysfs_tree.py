@@ -283,7 +283,7 @@ def convertible(root):
 
 
 def desk(root):
-    """A desk's machine: devices behind a hub, and cards that are plugged in."""
+    """A desk's machine: devices at a hub, and cards that are plugged in."""
     m = Machine(root)
     m.dmi("dmi:bvnAmericanMegatrendsInc.:bvrF5:bd01/17/2014:br4.6:svnGigabyteTechnologyCo.,Ltd.:pnTobefilledbyO.E.M.:pvrTobefilledbyO.E.M.:"
           "rvnGigabyteTechnologyCo.,Ltd.:rnZ87X-UD3H-CF:rvrx.x:cvnGigabyteTechnologyCo.,Ltd.:ct3:cvrTobefilledbyO.E.M.:skuTobefilledbyO.E.M.:",

@@ -34,8 +34,14 @@ const COMMANDS: [(&str, &str); 13] = [
     ("dump", dump::SHORT),
 ];
 
-/// How the usage of a command begins, before its name.
-const USAGE: &str = "Usage: hwdb ";
+/// How the usage begins, before the name that the program was called by.
+const USAGE: &str = "Usage: ";
+
+/// What comes after a command's name in its usage.
+const OPTIONS: &str = " [OPTIONS]";
+
+/// What comes after the program's name in the usage of all commands.
+const ANY_COMMAND: &str = " [OPTIONS] <COMMAND>";
 
 /// How the lines of the options begin that each command takes, but that don't do something for each.
 const USR_LINE: &str = "      --usr ";
@@ -92,21 +98,28 @@ fn push_line(shown: &mut String, line: &str, command: &str) -> Result<(), AllocE
     }
 }
 
-/// The command that the usage names; `[OPTIONS]` in the help of the whole program.
+/// The command that the usage names: the last word before the options. It is empty in the help of all commands.
 fn command_of(text: &str) -> &str {
     match text.split_once(USAGE) {
-        Some((_, usage)) => match usage.split_once(' ') {
-            Some((command, _)) => command,
-            None => usage,
+        Some((_, usage)) if !usage.contains(ANY_COMMAND) => match usage.split_once(OPTIONS) {
+            Some((names, _)) => last_word(names),
+            None => "",
         },
-        None => "",
+        _ => "",
+    }
+}
+
+fn last_word(names: &str) -> &str {
+    match names.rsplit_once(' ') {
+        Some((_, last)) => last,
+        None => names,
     }
 }
 
 /// Whether a line of help shows an option that does nothing for the command.
 fn is_idle(line: &str, command: &str) -> bool {
     match command {
-        "[OPTIONS]" => false,
+        "" => false,
         "update" => line.starts_with(COLOR_LINE),
         "check" => line.starts_with(USR_LINE),
         _ => line.starts_with(USR_LINE) || line.starts_with(STRICT_LINE),

@@ -24,7 +24,7 @@ use crate::sources::{ChosenFile, Compiled, FileFault, SourceFile, choose, with_b
 use hwdb_query::compiled_answers_are_last;
 use hwdb_spec::CompileError;
 use hwdb_text::{Chosen, Fault, Given, scan};
-use hwdb_writer::{Assignments, into_database};
+use hwdb_writer::{Assignments, into_database, keep_pages};
 use std::alloc::{AllocError, Global};
 
 /// Puts what a file with this path and priority gives into the tree, one after another.
@@ -135,6 +135,18 @@ fn add_files<'t>(
     Ok(given)
 }
 
+/// How many bytes of a file come for an assignment, or somewhat fewer.
+const BYTES_AN_ASSIGNMENT: usize = 64;
+
+/// For how many assignments there is room from the start. A list that grows leaves its half behind.
+fn room_for(files: &[ChosenFile<'_>]) -> usize {
+    let mut bytes = 0usize;
+    for file in files {
+        bytes = bytes.saturating_add(file.bytes.len());
+    }
+    bytes / BYTES_AN_ASSIGNMENT
+}
+
 /// Makes a database of chosen files, in the order of their priorities. It is what [`compile`] makes of any two folders
 /// whose chosen files these are. `max_bytes` limits the database's size, in bytes.
 ///
@@ -165,9 +177,11 @@ pub fn compile_chosen(
         (λ etc usr. IsRefusal etc usr max_bytes e)) }
 {
     compiled_answers_are_last();
+    keep_pages(alloc);
     let made = paths_of(alloc, files)?;
     let paths = made.as_slice();
     let mut tree = Assignments::new(alloc);
+    tree.make_room(room_for(files));
     let mut faults = Vec::new(alloc);
     let given = add_files(alloc, files, paths, &mut tree, &mut faults)?;
     let database = into_database(alloc, tree, max_bytes)?;

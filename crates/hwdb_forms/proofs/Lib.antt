@@ -5,6 +5,7 @@ pub mod LoopLemmas
 pub mod LeadLemmas
 pub mod EndLemmas
 pub mod PlainLemmas
+pub mod TemplateLemmas
 pub mod AnswerLemmas
 pub mod ExampleLemmas
 pub mod FrontLemmas

@@ -10,7 +10,7 @@ use Rattle.hwdb_spec.specs.Patterns.{Token, literal, one, star, token_at, token_
 use Rattle.hwdb_spec.specs.Forms.{Piece, byte_cell, byte_row, counted, counted_row, end_row, either_row, field_row, fields_row, fixed, fixed_row, head, is_in, is_star, is_wild, many_cell, many_row, meets, pieces_row, repeated, tail}
 use Rattle.hwdb_forms.specs.declared.leads.Passed.TheVariants.{No, Yes}
 use Rattle.hwdb_forms.specs.declared.leads.Passed.{Passed}
-use Rattle.hwdb_forms.specs.Internal.{GoesThrough, GoesThroughField, GoesThroughWay, IsCut, IsFamily, IsOfMany, passed_counted, passed_fixed}
+use Rattle.hwdb_forms.specs.Internal.{GoesThrough, GoesThroughField, GoesThroughWay, IsCut, IsFamily, IsOfMany, LedTo, passed_counted, passed_fixed}
 use Rattle.hwdb_forms.proofs.EndLemmas.{counted_ended, if_either, if_first, many_next, star_pieces}
 use Rattle.hwdb_forms.proofs.LeadLemmas.{dropped, fields_family, fixed_family, led_first, next_piece, piece_tells, pieces_family}
 
@@ -22,7 +22,7 @@ plain_by false true t b x more e = absurd cc
 plain_by false false true b x more e = absurd cc
 plain_by false false false b x more e = refl
 
-plain_token : (b : ℕ) (rest : List ℕ) → is_wild b ≡ false → tokens (b ∷ rest) ≡ literal b ∷ tokens rest
+pub plain_token : (b : ℕ) (rest : List ℕ) → is_wild b ≡ false → tokens (b ∷ rest) ≡ literal b ∷ tokens rest
 unfolding tokens_from token_at
 plain_token b rest e = plain_by (b == 42) (b == 63) (b == 91) b _ (λ n. tokens_from n rest) e
 
@@ -47,7 +47,7 @@ rest_drop (t ∷ []) zero = refl
 rest_drop (t ∷ u ∷ ts) zero = refl
 rest_drop (t ∷ ts) (suc n) = rest_drop ts n
 
-none_dropped : (A : Type 0) (l : List A) → drop 0 l ≡ l
+pub none_dropped : (A : Type 0) (l : List A) → drop 0 l ≡ l
 none_dropped A [] = refl
 none_dropped A (x ∷ l) = refl
 
@@ -90,7 +90,7 @@ fixed_step : (b t : ℕ) (bytes text : List ℕ) → t ≡ b → is_wild t ≡ f
 fixed_step b t bytes text e w =
     ap (passed_fixed (b ∷ bytes)) (plain_token t text w) ∙ if_met (is_in (Only b) t) (passed_fixed bytes (tokens text)) (ap (is_in (Only b)) e ∙ own_in b)
 
-counted_step : (set : ByteSet) (t n : ℕ) (text : List ℕ) → is_in set t ≡ true → is_wild t ≡ false → passed_counted set (suc n) (tokens (t ∷ text)) ≡ passed_counted set n (tokens text)
+pub counted_step : (set : ByteSet) (t n : ℕ) (text : List ℕ) → is_in set t ≡ true → is_wild t ≡ false → passed_counted set (suc n) (tokens (t ∷ text)) ≡ passed_counted set n (tokens text)
 counted_step set t n text e w =
     ap (passed_counted set (suc n)) (plain_token t text w) ∙ if_met (is_in set t) (passed_counted set n (tokens text)) e
 
@@ -141,7 +141,7 @@ counted_through set text at before = let same : at ≡ at + 0 = omega arith in a
 pub fixed_goes : (bytes : List ℕ) (ts : List Token) → passed_fixed bytes ts ≡ Yes → GoesThrough (fixed bytes) ts (length bytes)
 fixed_goes bytes ts e = λ rows f h. ((piece_tells (fixed bytes) ts rows f).1 e).1 ∙ h
 
-counted_goes : (set : ByteSet) (n : ℕ) (ts : List Token) → passed_counted set n ts ≡ Yes → GoesThrough (counted set n) ts n
+pub counted_goes : (set : ByteSet) (n : ℕ) (ts : List Token) → passed_counted set n ts ≡ Yes → GoesThrough (counted set n) ts n
 counted_goes set n ts e = λ rows f h. ((piece_tells (counted set n) ts rows f).1 e).1 ∙ h
 
 pub counted_whole : (set : ByteSet) (count taken : ℕ) (ts : List Token) → taken ≡ count → passed_counted set taken ts ≡ Yes → GoesThrough (counted set count) ts taken
@@ -266,10 +266,6 @@ many_done set text at cut before = λ rows f h.
     before rows f (many_here set (tokens (drop at text)) (rows (tokens (drop at text))) (subst (λ (us : List Token). head (rows us) ≡ true) (sym cut) h))
 
 -- ---- a way
-abbrev pub LedTo : List Piece → List Token → ℕ → ℕ → Type 0
-LedTo ps ts done at =
-    (rows : List Token → List Bool) → IsFamily rows → head (pieces_row (drop done ps) (drop at ts) (rows (drop at ts))) ≡ true → head (pieces_row ps ts (rows ts)) ≡ true
-
 pub led_to_first : (ps : List Piece) (ts : List Token) → LedTo ps ts 0 0
 led_to_first ps ts = λ rows f h. led_first ps ts rows f ∙ h
 
@@ -296,7 +292,7 @@ led_whole ps ts done at h led = λ rows f t.
     led rows f (subst (λ (l : List Piece). head (pieces_row l (drop at ts) (rows (drop at ts))) ≡ true) (sym (drop_all done ps h)) t)
 
 -- ---- a field
-field_first : (ts : List Token) (left other : List Bool) → head left ≡ true → head (either_row ts left other) ≡ true
+pub field_first : (ts : List Token) (left other : List Bool) → head left ≡ true → head (either_row ts left other) ≡ true
 unfolding either_row
 field_first [] left other h = if_first (head left) (head other) h
 field_first (t ∷ ts) left other h = if_first (head left) (head other) h
@@ -312,13 +308,13 @@ way_in [] i d ts row h e = absurd (omega arith)
 way_in (way ∷ more) zero d ts row h e = field_first ts (pieces_row way ts row) (field_row more ts row) e
 way_in (way ∷ more) (suc i) d ts row h e = field_later ts (pieces_row way ts row) (field_row more ts row) (way_in more i d ts row (omega arith) e)
 
-map_at : (A B : Type 0) (f : A → B) (l : List A) (i : ℕ) (d : A) → f (get_or l i d) ≡ get_or (map f l) i (f d)
+pub map_at : (A B : Type 0) (f : A → B) (l : List A) (i : ℕ) (d : A) → f (get_or l i d) ≡ get_or (map f l) i (f d)
 map_at A B f [] zero d = refl
 map_at A B f [] (suc i) d = refl
 map_at A B f (x ∷ l) zero d = refl
 map_at A B f (x ∷ l) (suc i) d = map_at A B f l i d
 
-map_long : (A B : Type 0) (f : A → B) (l : List A) → length (map f l) ≡ length l
+pub map_long : (A B : Type 0) (f : A → B) (l : List A) → length (map f l) ≡ length l
 map_long A B f [] = refl
 map_long A B f (x ∷ l) = ap suc (map_long A B f l)
 
@@ -335,7 +331,7 @@ pub fields_first : (fields : List (List (List Piece))) (ts : List Token) → Fie
 fields_first fields ts = λ h. subst (λ (fs : List (List (List Piece))). head (fields_row fs ts) ≡ true) (none_dropped (List (List Piece)) fields)
     (subst (λ (us : List Token). head (fields_row (drop 0 fields) us) ≡ true) (none_dropped Token ts) h)
 
-next_field : (fields : List (List (List Piece))) (done : ℕ) (d field : List (List Piece)) (us : List Token) → done < length fields → field ≡ get_or fields done d → fields_row (drop done fields) us ≡ field_row field us (fields_row (drop (suc done) fields) us)
+pub next_field : (fields : List (List (List Piece))) (done : ℕ) (d field : List (List Piece)) (us : List Token) → done < length fields → field ≡ get_or fields done d → fields_row (drop done fields) us ≡ field_row field us (fields_row (drop (suc done) fields) us)
 unfolding fields_row
 next_field fields done d field us h e = rw (drop-cons fields done d h, e) refl
 

@@ -1,12 +1,13 @@
 -- What the proofs of this crate speak of: forms and languages as they are computed, from the left to the right.
-use Rattle.std.specs.Prelude.{ℕ, Bool, false, true, List, [], ◌∷◌, ◌++◌, IsTrue, ◌≡◌, ◌≤◌, ◌⊎◌, if◌then◌else◌, drop, length, map, suc, zero}
+use Rattle.std.specs.Prelude.{ℕ, Bool, false, true, List, [], ◌∷◌, ◌++◌, IsTrue, ◌≡◌, ◌≤◌, ◌⊎◌, ◌==◌, if◌then◌else◌, drop, length, map, suc, zero}
 use Rattle.std.proofs.Common.{Bor}
 use Rattle.hwdb_spec.specs.FormTable.{asked}
+use Rattle.hwdb_spec.specs.Lines.{has}
 use Rattle.hwdb_spec.specs.Patterns.{Token, admits_byte, Matches, star, token_at, tokens}
 use Rattle.hwdb_spec.specs.Forms.{Piece, Form, fixed, counted, repeated, is_in, is_star}
 use Rattle.hwdb_spec.specs.Forms
 use Rattle.hwdb_spec.specs.declared.ByteSet.{ByteSet}
-use Rattle.hwdb_spec.specs.declared.ByteSet.TheVariants.{Only}
+use Rattle.hwdb_spec.specs.declared.ByteSet.TheVariants.{AnyHex, Only, UpperHex}
 use Rattle.hwdb_forms.specs.declared.pieces.Piece.TheVariants.{Fixed, Counted, Repeated}
 use Rattle.hwdb_forms.specs.declared.pieces.Piece
 use Rattle.hwdb_forms.specs.declared.pieces.FormRow
@@ -115,6 +116,7 @@ AreEnough forms front = (byte : ℕ) → Forms.can_begin forms (tokens (front ++
 -- What is known of the beginning of a pattern: the forms that matter after it, and its tokens if no bracket is in it.
 pub record IsAfter (front : List ℕ) (f : Following) : Type 0 where
   pub enough : AreEnough (map form_of f.forms.items) front
+  pub unopened : f.is_plain ≡ true → has 91 front ≡ false
   pub plain : f.is_plain ≡ true → (byte : ℕ) → tokens (front ++ byte ∷ []) ≡ views f.tokens.items ++ token_at (byte ∷ []) ∷ []
 
 -- how many bytes a piece has, if each of its texts has as many
@@ -228,3 +230,42 @@ AreAlikeInForm one other form =
 pub record IsAskedAfter (front : List ℕ) (a : Asked) : Type 0 where
   pub plain : Forms.is_wild a.byte ≡ false
   pub met : a.met ≡ Forms.can_begin asked (tokens (front ++ a.byte ∷ []))
+
+-- Pieces are led through by the first tokens to a place among both.
+abbrev pub LedTo : List Forms.Piece → List Token → ℕ → ℕ → Type 0
+LedTo ps ts done at =
+    (rows : List Token → List Bool) → IsFamily rows → Forms.head (Forms.pieces_row (drop done ps) (drop at ts) (rows (drop at ts))) ≡ true
+    → Forms.head (Forms.pieces_row ps ts (rows ts)) ≡ true
+
+-- the bytes that a template's byte is for
+abbrev pub set_of : ℕ → ByteSet
+set_of own = if own == 88 then UpperHex else (if own == 89 then AnyHex else Only own)
+
+-- a template as pieces of one byte each
+abbrev pub unit_of : ℕ → Forms.Piece
+unit_of own = counted (set_of own) 1
+
+abbrev pub units : List ℕ → List Forms.Piece
+units template = map unit_of template
+
+-- pieces as others of one byte each, but for those of any number
+abbrev pub copies : ℕ → Forms.Piece → List Forms.Piece
+copies zero piece = []
+copies (suc n) piece = piece ∷ copies n piece
+
+abbrev pub parts : Forms.Piece → List Forms.Piece
+parts (fixed bytes) = map (λ own. counted (Only own) 1) bytes
+parts (counted set n) = copies n (counted set 1)
+parts (repeated set) = repeated set ∷ []
+
+abbrev pub all_parts : List Forms.Piece → List Forms.Piece
+all_parts [] = []
+all_parts (piece ∷ more) = parts piece ++ all_parts more
+
+-- templates are the first ways of fields
+abbrev pub AreFirstWays : List (List (List Forms.Piece)) → List (List ℕ) → Type 0
+AreFirstWays [] [] = Unit {0}
+AreFirstWays [] (template ∷ more) = ⊥
+AreFirstWays ([] ∷ fields) templates = ⊥
+AreFirstWays ((way ∷ ways) ∷ fields) [] = ⊥
+AreFirstWays ((way ∷ ways) ∷ fields) (template ∷ more) = (units template ≡ all_parts way) × AreFirstWays fields more

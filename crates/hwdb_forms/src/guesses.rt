@@ -3,27 +3,42 @@ ghost use Rattle.std.specs.Prelude.{◌≡◌, IfSome, map, true};
 ghost use Rattle.hwdb_spec.specs.FormTable.{asked};
 ghost use Rattle.hwdb_spec.specs.Patterns.{tokens};
 ghost use Rattle.hwdb_spec.specs.Forms;
-ghost use Rattle.hwdb_forms.specs.Internal.{IsAsked, form_of};
+ghost use Rattle.hwdb_forms.specs.Internal.{AreFirstWays, IsAsked, fields_of, form_of};
 
 use crate::pieces::FormRow;
 use crate::plain::meets_plainly;
 use crate::table::{bluetooth, known, oui, pci, usb};
+use crate::templates::{Template, meets_template};
 
-/// The form that a pattern likely has which begins with this byte.
-fn guess(first: u8) -> Option<FormRow>
-    ensures { IfSome result (λ form. IsAsked (form_of form)) }
+/// The form that a pattern likely has which begins with this byte, and its template.
+fn guess(first: u8) -> Option<Template>
+    ensures asked { IfSome result (λ t. IsAsked (form_of t.form)) }
+    ensures ways { IfSome result (λ t. AreFirstWays (fields_of t.form.fields.now)
+        (map (λ way. way.now) t.ways.now)) }
 {
     match first {
-        b'O' => Some(oui()),
-        b'p' => Some(pci()),
-        b'u' => Some(usb()),
-        b'b' => Some(bluetooth()),
+        b'O' => Some(Template {
+            form: oui(),
+            ways: &[b"XXXXXXXXXXXX"],
+        }),
+        b'p' => Some(Template {
+            form: pci(),
+            ways: &[b"vXXXXXXXXdXXXXXXXXsvXXXXXXXXsdXXXXXXXXbcXXscXXiYY"],
+        }),
+        b'u' => Some(Template {
+            form: usb(),
+            ways: &[b"vXXXXpXXXX", b"dXXXXdcXXdscXXdpXXicXXiscXXipXXinXX"],
+        }),
+        b'b' => Some(Template {
+            form: bluetooth(),
+            ways: &[b"vXXXXpXXXX", b"dXXXX"],
+        }),
         _ => None,
     }
 }
 
 /// Whether it is seen byte by byte that the pattern matches a text of one of the forms.
-fn meets_one(forms: &[FormRow], pattern: &[u8]) -> bool
+pub(crate) fn meets_one(forms: &[FormRow], pattern: &[u8]) -> bool
     ensures { result ≡ true
         → Forms.can_match (map form_of forms.now) (tokens pattern.now) ≡ true }
 {
@@ -49,8 +64,8 @@ pub(crate) fn is_fine_at_once(pattern: &[u8]) -> bool
     if pattern.is_empty() {
         return false;
     }
-    if let Some(form) = guess(pattern[0]) {
-        if meets_plainly(form, pattern) {
+    if let Some(template) = guess(pattern[0]) {
+        if meets_template(template, pattern) {
             return true;
         }
     }

@@ -16,6 +16,7 @@
 //! | `sets` | sets of bytes, and which tokens take one of theirs |
 //! | `leads` | how pieces begin, before the first star |
 //! | `plain` | patterns that are compared byte by byte, without rows |
+//! | `templates` | patterns of digits, which are compared with a text that a form is written as |
 //! | `guesses` | the form that a pattern likely has |
 //! | `endings` | tokens that end in a star, which matches all that is left |
 //! | `rows` | the rows of a form |
@@ -39,6 +40,7 @@ mod plain;
 mod rows;
 mod sets;
 mod table;
+mod templates;
 
 pub use beginnings::is_asked;
 pub use expecting::expected;

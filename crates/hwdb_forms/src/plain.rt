@@ -19,16 +19,16 @@ pub(crate) fn is_wild(byte: u8) -> bool
 }
 
 /// Whether the text begins with these bytes, each of which stands for itself.
-fn begins_plainly(bytes: &[u8], text: &[u8]) -> bool
+pub(crate) fn begins_plainly(bytes: &[u8], text: &[u8]) -> bool
     ensures passed { result ≡ true → passed_fixed bytes.now (tokens text.now) ≡ Yes }
     ensures cut { result ≡ true → IsCut text.now (length bytes.now) }
     ensures within { result ≡ true → length bytes.now ≤ length text.now }
 {
+    if text.len() < bytes.len() {
+        return false;
+    }
     let mut at = 0;
     while at < bytes.len() {
-        if at >= text.len() {
-            return false;
-        }
         if text[at] != bytes[at] {
             return false;
         }
@@ -78,7 +78,7 @@ fn count_plain(set: ByteSet, most: usize, text: &[u8]) -> usize
 }
 
 /// Whether the text is a star, and no more.
-fn is_lone_star(text: &[u8]) -> bool
+pub(crate) fn is_lone_star(text: &[u8]) -> bool
     ensures { result ≡ true → tokens text.now ≡ star ∷ [] }
 {
     text.len() == 1 && text[0] == b'*'
@@ -225,17 +225,46 @@ fn through_way(way: &[Piece], text: &[u8]) -> Option<usize>
     Some(at)
 }
 
-/// How many of the text's first bytes go through the first of the ways that they go through.
-fn through_field(field: &[&[Piece]], text: &[u8]) -> Option<usize>
+/// Whether some of the text's first bytes go through one of the ways.
+fn goes_through(field: &[&[Piece]], text: &[u8]) -> bool {
+    for way in field {
+        if through_way(way, text).is_some() {
+            return true;
+        }
+    }
+    false
+}
+
+/// Whether some of the text's first bytes go through the first of the fields, or there is no field.
+fn goes_on(fields: &[&[&[Piece]]], text: &[u8]) -> bool {
+    fields.is_empty() || goes_through(fields[0], text)
+}
+
+/// How many of the text's first bytes go through one of the ways: the first one after which the text goes on through the fields.
+fn through_ways(field: &[&[Piece]], rest: &[&[&[Piece]]], text: &[u8]) -> Option<usize>
     ensures { IfSome result
         (IsThroughField (map (λ way. map piece_of way.now) field.now) text.now) }
 {
     for way in field {
         if let Some(taken) = through_way(way, text) {
-            return Some(taken);
+            if goes_on(rest, &text[taken..]) {
+                return Some(taken);
+            }
         }
     }
     None
+}
+
+/// As `through_ways`. What comes after a single way isn't asked: there is no other one.
+fn through_field(field: &[&[Piece]], rest: &[&[&[Piece]]], text: &[u8]) -> Option<usize>
+    ensures { IfSome result
+        (IsThroughField (map (λ way. map piece_of way.now) field.now) text.now) }
+{
+    if field.len() == 1 {
+        through_ways(field, &[], text)
+    } else {
+        through_ways(field, rest, text)
+    }
 }
 
 /// Whether it is seen byte by byte that the text matches some text of the fields.
@@ -246,7 +275,7 @@ fn meets_fields(fields: &[&[&[Piece]]], text: &[u8]) -> bool
     let mut done = 0;
     let mut at = 0;
     while done < fields.len() {
-        match through_field(fields[done], &text[at..]) {
+        match through_field(fields[done], &fields[done + 1..], &text[at..]) {
             Some(taken) => {
                 at += taken;
                 done += 1;
@@ -258,7 +287,7 @@ fn meets_fields(fields: &[&[&[Piece]]], text: &[u8]) -> bool
 }
 
 /// Whether the text is nothing, or a star alone.
-fn ends(text: &[u8]) -> bool
+pub(crate) fn ends(text: &[u8]) -> bool
     ensures { result ≡ true → Forms.head (Forms.end_row (tokens text.now)) ≡ true }
 {
     if text.is_empty() {

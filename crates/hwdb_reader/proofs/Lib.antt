@@ -15,3 +15,4 @@ pub mod RunLemmas
 pub mod JoinLemmas
 pub mod TextLemmas
 pub mod AgreeLemmas
+pub mod SharedLemmas

@@ -6,3 +6,4 @@ pub mod Read
 pub mod Walks
 pub mod Repeats
 pub mod Stars
+pub mod Shared

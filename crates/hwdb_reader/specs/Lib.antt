@@ -1,4 +1,5 @@
 pub mod Views
+pub mod Unread
 pub mod Laws
 pub mod Samples
 pub mod Internal

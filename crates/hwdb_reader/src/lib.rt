@@ -11,6 +11,8 @@
 //! - `repeats`: which of two strings is less, in a text in which long stretches occur more than once;
 //! - `fields` and `places`: single fields, and the offsets of records;
 //! - `view`: the nodes, children and values of a database that was accepted;
+//! - `unread`: the values of a node, without a look at their texts;
+//! - `twins`: two databases that have most of their strings in common;
 //! - `stars`: a long run of stars among the strings;
 //! - `reopened`: the view of a database that was accepted before;
 //! - `laws`: laws of the format, on the definitions alone.
@@ -26,6 +28,8 @@ mod places;
 mod reopened;
 mod repeats;
 mod stars;
+mod twins;
+mod unread;
 mod values;
 mod view;
 mod walk;
@@ -41,6 +45,8 @@ pub use laws::{
 };
 pub use places::{child_entry_at, value_entry_at};
 pub use reopened::reopen;
+pub use twins::Twins;
+pub use unread::{StoredText, UnreadEntry};
 pub use values::check_value;
 pub use view::{Child, Db, Entered, Entry, Inside, Node, Origin};
 pub use walk::record_end_within;

@@ -3,9 +3,11 @@ ghost use Rattle.std.specs.Prelude.{◌≡◌, ◌≤◌, ◌<◌, ◌+◌, ◌*
 ghost use Rattle.hwdb_spec.specs.Format.{record_end, child_entry, children_count, value_entries, values_count, value_at, IsValue};
 ghost use Rattle.hwdb_reader.specs.Views.{shown};
 ghost use Rattle.hwdb_reader.specs.Views.{entry_shows};
+ghost use Rattle.hwdb_reader.specs.Unread.{IsFrom, value_in};
 
 use crate::fields::{text, u16_at, u32_at, u64_at};
 use crate::frame::Frame;
+use crate::unread::{StoredText, UnreadEntry};
 use crate::view::{Entry, Origin};
 
 /// The offset at which the record at `off` ends.
@@ -73,4 +75,30 @@ pub fn read_origin(b: &[u8], entry: usize) -> Origin
     let priority = u16_at(b, entry + 28);
     let line = u32_at(b, entry + 24);
     Origin { priority, line }
+}
+
+/// The value at a sound value entry, without a look at its texts.
+#[tactic(auto, unfolding(hwdb_spec::specs::Format::value_at, crate::specs::Unread::text_of))]
+pub fn read_unread(b: &[u8], f: Frame, entry: usize) -> UnreadEntry<'_>
+    requires room { entry + 32 ≤ length b.now }
+    requires sound { ∥ IsValue f.sizes b.now entry ∥₁ }
+    ensures value { value_in result ≡ value_at b.now entry }
+    ensures file { IsFrom b.now result }
+{
+    UnreadEntry {
+        priority: u16_at(b, entry + 28),
+        line: u32_at(b, entry + 24),
+        key: StoredText {
+            bytes: b,
+            at: u64_at(b, entry),
+        },
+        value: StoredText {
+            bytes: b,
+            at: u64_at(b, entry + 8),
+        },
+        path: StoredText {
+            bytes: b,
+            at: u64_at(b, entry + 16),
+        },
+    }
 }

@@ -9,8 +9,9 @@ ghost use Rattle.hwdb_reader.specs.Internal.Stars.{AreStars};
 
 use crate::fields::{text, text_front, u64_at};
 use crate::frame::Frame;
-use crate::places::{child_entry_at, read_origin, read_value, value_entry_at};
+use crate::places::{child_entry_at, read_origin, read_unread, read_value, value_entry_at};
 use crate::stars::{StarRun, long_stars};
+use crate::unread::UnreadEntry;
 use std::marker::Model;
 
 /// Counts the nodes that were entered, from 0 on. By it a contract can say that a walk reads a part of the tree alone.
@@ -137,6 +138,7 @@ impl<'a> Node<'a> {
     ghost use Rattle.hwdb_spec.specs.Tree.{prefix_of, IsTree};
     ghost use Rattle.hwdb_reader.specs.Views.{node_count};
     ghost use Rattle.hwdb_reader.specs.Views.{tree_of, entered_tree};
+    ghost use Rattle.hwdb_reader.specs.Unread.{file_at, file_in};
 
     /// In the node's tree stored keys and bytes ascend, and its nodes can be counted.
     pub fn law_tree(&self)
@@ -205,6 +207,7 @@ impl<'a> Node<'a> {
         requires { entered.old + 1 < 2 ^ 64 }
         ensures same { entered_tree result ≡ tree_of self.entry }
         ensures counted { entered.new ≡ entered.old + 1 }
+        ensures file { file_in result ≡ file_at self.entry }
     {
         entered.count += 1;
         Inside { node: self }
@@ -217,6 +220,7 @@ impl<'a> Inside<'a> {
     ghost use Rattle.hwdb_reader.specs.Views.{children_of, shown};
     ghost use Rattle.hwdb_spec.specs.Tree.{values_of};
     ghost use Rattle.hwdb_reader.specs.Views.{tree_of, entered_tree, entry_shows};
+    ghost use Rattle.hwdb_reader.specs.Unread.{IsFrom, file_at, file_in, value_in};
 
     /// How many children the node has.
     pub fn children(&self) -> usize
@@ -230,6 +234,16 @@ impl<'a> Inside<'a> {
         requires { i < length (children_of (entered_tree self.now)) }
         ensures { slice_get (children_of (entered_tree self.now)) i
             ≡ Some (result.byte, tree_of result.node) }
+    {
+        self.child_in_file(i)
+    }
+
+    /// The same child. Its database is this node's.
+    pub fn child_in_file(&self, i: usize) -> Child<'a>
+        requires { i < length (children_of (entered_tree self.now)) }
+        ensures child { slice_get (children_of (entered_tree self.now)) i
+            ≡ Some (result.byte, tree_of result.node) }
+        ensures file { file_at result.node ≡ file_in self.now }
     {
         let node = self.node;
         let entry = child_entry_at(node.bytes, node.frame, node.offset, i);
@@ -279,5 +293,16 @@ impl<'a> Inside<'a> {
         let node = self.node;
         let entry = value_entry_at(node.bytes, node.frame, node.offset, i);
         read_value(node.bytes, node.frame, entry)
+    }
+
+    /// The value number `i`, counted from 0, without a look at its texts.
+    pub fn unread(&self, i: usize) -> UnreadEntry<'a>
+        requires { i < length (values_of (entered_tree self.now)) }
+        ensures value { slice_get (values_of (entered_tree self.now)) i ≡ Some (value_in result) }
+        ensures file { IsFrom (file_in self.now) result }
+    {
+        let node = self.node;
+        let entry = value_entry_at(node.bytes, node.frame, node.offset, i);
+        read_unread(node.bytes, node.frame, entry)
     }
 }

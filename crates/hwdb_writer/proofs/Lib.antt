@@ -23,3 +23,4 @@ pub mod ReadBackLemmas
 pub mod BridgeLemmas
 pub mod MembershipLemmas
 pub mod SplitLemmas
+pub mod SectionLemmas

@@ -129,12 +129,12 @@ some_node place places es ns ss order p =
     omega (arith, long, some)
 
 -- what a database is made of, if each part has the value that it was given
-pub laid_out : (es : List Setting) (ns : List BuiltNode) (s : Stored) → IsStored es ns s → IsNarrow (tree_of es ns) → (ss : List StoredNode) (vs : List StoredValue) (read words : List (List ℕ)) (places : List ℕ) (size section : ℕ) →
-    ss ≡ s.nodes.items → vs ≡ s.values.items → read ≡ table_of (tree_of es ns) → words ≡ table_of (tree_of es ns) → places ≡ map (place_of (80 + size) read) s.interner → size ≡ text_size (tree_of es ns) →
-    section ≡ length (section_of (table_of (tree_of es ns))) → 80 + size + section < 2 ^ 64 → IsLaidOut es ns ss vs words places size section
-laid_out es ns s st narrow ss vs read words places size section n v r w p sized ended fits =
-    let place = place_of (80 + size) words in
-    let at = placed_at place s.interner places (p ∙ ap (λ o. map (place_of (80 + size) o) s.interner) (r ∙ sym w)) in
+pub laid_out : (es : List Setting) (ns : List BuiltNode) (s : Stored) → IsStored es ns s → IsNarrow (tree_of es ns) → (ss : List StoredNode) (vs : List StoredValue) (read : List (List ℕ)) (places : List ℕ) (size : ℕ) (section : List ℕ) →
+    ss ≡ s.nodes.items → vs ≡ s.values.items → read ≡ table_of (tree_of es ns) → section ≡ section_of read → places ≡ map (place_of (80 + size) read) s.interner → size ≡ text_size (tree_of es ns) →
+    80 + size + length section < 2 ^ 64 → IsLaidOut es ns ss vs places size section
+laid_out es ns s st narrow ss vs read places size section n v r e p sized fits =
+    let place = place_of (80 + size) (table_of (tree_of es ns)) in
+    let at = placed_at place s.interner places (p ∙ ap (λ o. map (place_of (80 + size) o) s.interner) r) in
     record {
       records = record {
         order = st.order;
@@ -142,8 +142,7 @@ laid_out es ns s st narrow ss vs read words places size section n v r w p sized 
         nodes = subst (λ (l : List StoredNode). AreNodes (IsAt place places) l ns) (sym n) (nodes_by (IsUnder s.interner) (IsAt place places) at s.nodes.items ns st.nodes);
         values = subst (λ (l : List StoredValue). AreValues (IsAt place places) l (all_values es ns)) (sym v) (values_by (IsUnder s.interner) (IsAt place places) at s.values.items (all_values es ns) st.values);
       };
-      ordered = w;
+      is = e ∙ ap section_of r;
       sized = sized;
-      ended = ended;
       fits = fits;
     }

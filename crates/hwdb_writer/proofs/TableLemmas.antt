@@ -1,7 +1,6 @@
 -- A sort of numbered strings: each offset is filled in by a string's number.
-use Rattle.std.proofs.Common.{◌≡◌, ◌<◌, ◌≢◌, ℕ, ◌+◌, ◌-◌, ◌^◌, List, [], ◌∷◌, ◌++◌, length, get_or, set, map, cond, Bool, true, false, refl, sym, ◌∙◌, ap, subst, arith, nat_eq, ◌⊎◌, ⊎_elim}
+use Rattle.std.proofs.Common.{◌≡◌, ◌<◌, ◌≢◌, ℕ, ◌+◌, ◌-◌, ◌^◌, List, [], ◌∷◌, ◌++◌, length, get_or, set, map, Bool, true, false, refl, sym, ◌∙◌, ap, subst, arith, nat_eq, ◌⊎◌, ⊎_elim}
 use Rattle.std.specs.Ordering.{nat_cmp, on}
-use Rattle.std.specs.List.{dedup, dedup_from}
 use Rattle.std.specs.List.Sorted.{IsSorted, IsPermutation}
 use Rattle.std.specs.Cmp.Lexicographic.{slice_cmp, pointwise, same_text, nat_list_eq_equiv}
 use Rattle.std.proofs.lemmas.List.{get_or_default, get_or-map, length-map, get_or-set_same, get_or-set_other, ext_get_or}
@@ -23,20 +22,6 @@ same = pointwise nat_eq
 
 pub text_at : (ws : List NumberedStr) (i : ℕ) (d : NumberedStr) → i < length ws → get_or (texts ws) i nothing ≡ (get_or ws i d).word
 text_at ws i d lt = get_or-map word_of ws i d nothing lt
-
--- what a dedup leaves, without the numbers
-left_is : (k : NumberedStr) (ws : List NumberedStr) → texts (dedup_from (on word_of same) k ws) ≡ dedup_from same k.word (texts ws)
-left_is k [] = refl
-left_is k (w ∷ ws) = by (same w.word k.word) (left_is k ws) (left_is w ws)
-  where
-    by : (b : Bool) → texts (dedup_from (on word_of same) k ws) ≡ dedup_from same k.word (texts ws) → texts (dedup_from (on word_of same) w ws) ≡ dedup_from same w.word (texts ws) →
-        texts (cond b (dedup_from (on word_of same) k ws) (k ∷ dedup_from (on word_of same) w ws)) ≡ cond b (dedup_from same k.word (texts ws)) (k.word ∷ dedup_from same w.word (texts ws))
-    by true e f = e
-    by false e f = ap (λ l. k.word ∷ l) f
-
-pub deduped : (ws : List NumberedStr) → texts (dedup (on word_of same) ws) ≡ distinct (texts ws)
-deduped [] = refl
-deduped (w ∷ ws) = left_is w ws
 
 pub texts_sorted : (ws : List NumberedStr) → IsSorted (on word_of (slice_cmp nat_cmp)) ws → IsSorted (slice_cmp nat_cmp) (texts ws)
 texts_sorted ws up k d low high =

@@ -60,6 +60,13 @@ impl<'t> Assignments<'t> {
         }
     }
 
+    /// Makes room for so many assignments, if there is as much memory. The map stays.
+    pub fn make_room(&mut self, assignments: usize)
+        ensures { self.new ≡ self.old }
+    {
+        let _ = self.entries.reserve_exact(assignments);
+    }
+
     /// A copy of the list. The texts stay borrowed.
     pub fn copied(&self, alloc: Global) -> Result<Assignments<'t>, AllocError>
         ensures { IfOk result (λ tree. tree ≡ self.now) }

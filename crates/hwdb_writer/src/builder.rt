@@ -89,8 +89,12 @@ fn common(a: &[u8], b: &[u8]) -> usize
 }
 
 /// For how many nodes there is room, for each entry. At most two come: the one that is opened for it, and the rest of one
-/// that is cut. With more room the database, the next long list, takes the memory of the nodes.
-const NODES_AN_ENTRY: usize = 3;
+/// that is cut.
+const NODES_AN_ENTRY: usize = 2;
+
+/// For how many open nodes there is room from the start. glibc keeps short lists that are let go of for lists as short. One of
+/// these would lie between the nodes and the strings, whose memory the database takes as one piece.
+const OPEN_NODES: usize = 64;
 
 impl<'t> Builder<'t> {
     /// A root alone, and room for the nodes of so many entries.
@@ -100,13 +104,14 @@ impl<'t> Builder<'t> {
     {
         let room = entries.saturating_mul(NODES_AN_ENTRY).saturating_add(1);
         let closed = Vec::with_capacity(alloc, room)?;
+        let above = Vec::with_capacity(alloc, OPEN_NODES)?;
         Ok(Builder {
             path: &[],
             top: OpenBranch {
                 node: BuiltNode::new(0, &[], 0),
                 end: 0,
             },
-            above: Vec::new(alloc),
+            above,
             closed,
         })
     }

@@ -25,5 +25,6 @@ mod strings;
 
 pub use crate::assignments::{Assignments, Assignments as Tree};
 pub use crate::laws::{law_one_tight_tree, law_one_written_form};
+pub use crate::memory::keep_pages;
 pub use crate::output::{into_database, write};
 pub use hwdb_spec::StoreError;

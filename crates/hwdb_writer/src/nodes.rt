@@ -6,10 +6,10 @@ ghost use Rattle.std.specs.Prelude.{◌≡◌};
 #[derive(Clone, Copy)]
 pub struct BuiltNode<'t> {
     pub byte: u8,
+    pub children: u16,
     pub prefix: &'t [u8],
     pub first: usize,
     pub count: usize,
-    pub children: usize,
 }
 
 impl<'t> BuiltNode<'t> {

@@ -2,11 +2,10 @@
 ghost use Rattle.std.specs.Prelude.{◌≡◌, ◌<◌, ◌≤◌, ◌++◌, ◌+◌, ◌^◌, OnOk, IfOk, MatchOption, flat_map, length, List, ℕ};
 ghost use Rattle.std.specs.Result.{IsErrOf};
 ghost use Rattle.byteorder.specs.Endian.{little_bytes};
-ghost use Rattle.hwdb_spec.specs.Written.{text_size, record_at, section_of, written, IsWritten, IsLonger, IsDatabaseOf};
+ghost use Rattle.hwdb_spec.specs.Written.{text_size, record_at, written, IsWritten, IsLonger, IsDatabaseOf};
 ghost use Rattle.hwdb_writer.specs.declared.entries.Setting.{Setting};
 ghost use Rattle.hwdb_writer.specs.declared.nodes.BuiltNode.{BuiltNode};
 ghost use Rattle.hwdb_writer.specs.Internal.Narrow.{IsNarrow};
-ghost use Rattle.hwdb_writer.specs.Internal.Numbered.{texts};
 ghost use Rattle.hwdb_writer.specs.Internal.PostOrder.{tree_of, IsPostOrder};
 ghost use Rattle.hwdb_writer.specs.Internal.Stored.{IsAt, AreNodes, IsStored, IsLaidOut, IsMade};
 
@@ -14,7 +13,6 @@ use crate::assignments::Assignments;
 use crate::builder::post_order;
 use crate::entries::last_of_each;
 use crate::memory::keep_pages;
-use crate::numbered::NumberedStr;
 use crate::records::{
     CHILD_SIZE, HEADER_SIZE, NODE_SIZE, VALUE_SIZE, push_records, push_u64, record_length,
     text_length,
@@ -37,17 +35,6 @@ fn push_numbers(out: &mut Vec<u8>, numbers: &[usize]) -> Result<(), AllocError>
     Ok(())
 }
 
-/// Appends the string section.
-fn push_strings(out: &mut Vec<u8>, words: &[NumberedStr<'_>]) -> Result<(), AllocError>
-    ensures { OnOk result (out.new.items ≡ out.old.items ++ section_of (texts words.now)) }
-{
-    for numbered in words {
-        numbered.word.push_on(out)?;
-        out.push(0)?;
-    }
-    Ok(())
-}
-
 /// The offset of the root's record, after a nodes section of so many bytes.
 fn root_place(nodes: &[StoredNode], size: usize) -> usize
     requires { (place : List ℕ → ℕ) × (places : List ℕ)
@@ -59,37 +46,35 @@ fn root_place(nodes: &[StoredNode], size: usize) -> usize
         → size ≡ text_size (tree_of es ns) → result ≡ record_at 80 (tree_of es ns) }
 {
     match nodes.last() {
-        Some(root) => HEADER_SIZE + size - record_length(root.children, root.count),
+        Some(root) => HEADER_SIZE + size - record_length(root.children as usize, root.count),
         None => HEADER_SIZE,
     }
 }
 
-/// The database of the nodes, with these values, strings in order and places of strings. The nodes section has `size`
-/// bytes, and the string section `section`.
+/// The database of the nodes, with these values, places of strings and string section. The nodes section has `size` bytes.
 fn database(
     alloc: Global,
     nodes: &[StoredNode],
     values: &[StoredValue],
-    ordered: &[NumberedStr<'_>],
     places: &[usize],
     size: usize,
-    section: usize,
+    section: &[u8],
 ) -> Result<Vec<u8>, AllocError>
     requires { (es : List Setting) × (ns : List BuiltNode)
-        × IsLaidOut es ns nodes.now values.now (texts ordered.now) places.now size section }
+        × IsLaidOut es ns nodes.now values.now places.now size section.now }
     ensures { IfOk result (λ v. (es : List Setting) (ns : List BuiltNode)
-        → IsLaidOut es ns nodes.now values.now (texts ordered.now) places.now size section
+        → IsLaidOut es ns nodes.now values.now places.now size section.now
         → v.items ≡ written (tree_of es ns)) }
 {
-    let end = HEADER_SIZE + size + section;
+    let end = HEADER_SIZE + size + section.len();
     let mut out = Vec::with_capacity(alloc, end)?;
     out.extend_from_slice(b"KSLPHHRH")?;
     let root_at = root_place(nodes, size);
     push_numbers(&mut out, &[TOOL_VERSION, end, HEADER_SIZE])?;
     push_numbers(&mut out, &[NODE_SIZE, CHILD_SIZE, VALUE_SIZE])?;
-    push_numbers(&mut out, &[root_at, size, section])?;
+    push_numbers(&mut out, &[root_at, size, section.len()])?;
     push_records(alloc, nodes, values, places, &mut out)?;
-    push_strings(&mut out, ordered)?;
+    out.extend_from_slice(section)?;
     Ok(out)
 }
 
@@ -115,10 +100,9 @@ fn database_within(
     if table.end > max_bytes as usize {
         return Ok(None);
     }
-    let ordered = table.ordered;
     let places = table.places;
-    let section = table.end - first;
-    let bytes = database(alloc, &nodes, &values, &ordered, &places, size, section)?;
+    let section = table.section;
+    let bytes = database(alloc, &nodes, &values, &places, size, &section)?;
     Ok(Some(bytes))
 }
 

@@ -117,7 +117,7 @@ pub fn text_length(nodes: &[StoredNode]) -> usize
 {
     let mut total = 0usize;
     for node in nodes {
-        total = total.saturating_add(record_length(node.children, node.count));
+        total = total.saturating_add(record_length(node.children as usize, node.count));
     }
     total
 }
@@ -188,7 +188,7 @@ fn push_record(
         ≡ take (length children.old.items - 16 * node.now.children) children.old.items
         ++ (node.now.byte ∷ padding 7 ++ little_bytes 8 (length out.old.items))) }
 {
-    let first = children.as_slice().len() - CHILD_SIZE * node.children;
+    let first = children.as_slice().len() - CHILD_SIZE * node.children as usize;
     let at = out.as_slice().len();
     push_node(out, places[node.prefix], node.children as u8, values.len())?;
     push_rest(out, children, first)?;

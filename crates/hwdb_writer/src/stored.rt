@@ -28,9 +28,9 @@ pub struct StoredValue {
 #[derive(Clone, Copy)]
 pub struct StoredNode {
     pub byte: u8,
+    pub children: u16,
     pub prefix: usize,
     pub count: usize,
-    pub children: usize,
 }
 
 /// The nodes of a tree, the values of all of them one after another, and their strings.

@@ -1,21 +1,23 @@
 //! The string section: the distinct strings in order, and the offset of each.
-ghost use Rattle.std.specs.Prelude.{◌≡◌, ◌<◌, List, IfOk, length, set};
+ghost use Rattle.std.specs.Prelude.{◌≡◌, ◌<◌, ◌++◌, List, IfOk, OnOk, length, set};
 ghost use Rattle.std.specs.Bool.{OnTrue, OnFalse};
 ghost use Rattle.std.specs.Ordering.{nat_cmp, on};
 ghost use Rattle.std.specs.Cmp.Lexicographic.{slice_cmp};
 ghost use Rattle.std.specs.List.Sorted.{IsPermutation, IsSorted};
+ghost use Rattle.hwdb_spec.specs.Written.{ended, section_of};
 ghost use Rattle.hwdb_writer.specs.declared.numbered.NumberedStr.{NumberedStr as Word};
-ghost use Rattle.hwdb_writer.specs.Internal.Numbered.{word_of, texts, IsNumbered, IsNew, IsOld, IsFilled, IsTable};
+ghost use Rattle.hwdb_writer.specs.Internal.Numbered.{word_of, texts, distinct, IsNumbered, IsNew, IsOld, IsFilled, IsTable};
 
 use crate::interner::Interner;
+use crate::keyed::KeyedStr;
 use crate::numbered::NumberedStr;
 use std::alloc::{AllocError, Global};
 
-/// The strings in order, each once; the offset of each by its number; and the offset at which they end. An offset above the
-/// greatest number is that number.
+/// The bytes of the section: the strings in order, each once, and each with the byte 0 after it. Beside it are the offset of
+/// each string by its number, and the offset at which they end. An offset above the greatest number is that number.
 #[derive(Drop)]
-pub struct StringTable<'t> {
-    pub ordered: Vec<NumberedStr<'t>>,
+pub struct StringTable {
+    pub section: Vec<u8>,
     pub places: Vec<usize>,
     pub end: usize,
 }
@@ -45,13 +47,33 @@ fn put(places: &mut [usize], at: usize, value: usize)
     places[at] = value;
 }
 
-/// Fills in the offset of each string by its number, the first of them at `first`. Returns the offset at which they end.
-fn fill(ordered: &[NumberedStr<'_>], first: usize, places: &mut [usize]) -> usize
+/// Appends a string, and the byte 0 after it.
+#[inline(always)]
+fn push_ended(out: &mut Vec<u8>, word: &KeyedStr<'_>) -> Result<(), AllocError>
+    ensures { OnOk result (out.new.items ≡ out.old.items ++ ended word.now) }
+{
+    word.push_on(out)?;
+    out.push(0)?;
+    Ok(())
+}
+
+/// Fills in the offset of each string by its number, the first of them at `first`. Appends each once to the section. Returns
+/// the offset at which they end.
+///
+/// A string is compared with the one before it and copied at once, as its text is in the cache then.
+fn fill(
+    ordered: &[NumberedStr<'_>],
+    first: usize,
+    places: &mut [usize],
+    section: &mut Vec<u8>,
+) -> Result<usize, AllocError>
     requires room { length places.old ≡ length ordered.now }
     requires sorted { IsSorted (on word_of (slice_cmp nat_cmp)) ordered.now }
     requires numbered { (words : List Word) × IsNumbered words × IsPermutation words ordered.now }
-    ensures { (words : List Word) → IsNumbered words → IsPermutation words ordered.now
-        → IsFilled first words ordered.now places.new result }
+    ensures filled { IfOk result (λ end. (words : List Word) → IsNumbered words
+        → IsPermutation words ordered.now → IsFilled first words ordered.now places.new end) }
+    ensures section { OnOk result (section.new.items
+        ≡ section.old.items ++ section_of (distinct (texts ordered.now))) }
 {
     let mut start = first;
     let mut end = first;
@@ -59,29 +81,39 @@ fn fill(ordered: &[NumberedStr<'_>], first: usize, places: &mut [usize]) -> usiz
         if is_new(ordered, i) {
             start = end;
             end = end.saturating_add(numbered.word.len()).saturating_add(1);
+            push_ended(section, &numbered.word)?;
         }
         put(places, numbered.number, start);
     }
-    end
+    Ok(end)
+}
+
+/// How many bytes the strings have with a byte after each, or the greatest number if they have more.
+fn room_for(words: &[NumberedStr<'_>]) -> usize {
+    let mut room = 0usize;
+    for numbered in words {
+        room = room.saturating_add(numbered.word.len()).saturating_add(1);
+    }
+    room
 }
 
 /// The table of the strings of an interner, the first of them at `first`.
 ///
-/// A string can have several numbers. So the offsets are filled in before all but one of equal strings are left out.
-pub fn table_of<'t>(
+/// A string can have several numbers, and each of these gets its offset. The strings are let go of.
+pub fn table_of(
     alloc: Global,
-    interner: Interner<'t>,
+    interner: Interner<'_>,
     first: usize,
-) -> Result<StringTable<'t>, AllocError>
+) -> Result<StringTable, AllocError>
     ensures { IfOk result (IsTable first interner.entry) }
 {
     let mut ordered = interner.into_words();
     ordered.sort_unstable();
     let mut places = Vec::from_elem(alloc, 0, ordered.len())?;
-    let end = fill(&ordered, first, &mut places);
-    ordered.dedup();
+    let mut section = Vec::with_capacity(alloc, room_for(&ordered))?;
+    let end = fill(&ordered, first, &mut places, &mut section)?;
     Ok(StringTable {
-        ordered,
+        section,
         places,
         end,
     })

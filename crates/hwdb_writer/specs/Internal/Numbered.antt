@@ -1,5 +1,5 @@
 -- Strings with their numbers (our choice: a sort takes the numbers along).
-use Rattle.std.specs.Prelude.{List, [], ℕ, ◌+◌, ◌^◌, ◌-◌, ◌<◌, ◌≡◌, length, get_or, map, min, nat_eq, false}
+use Rattle.std.specs.Prelude.{List, [], ℕ, ◌∷◌, ◌++◌, ◌+◌, ◌^◌, ◌-◌, ◌<◌, ◌≡◌, cond, drop, length, get_or, map, min, nat_eq, false}
 use Rattle.std.specs.List.{dedup}
 use Rattle.std.specs.Cmp.Lexicographic.{pointwise}
 use Rattle.hwdb_spec.specs.Assignment.{ascending}
@@ -45,9 +45,9 @@ pub record IsFilled (first : ℕ) (words ordered : List NumberedStr) (places : L
   pub placed : places ≡ map (bounded_place first (distinct (texts ordered))) (texts words)
   pub ended : end ≡ bounded_end first (distinct (texts ordered))
 
--- the strings in order, each once, the offset of each by its number, and the offset at which they end
+-- the section of the strings, the offset of each by its number, and the offset at which they end
 pub record IsTable (first : ℕ) (words : List (List ℕ)) (t : StringTable) : Type 0 where
-  pub ordered : texts t.ordered.items ≡ ascending words
+  pub section : t.section.items ≡ section_of (ascending words)
   pub places : t.places.items ≡ map (bounded_place first (ascending words)) words
   pub ended : t.end ≡ bounded_end first (ascending words)
 
@@ -61,3 +61,13 @@ pub record IsReached (first : ℕ) (ts : List (List ℕ)) (i start end : ℕ) : 
 abbrev pub IsFilledTo : ℕ → List NumberedStr → List ℕ → ℕ → Type 0
 IsFilledTo first ordered places i =
     (j : ℕ) (d : NumberedStr) → j < i → get_or places (get_or ordered j d).number 0 ≡ bounded_place first (distinct (texts ordered)) (get_or ordered j d).word
+
+-- what comes after the string that was kept last, each once
+unfoldable pub left_after : List ℕ → List (List ℕ) → List (List ℕ)
+left_after kept [] = []
+left_after kept (t ∷ ts) = cond (pointwise nat_eq t kept) (left_after kept ts) (t ∷ left_after t ts)
+
+-- the first i of the strings in order are in the section, each once
+pub record IsSectioned (old : List ℕ) (ts : List (List ℕ)) (i : ℕ) (now : List ℕ) : Type 0 where
+  pub begun : i ≡ 0 → now ≡ old
+  pub gone_on : (k : ℕ) → i ≡ k + 1 → now ++ section_of (left_after (get_or ts k []) (drop i ts)) ≡ old ++ section_of (distinct ts)

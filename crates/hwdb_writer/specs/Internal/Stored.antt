@@ -77,12 +77,11 @@ record_text place prefix children values entries xs =
     little_bytes 8 prefix ++ children ∷ padding 7 ++ little_bytes 8 values ++ entries ++ flat_map (value_text place) xs
 
 -- what a database is made of
-pub record IsLaidOut (es : List Setting) (ns : List BuiltNode) (ss : List StoredNode) (vs : List StoredValue) (words : List (List ℕ)) (places : List ℕ) (size section : ℕ) : Type 0 where
-  pub records : AreRecords (place_of (80 + size) words) places es ns ss vs
-  pub ordered : words ≡ table_of (tree_of es ns)
+pub record IsLaidOut (es : List Setting) (ns : List BuiltNode) (ss : List StoredNode) (vs : List StoredValue) (places : List ℕ) (size : ℕ) (section : List ℕ) : Type 0 where
+  pub records : AreRecords (place_of (80 + size) (table_of (tree_of es ns))) places es ns ss vs
+  pub is : section ≡ section_of (table_of (tree_of es ns))
   pub sized : size ≡ text_size (tree_of es ns)
-  pub ended : section ≡ length (section_of (table_of (tree_of es ns)))
-  pub fits : 80 + size + section < 2 ^ 64
+  pub fits : 80 + size + length section < 2 ^ 64
 
 -- a sound tree of the map
 pub record IsMade (m : Map) (t : Tree) : Type 0 where

@@ -17,19 +17,19 @@ pub returns-in_err-database-clause-refused : goal.returns-in_err-database-clause
 returns-in_err-database-clause-refused c =
     error_given _ (λ e. ForFolders c.args.files.now (λ etc usr. IsRefusal etc usr c.args.max_bytes e)) c.from_residual-in_err-database.result c.from_residual-in_err-database.ensures.1
     (λ e is etc usr of.
-    let tree = same_map etc usr c.args.files.now c.new-tree.result c.add_files.new.tree of c.new-tree.ensures (c.in_ok-given.ensures.tree []) in
+    let tree = same_map etc usr c.args.files.now c.make_room.new.self c.add_files.new.tree of (c.make_room.ensures ∙ c.new-tree.ensures) (c.in_ok-given.ensures.tree []) in
     subst (IsRefusal etc usr c.args.max_bytes) (sym is)
     (store_refusal etc usr c.args.max_bytes c.add_files.new.tree c.in_err-database.field-0.0 (accepted etc usr c.args.files.now of c.in_ok-given.ensures.few) tree
     (λ t. c.in_err-database.ensures.too_large (ap Err t))))
 
 pub returns-clause-database : goal.returns-clause-database
 returns-clause-database c = λ etc usr of.
-    let tree = same_map etc usr c.args.files.now c.new-tree.result c.add_files.new.tree of c.new-tree.ensures (c.in_ok-given.ensures.tree []) in
+    let tree = same_map etc usr c.args.files.now c.make_room.new.self c.add_files.new.tree of (c.make_room.ensures ∙ c.new-tree.ensures) (c.in_ok-given.ensures.tree []) in
     subst (λ m. IsWritten m c.in_ok-database.database.items) tree c.in_ok-database.ensures.written
 
 pub returns-clause-checked : goal.returns-clause-checked
 returns-clause-checked c = λ etc usr of.
-    let tree = same_map etc usr c.args.files.now c.new-tree.result c.add_files.new.tree of c.new-tree.ensures (c.in_ok-given.ensures.tree []) in
+    let tree = same_map etc usr c.args.files.now c.make_room.new.self c.add_files.new.tree of (c.make_room.ensures ∙ c.new-tree.ensures) (c.in_ok-given.ensures.tree []) in
     subst (λ m. IsDatabaseOf m c.in_ok-database.database.items) tree c.in_ok-database.ensures.database
 
 pub returns-clause-faults : goal.returns-clause-faults

@@ -1,7 +1,6 @@
 use Rattle.std.proofs.Common.{◌≤◌, ◌-◌, length, map}
 use Rattle.hwdb_spec.specs.Patterns.{tokens}
-use Rattle.hwdb_forms.specs.Internal.{IsCut, piece_of}
-use Rattle.hwdb_forms.proofs.PlainLemmas.{LedTo}
+use Rattle.hwdb_forms.specs.Internal.{IsCut, LedTo, piece_of}
 use Rattle.hwdb_forms.proofs.plain.through_way.Given as goal
 
 abbrev pub invariant-loop-done : goal.invariant-loop-done

@@ -1,7 +1,7 @@
 use Rattle.std.proofs.Common.{◌∙◌, ap, subst, sym, arith, List, length}
 use Rattle.hwdb_spec.specs.Assignment.{ascending}
 use Rattle.hwdb_spec.specs.Written.{section_of}
-use Rattle.hwdb_writer.specs.Internal.Numbered.{texts, bounded_end}
+use Rattle.hwdb_writer.specs.Internal.Numbered.{bounded_end}
 use Rattle.hwdb_writer.specs.Internal.PostOrder.{tree_of}
 use Rattle.hwdb_writer.specs.Internal.Stored.{IsUnder, AreNodes}
 use Rattle.hwdb_writer.specs.declared.stored.StoredNode.{StoredNode}
@@ -31,12 +31,14 @@ database-requires c =
     let ended = c.in_ok-table.ensures.ended ∙ ap (bounded_end first) s.strings in
     let x = exact _ _ _ c.args.max_bytes _ _ sized c.saturating_add-first.ensures ended c.if-table-max_bytes.false c.ranges.max_bytes.fits in
     let same = ap (λ ss. length (section_of ss)) s.strings in
-    let placed = placed_in first c.text_length-size.result words (ascending words) c.deref-5.result.now _ c.deref-5.ensures.value c.in_ok-table.ensures.places x.first_is
+    let here = c.deref-5.ensures.value ∙ c.in_ok-table.ensures.section in
+    let long = ap length here in
+    let placed = placed_in first c.text_length-size.result words (ascending words) c.deref-4.result.now _ c.deref-4.ensures.value c.in_ok-table.ensures.places x.first_is
     (omega (arith, same, x.nodes_is, x.first_is, x.within, c.ranges.max_bytes.fits)) in (
       es,
       ns,
-      laid_out es ns c.args.stored s c.requires.3 c.deref-2.result.now c.deref-3.result.now (ascending words) (texts c.deref-4.result.now) c.deref-5.result.now _ _ c.deref-2.ensures.value c.deref-3.ensures.value s.strings
-          (ap texts c.deref-4.ensures.value ∙ c.in_ok-table.ensures.ordered ∙ s.strings) placed x.nodes_is x.section_is (omega (arith, x.nodes_is, x.section_is, x.within, c.ranges.max_bytes.fits)),
+      laid_out es ns c.args.stored s c.requires.3 c.deref-2.result.now c.deref-3.result.now (ascending words) c.deref-4.result.now _ c.deref-5.result.now c.deref-2.ensures.value c.deref-3.ensures.value s.strings
+          here placed x.nodes_is (omega (arith, long, same, x.nodes_is, x.within, c.ranges.max_bytes.fits)),
     )
 
 pub returns : goal.returns
@@ -48,8 +50,10 @@ returns c = λ es ns s narrow.
     let ended = c.in_ok-table.ensures.ended ∙ ap (bounded_end first) s.strings in
     let x = exact _ _ _ c.args.max_bytes _ _ sized c.saturating_add-first.ensures ended c.if-table-max_bytes.false c.ranges.max_bytes.fits in
     let same = ap (λ ss. length (section_of ss)) s.strings in
-    let placed = placed_in first c.text_length-size.result words (ascending words) c.deref-5.result.now _ c.deref-5.ensures.value c.in_ok-table.ensures.places x.first_is
+    let here = c.deref-5.ensures.value ∙ c.in_ok-table.ensures.section in
+    let long = ap length here in
+    let placed = placed_in first c.text_length-size.result words (ascending words) c.deref-4.result.now _ c.deref-4.ensures.value c.in_ok-table.ensures.places x.first_is
     (omega (arith, same, x.nodes_is, x.first_is, x.within, c.ranges.max_bytes.fits)) in
-    let laid = laid_out es ns c.args.stored s narrow c.deref-2.result.now c.deref-3.result.now (ascending words) (texts c.deref-4.result.now) c.deref-5.result.now _ _ c.deref-2.ensures.value c.deref-3.ensures.value s.strings
-    (ap texts c.deref-4.ensures.value ∙ c.in_ok-table.ensures.ordered ∙ s.strings) placed x.nodes_is x.section_is (omega (arith, x.nodes_is, x.section_is, x.within, c.ranges.max_bytes.fits)) in
+    let laid = laid_out es ns c.args.stored s narrow c.deref-2.result.now c.deref-3.result.now (ascending words) c.deref-4.result.now _ c.deref-5.result.now c.deref-2.ensures.value c.deref-3.ensures.value s.strings
+    here placed x.nodes_is (omega (arith, long, same, x.nodes_is, x.within, c.ranges.max_bytes.fits)) in
     (c.in_ok-bytes.ensures es ns laid, omega (arith, length-written t, x.within))
