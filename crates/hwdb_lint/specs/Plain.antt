@@ -1,5 +1,5 @@
 -- Files of whose lines only the marks of comments have to be looked at.
-use Rattle.std.specs.Prelude.{Bool, true, false, ℕ, List, [], ◌∷◌, ◌-◌, ◌<◌, ◌≡◌, if◌then◌else◌, drop, length, nat_eq, take}
+use Rattle.std.specs.Prelude.{true, false, ℕ, List, [], ◌∷◌, ◌-◌, ◌<◌, ◌≡◌, if◌then◌else◌, drop, length, nat_eq, take}
 use Rattle.std.specs.List.{list_any, starts_with}
 use Rattle.hwdb_spec.specs.Assignment.{Assignment}
 use Rattle.hwdb_spec.specs.Lines.{Line, begins_with, byte, clean_line, has, is_blank, is_dropped, is_indent, lines}
