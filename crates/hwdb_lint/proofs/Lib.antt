@@ -13,3 +13,4 @@ pub mod BracketLemmas
 pub mod CalmLemmas
 pub mod RecordLemmas
 pub mod PlainLemmas
+pub mod MarkLemmas

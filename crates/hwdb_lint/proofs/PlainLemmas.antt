@@ -1,7 +1,7 @@
 -- Files of whose lines only the marks of comments have to be looked at.
-use Rattle.std.proofs.Common.{add-one, append-nil, ◌≡◌, ℕ, zero, suc, ◌+◌, ◌-◌, ◌<◌, ◌≤◌, ◌==◌, Bool, true, false, not, nat_lt, List, [], ◌∷◌, ◌++◌, map, take, drop, get_or, length, refl, ap, ◌∙◌, sym, subst, cond, arith, Option, None, ◌||◌, ◌&&◌}
-use Rattle.std.specs.Prelude.{filter, flat_map, nat_eq, if◌then◌else◌}
-use Rattle.std.specs.List.{list_all, list_any, onto_first, position_or_len, starts_with}
+use Rattle.std.proofs.Common.{add-one, append-nil, ◌≡◌, ℕ, zero, suc, ◌+◌, ◌<◌, ◌≤◌, ◌==◌, Bool, true, false, not, nat_lt, List, [], ◌∷◌, ◌++◌, map, take, drop, get_or, length, refl, ap, ◌∙◌, sym, subst, cond, arith, Option, None, ◌||◌, ◌&&◌}
+use Rattle.std.specs.Prelude.{filter, flat_map}
+use Rattle.std.specs.List.{list_all, list_any, onto_first, position_or_len}
 use Rattle.std.specs.List.Sorted.{IsStrictlySortedBy}
 use Rattle.std.specs.Option.{is_some, unwrap_or}
 use Rattle.std.specs.BTreeMap.{is_at}
@@ -14,12 +14,12 @@ use Rattle.std.proofs.Math.Seq.{drop-cons}
 use Rattle.hwdb_spec.specs.Assignment.{Assignment}
 use Rattle.hwdb_spec.specs.Folders.{same}
 use Rattle.hwdb_spec.specs.FormTable.{prefixes}
-use Rattle.hwdb_spec.specs.Lines.{Line, begins_with, byte, clean_line, has, has_equals, has_key, is, is_blank, is_dropped, is_empty, is_indent, is_match, is_none, is_property, key, lines, numbered, pieces, trimmed, value}
+use Rattle.hwdb_spec.specs.Lines.{Line, begins_with, byte, clean_line, has, has_equals, has_key, is, is_blank, is_dropped, is_empty, is_match, is_none, is_property, key, lines, numbered, pieces, trimmed, value}
 use Rattle.hwdb_spec.specs.Properties.{before, misuse}
-use Rattle.hwdb_spec.specs.Records.{Section, assignments, faults, sections_from}
-use Rattle.hwdb_spec.specs.Surroundings.{companions_text, is_alone, is_elsewhere, is_given, is_read_below, is_unpaired, is_unread, prefix_of}
+use Rattle.hwdb_spec.specs.Records.{assignments, faults}
+use Rattle.hwdb_spec.specs.Surroundings.{is_alone, is_elsewhere, is_given, is_unpaired, is_unread, prefix_of}
 use Rattle.hwdb_spec.specs.Unmatched.{is_unmatched, judgement_of}
-use Rattle.hwdb_spec.specs.Warnings.{all_warnings, greatest, is_cut, line_kinds, is_spaced, line_warnings, misused, repeated_lines, replacing}
+use Rattle.hwdb_spec.specs.Warnings.{all_warnings, greatest, is_cut, line_kinds, is_spaced, line_warnings, repeated_lines, replacing}
 use Rattle.hwdb_spec.specs.declared.WarningKind.{WarningKind}
 use Rattle.hwdb_spec.specs.declared.vocabulary.Misuse.{Misuse}
 use Rattle.hwdb_text.specs.declared.outcome.Given.{Given}

@@ -1,6 +1,6 @@
 -- Records without faults, of assignments each on a line of its own: what each line gives is in the assignments.
-use Rattle.std.proofs.Common.{◌≡◌, ℕ, zero, suc, ◌+◌, ◌-◌, ◌<◌, Bool, true, false, not, List, [], ◌∷◌, ◌++◌, map, take, refl, ap, ◌∙◌, sym, subst, cond, arith, append_assoc, append-nil, ◌||◌}
-use Rattle.std.specs.Prelude.{flat_map, if◌then◌else◌}
+use Rattle.std.proofs.Common.{◌≡◌, ℕ, zero, suc, ◌+◌, ◌-◌, ◌<◌, Bool, true, false, not, List, [], ◌∷◌, ◌++◌, map, take, refl, ap, ◌∙◌, sym, subst, cond, arith, append_assoc, append-nil}
+use Rattle.std.specs.Prelude.{flat_map}
 use Rattle.std.specs.List.{list_any, onto_first, take_while, prefix_len}
 use Rattle.std.specs.Ordering.{is_gt}
 use Rattle.std.proofs.lemmas.Grind.{flat_map-append}

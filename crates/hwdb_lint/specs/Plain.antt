@@ -1,8 +1,8 @@
 -- Files of whose lines only the marks of comments have to be looked at.
-use Rattle.std.specs.Prelude.{Bool, true, false, ℕ, List, [], ◌∷◌, ◌-◌, ◌<◌, ◌≡◌, if◌then◌else◌, drop, length, nat_eq, take}
+use Rattle.std.specs.Prelude.{true, false, ℕ, List, [], ◌∷◌, ◌-◌, ◌<◌, ◌≡◌, if◌then◌else◌, drop, length, nat_eq, take}
 use Rattle.std.specs.List.{list_any, starts_with}
 use Rattle.hwdb_spec.specs.Assignment.{Assignment}
-use Rattle.hwdb_spec.specs.Lines.{Line, begins_with, byte, clean_line, has, is_dropped, is_indent, lines}
+use Rattle.hwdb_spec.specs.Lines.{Line, begins_with, byte, clean_line, has, is_blank, is_dropped, is_indent, lines}
 use Rattle.hwdb_spec.specs.Surroundings.{is_unpaired, is_unread}
 use Rattle.hwdb_spec.specs.Unmatched.{is_unmatched, judgement_of}
 use Rattle.hwdb_spec.specs.Warnings.{all_warnings, greatest, is_cut, repeated_lines, replacing}
@@ -45,3 +45,8 @@ pub record IsPlainFile (file : List ℕ) : Type 0 where
   pub unread : (n : ℕ) → is_unread file n ≡ false
   pub unpaired : (n : ℕ) → is_unpaired file n ≡ false
   pub quiet : AreQuiet file (lines file)
+
+-- a text in which each `#` comes after a blank; `prev` is the byte before it
+abbrev pub IsTame : (prev : ℕ) → List ℕ → Type 0
+IsTame prev [] = Unit {0}
+IsTame prev (b ∷ more) = (b ≡ 35 → is_blank prev ≡ true) × IsTame b more

@@ -3,7 +3,7 @@
 //!
 //! The faults are those that `update` prints. A warning is for a line that is read, but likely not as it was meant (our
 //! choice). A file is read three times: for its assignments, for repeated match lines, and line by line for the
-//! reports.
+//! reports. Of a plain file only its assignments and the marks of comments are looked at.
 //!
 //! | Module | What it does |
 //! |---|---|

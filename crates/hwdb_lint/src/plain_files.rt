@@ -3,13 +3,14 @@
 //! Such a file has no faults and no carriage return. Each of its records has one match line, which is a pattern that udev may ask. Its
 //! properties are the common ones, of which nothing is to say. That is seen in the file's assignments. A line of it gets no warning but
 //! that of a value that is cut.
-ghost use Rattle.std.specs.Prelude.{◌≡◌, ◌<◌, map, true, false, IfOk};
-ghost use Rattle.hwdb_spec.specs.Lines.{begins_with, clean_line};
+ghost use Rattle.std.specs.Prelude.{◌≡◌, ◌<◌, ◌≤◌, ◌+◌, ◌∷◌, drop, get_or, length, map, take, true, IfOk};
+ghost use Rattle.std.specs.List.{position_or_len};
+ghost use Rattle.hwdb_spec.specs.Lines;
+ghost use Rattle.hwdb_spec.specs.Lines.{is};
 ghost use Rattle.hwdb_spec.specs.Records;
-ghost use Rattle.hwdb_spec.specs.Warnings.{is_cut};
 ghost use Rattle.hwdb_text.specs.Views.{given_in};
-ghost use Rattle.hwdb_lint.specs.Internal.{line_of, own};
-ghost use Rattle.hwdb_lint.specs.Plain.{AreSteady, IsPlainAssignment, IsPlainFile, IsPlainPattern, IsPlainProperty};
+ghost use Rattle.hwdb_lint.specs.Internal.{own};
+ghost use Rattle.hwdb_lint.specs.Plain.{AreSteady, IsPlainAssignment, IsPlainFile, IsPlainPattern, IsPlainProperty, IsTame};
 
 use crate::judgements::judgement_of;
 use crate::line_warnings::{
@@ -101,23 +102,53 @@ pub fn is_plain(
     are_plain(alloc, assignments)
 }
 
-/// Whether a line has a `#` that isn't its first byte, and before which no blank is.
-pub fn may_be_cut(text: &[u8]) -> bool
-    ensures { result ≡ false → begins_with 35 text.now ≡ false
-        → is_cut (line_of 0 text.now) (clean_line (line_of 0 text.now)) ≡ false }
+/// Whether a byte is a blank.
+fn is_blank(byte: u8) -> bool
+    ensures { result ≡ Lines.is_blank byte }
 {
-    let place = end_of(b'#', text);
-    if place == text.len() {
-        return false;
-    }
+    matches!(byte, 9..=13 | 32)
+}
+
+/// Whether the byte before a place is a blank. A newline comes before the first line.
+fn is_after_blank(text: &[u8], place: usize) -> bool
+    requires { place ≤ length text.now }
+    ensures { result ≡ true → Lines.is_blank (get_or (10 ∷ text.now) place 0) ≡ true }
+{
     if place == 0 {
-        return false;
+        return true;
     }
-    if text[place - 1] == b' ' {
-        return false;
+    is_blank(text[place - 1])
+}
+
+/// How many bytes of a text, from the beginning of a line on, have no `#` but after blanks: up to the first other one, or to its end.
+pub fn tame_size(text: &[u8]) -> usize
+    ensures { IsTame 10 (take result text.now) }
+{
+    let mut at = 0;
+    while at < text.len() {
+        let place = at + end_of(b'#', &text[at..]);
+        if place == text.len() {
+            return place;
+        }
+        if !is_after_blank(text, place) {
+            return place;
+        }
+        at = place + 1;
     }
-    if text[place - 1] == b'\t' {
-        return false;
+    at
+}
+
+/// How many of the bytes after a line are tame, if so many are from its beginning on. They are looked for if the line has another one.
+pub fn tame_after(rest: &[u8], end: usize, tame: usize) -> usize
+    requires end { end ≡ position_or_len (is 10) rest.now }
+    requires tame { IsTame 10 (take tame rest.now) }
+    ensures { IsTame 10 (take result (drop (end + 1) rest.now)) }
+{
+    if end >= rest.len() {
+        return 0;
     }
-    true
+    if end < tame {
+        return tame - end - 1;
+    }
+    tame_size(&rest[end + 1..])
 }

@@ -1,5 +1,5 @@
 //! Warnings: lines that are read, but likely not as they were meant.
-ghost use Rattle.std.specs.Prelude.{◌≡◌, ◌++◌, ◌∷◌, [], filter, flat_map, map, string_bytes, IfOk, OnOk};
+ghost use Rattle.std.specs.Prelude.{◌≡◌, ◌++◌, ◌∷◌, [], filter, flat_map, map, string_bytes, take, IfOk, OnOk};
 ghost use Rattle.hwdb_spec.specs.Lines.{Line, clean_line};
 ghost use Rattle.hwdb_spec.specs.Records;
 ghost use Rattle.hwdb_spec.specs.Findings.{line_text, told_warning, warning_json_line, warnings_text};
@@ -7,7 +7,7 @@ ghost use Rattle.hwdb_spec.specs.Reports.{hint_line};
 ghost use Rattle.hwdb_spec.specs.Warnings.{all_warnings, gets, line_kinds, line_warnings, warnings, warning_text, warning_place, warning_hint, warning_line, warning_report};
 ghost use Rattle.hwdb_text.specs.Views.{given_in};
 ghost use Rattle.hwdb_lint.specs.Internal.{IsKnown, IsPlain, IsRead, clean_of, line_of, number_text, own, read_line};
-ghost use Rattle.hwdb_lint.specs.Plain.{IsPlainFile, IsQuiet};
+ghost use Rattle.hwdb_lint.specs.Plain.{IsPlainFile, IsQuiet, IsTame};
 
 use crate::json_lines::{Finding, finding_line};
 use crate::judgements::{judgement_of, judgement_place, judgement_text, push_judgement_hint};
@@ -15,7 +15,7 @@ use crate::kinds::{Telling, is_told, warning_name};
 use crate::known::{Known, known_of, nothing_known};
 use crate::line_warnings::{Read, closed, is_warned, is_warned_at_all, kinds_of};
 use crate::misuses::{misuse_in, push_hint_of_misuse, push_unpaired_hint, push_unread_hint};
-use crate::plain_files::{is_plain, may_be_cut};
+use crate::plain_files::{is_plain, tame_after, tame_size};
 use hwdb_pattern::{open_place, range_place};
 use hwdb_properties::misuse_text;
 use hwdb_show::{push_mark_line, push_shown_line};
@@ -376,8 +376,8 @@ impl Warned {
         }
     }
 
-    /// As `put_line`, of a line that gets no warning unless a `#` cuts it.
-    fn put_quiet(
+    /// As `put_line`, of a line that gets no warning unless a `#` cuts it. So many of its first bytes are tame.
+    fn put_tame(
         &mut self,
         alloc: Global,
         telling: &Telling<'_>,
@@ -385,9 +385,11 @@ impl Warned {
         known: &Known<'_>,
         number: u64,
         text: &[u8],
+        tame: usize,
     ) -> Result<(), AllocError>
         requires known { IsKnown known.now }
         requires quiet { IsQuiet known.now.bytes.now (line_of number text.now) }
+        requires tame { IsTame 10 (take tame text.now) }
         ensures text { OnOk result (self.new.text.items ≡ self.old.text.items
             ++ line_text telling.now.json (map string_bytes telling.now.allowed.now) path.now
             known.now.bytes.now (line_of number text.now)) }
@@ -395,10 +397,10 @@ impl Warned {
             ++ line_warnings (map string_bytes telling.now.allowed.now) known.now.bytes.now
             (line_of number text.now)) }
     {
-        if may_be_cut(text) {
-            return self.put_line(alloc, telling, path, known, number, text);
+        if text.len() <= tame {
+            return Ok(());
         }
-        Ok(())
+        self.put_line(alloc, telling, path, known, number, text)
     }
 }
 
@@ -431,8 +433,8 @@ fn warnings_by_line(
     Ok(warned)
 }
 
-/// As `warnings_of`, of a plain file: only lines that a `#` may cut are looked at.
-#[tactic(auto, unfolding(hwdb_spec::specs::Lines::numbered))]
+/// As `warnings_of`, of a plain file: only lines with a `#` that no blank is before are looked at, and none after the last of
+/// these.
 fn cut_warnings(
     alloc: Global,
     telling: &Telling<'_>,
@@ -452,8 +454,17 @@ fn cut_warnings(
         found: Vec::new(alloc),
     };
     let mut number = 1;
-    for text in Lines::new(bytes) {
-        warned.put_quiet(alloc, telling, path, &known, number, text)?;
+    let mut at = 0;
+    let mut tame = tame_size(bytes);
+    while at < bytes.len() {
+        let rest = &bytes[at..];
+        if rest.len() <= tame {
+            return Ok(warned);
+        }
+        let end = end_of(b'\n', rest);
+        warned.put_tame(alloc, telling, path, &known, number, &rest[..end], tame)?;
+        tame = tame_after(rest, end, tame);
+        at = at + end + 1;
         number += 1;
     }
     Ok(warned)
