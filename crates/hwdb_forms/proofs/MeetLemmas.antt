@@ -220,6 +220,11 @@ found_is_met t set s =
     (λ h. let f : (b : ℕ) × IsTrue (is_in set b) × IsTrue (takes t b) = meets_out t set h in
     any_in (takes_of_set t set) (candidates set) f.0 (candidate set f.0 f.1) (both_true (is_in set f.0) (admits_byte t f.0) f.1 (takes_admits t f.0 s f.2)))
 
+pub byte_met : (t : Token) (set : ByteSet) (b : ℕ) (found : Bool) → found ≡ takes_of_set t set b → found ≡ true → true ≡ list_any (takes_of_set t set) (candidates set)
+byte_met t set b found e met =
+    let h : takes_of_set t set b ≡ true = sym e ∙ met in
+    sym (any_in (takes_of_set t set) (candidates set) b (candidate set b (both_first (is_in set b) (admits_byte t b) h)) h)
+
 pub met_by_token : (t u : Token) (set : ByteSet) → t ≡ u → meets u set ≡ meets t set
 met_by_token t u set e = ap (λ (x : Token). meets x set) (sym e)
 

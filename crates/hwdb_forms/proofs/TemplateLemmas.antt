@@ -1,15 +1,17 @@
 -- Templates: a byte for each byte of a text.
-use Rattle.std.proofs.Common.{◌≡◌, ℕ, ◌+◌, ◌<◌, ◌≤◌, ◌==◌, ◌++◌, Bool, true, false, List, [], ◌∷◌, refl, sym, ap, subst, ◌∙◌, arith, drop, eqb-true, get_or, length, map, suc, zero}
+use Rattle.std.proofs.Common.{◌≡◌, ℕ, ◌+◌, ◌<◌, ◌≤◌, ◌==◌, ◌++◌, Bool, true, false, List, [], ◌∷◌, refl, sym, ap, subst, ◌∙◌, arith, drop, eqb-true, get_or, length, map, nat_le, suc, zero, ◌||◌}
 use Rattle.std.proofs.Math.Seq.{drop-cons}
 use Rattle.std.proofs.lemmas.List.{drop_all}
+use Rattle.std.proofs.lemmas.Bool.{le-leb}
 use Rattle.std.specs.Prelude.{if◌then◌else◌}
 use Rattle.hwdb_spec.specs.declared.ByteSet.{ByteSet}
 use Rattle.hwdb_spec.specs.declared.ByteSet.TheVariants.{AnyHex, Only, UpperHex}
-use Rattle.hwdb_spec.specs.Patterns.{Token, star, tokens}
+use Rattle.hwdb_spec.specs.Patterns.{Token, in_span, tokens}
 use Rattle.hwdb_spec.specs.Forms.{Form, Piece, byte_row, counted, counted_row, end_row, field_row, fields_row, fixed, fixed_row, head, is_in, is_wild, many_row, pieces_row, repeated}
 use Rattle.hwdb_forms.specs.declared.leads.Passed.TheVariants.{Yes}
-use Rattle.hwdb_forms.specs.Internal.{AreFirstWays, GoesThroughField, GoesThroughWay, IsCut, IsFamily, LedTo, all_parts, copies, parts, passed_counted, set_of, unit_of, units}
+use Rattle.hwdb_forms.specs.Internal.{AreFirstWays, GoesThroughField, GoesThroughWay, IsCut, LedTo, all_parts, copies, parts, passed_counted, set_of, unit_of, units}
 use Rattle.hwdb_forms.proofs.LeadLemmas.{dropped, fields_family}
+use Rattle.hwdb_forms.proofs.MeetLemmas.{or_second}
 use Rattle.hwdb_forms.proofs.PlainLemmas.{FieldsTo, counted_goes, counted_step, field_first, led_on, led_to_first, led_whole, map_at, map_long, next_field}
 
 -- ---- a byte of a template
@@ -20,9 +22,14 @@ by_number A b n f g = by (b == n) f g
     by true f g = f refl
     by false f g = g refl
 
-own_set : (x y : Bool) (own : ℕ) → x ≡ true → (if x then UpperHex else (if y then AnyHex else Only own)) ≡ UpperHex
-own_set true y own e = refl
-own_set false y own e = cc
+-- a digit
+pub low_digit : (b : ℕ) → 48 ≤ b → b ≤ 57 → is_in UpperHex b ≡ true
+low_digit b h k = let low : nat_le 48 b ≡ true = le-leb 48 b h in let high : nat_le b 57 ≡ true = le-leb b 57 k in rw (low, high) refl
+
+pub high_digit : (b : ℕ) → 65 ≤ b → b ≤ 70 → is_in UpperHex b ≡ true
+high_digit b h k =
+    let low : nat_le 65 b ≡ true = le-leb 65 b h in let high : nat_le b 70 ≡ true = le-leb b 70 k in
+    or_second (in_span b (48, 57)) (in_span b (65, 70) || false) (rw (low, high) refl)
 
 -- a digit is no wildcard
 tame : (s o t : Bool) → s ≡ false → o ≡ false → t ≡ false → (if s then true else (if o then true else t)) ≡ false

@@ -2,6 +2,7 @@
 use Rattle.std.specs.Prelude.{ℕ, Bool, false, true, List, [], ◌∷◌, ◌++◌, IsTrue, ◌≡◌, ◌≤◌, ◌⊎◌, ◌==◌, if◌then◌else◌, drop, length, map, suc, zero}
 use Rattle.std.proofs.Common.{Bor}
 use Rattle.hwdb_spec.specs.FormTable.{asked}
+use Rattle.hwdb_spec.specs.Lines.{has}
 use Rattle.hwdb_spec.specs.Patterns.{Token, admits_byte, Matches, star, token_at, tokens}
 use Rattle.hwdb_spec.specs.Forms.{Piece, Form, fixed, counted, repeated, is_in, is_star}
 use Rattle.hwdb_spec.specs.Forms
@@ -115,6 +116,7 @@ AreEnough forms front = (byte : ℕ) → Forms.can_begin forms (tokens (front ++
 -- What is known of the beginning of a pattern: the forms that matter after it, and its tokens if no bracket is in it.
 pub record IsAfter (front : List ℕ) (f : Following) : Type 0 where
   pub enough : AreEnough (map form_of f.forms.items) front
+  pub unopened : f.is_plain ≡ true → has 91 front ≡ false
   pub plain : f.is_plain ≡ true → (byte : ℕ) → tokens (front ++ byte ∷ []) ≡ views f.tokens.items ++ token_at (byte ∷ []) ∷ []
 
 -- how many bytes a piece has, if each of its texts has as many

@@ -9,6 +9,7 @@ ghost use Rattle.hwdb_forms.specs.Internal.{AreEnough, IsAfter, IsAskedAfter, fo
 
 use crate::alike::alike_in_forms;
 use crate::beginnings::{free, free_prefixes};
+use crate::guesses::meets_one;
 use crate::judging::match_one;
 use crate::pieces::FormRow;
 use crate::plain::is_wild;
@@ -129,6 +130,29 @@ fn begins_with<'t>(
     Ok(met)
 }
 
+/// Whether it is seen byte by byte that a text of one of the forms begins with what the beginning of a pattern and the byte after it
+/// match.
+fn begins_at_once(
+    alloc: Global,
+    forms: &[FormRow],
+    front: &[u8],
+    byte: u8,
+) -> Result<bool, AllocError>
+    requires { has 91 front.now ≡ false }
+    ensures { IfOk result (λ seen. seen ≡ true
+        → Forms.can_begin (map form_of forms.now) (tokens (front.now ++ byte ∷ [])) ≡ true) }
+{
+    if byte == b'[' {
+        return Ok(false);
+    }
+    let mut text = Vec::with_capacity(alloc, ROOM)?;
+    text.extend_from_slice(front)?;
+    text.push(byte)?;
+    text.push(b'*')?;
+    let seen = meets_one(forms, &text);
+    Ok(seen)
+}
+
 /// Whether a text of one of the forms begins with what the beginning of a pattern and the byte after it match.
 fn begins_anew(alloc: Global, forms: &[FormRow], front: &[u8], byte: u8) -> Result<bool, AllocError>
     ensures { IfOk result (λ met. met
@@ -148,6 +172,10 @@ fn begins(alloc: Global, known: &Following<'_>, front: &[u8], byte: u8) -> Resul
     ensures { IfOk result (λ met. met ≡ Forms.can_begin asked (tokens (front.now ++ byte ∷ []))) }
 {
     if known.is_plain {
+        let seen = begins_at_once(alloc, &known.forms, front, byte)?;
+        if seen {
+            return Ok(true);
+        }
         let own = [byte];
         let met = begins_with(alloc, &known.forms, &known.tokens, &own)?;
         Ok(met)

@@ -24,11 +24,11 @@ pub(crate) fn begins_plainly(bytes: &[u8], text: &[u8]) -> bool
     ensures cut { result ≡ true → IsCut text.now (length bytes.now) }
     ensures within { result ≡ true → length bytes.now ≤ length text.now }
 {
+    if text.len() < bytes.len() {
+        return false;
+    }
     let mut at = 0;
     while at < bytes.len() {
-        if at >= text.len() {
-            return false;
-        }
         if text[at] != bytes[at] {
             return false;
         }

@@ -48,8 +48,8 @@ fn takes_of_set(text: &[u8], set: ByteSet, byte: u8) -> bool
     has(set, byte) && begins_with(text, byte)
 }
 
-/// Whether a bracket that begins the text takes a byte of the set.
-fn bracket_meets(text: &[u8], set: ByteSet) -> bool
+/// Whether a bracket that begins the text takes a byte of the set. All bytes are tried.
+fn bracket_takes(text: &[u8], set: ByteSet) -> bool
     ensures { result ≡ list_any (Internal.takes_of_set (token_at text.now) set) (candidates set) }
 {
     if let ByteSet::Only(own) = set {
@@ -63,6 +63,18 @@ fn bracket_meets(text: &[u8], set: ByteSet) -> bool
         byte += 1;
     }
     takes_of_set(text, set, byte)
+}
+
+/// As `bracket_takes`. The byte after the bracket is tried first, which most brackets take.
+fn bracket_meets(text: &[u8], set: ByteSet) -> bool
+    ensures { result ≡ list_any (Internal.takes_of_set (token_at text.now) set) (candidates set) }
+{
+    if text.len() > 1 {
+        if takes_of_set(text, set, text[1]) {
+            return true;
+        }
+    }
+    bracket_takes(text, set)
 }
 
 /// Whether the token that begins the text takes a byte of the set; a star does.

@@ -4,6 +4,7 @@ ghost use Rattle.std.specs.Prelude.{◌≡◌, ◌≤◌, IfSome, false, length,
 ghost use Rattle.hwdb_spec.specs.Patterns.{tokens};
 ghost use Rattle.hwdb_spec.specs.Forms.{is_in};
 ghost use Rattle.hwdb_spec.specs.Forms;
+ghost use Rattle.hwdb_spec.specs.declared.ByteSet.TheVariants.{UpperHex};
 ghost use Rattle.hwdb_forms.specs.Internal.{AreFirstWays, IsCut, IsThroughWay, LedTo, fields_of, form_of, set_of, units};
 
 use crate::pieces::{FormRow, Piece};
@@ -19,6 +20,21 @@ pub(crate) struct Template {
     pub(crate) ways: &'static [&'static [u8]],
 }
 
+/// Whether the byte is a digit from 0 to F. Most are below A.
+#[tactic(auto, using(crate::proofs::TemplateLemmas::low_digit, crate::proofs::TemplateLemmas::high_digit))]
+#[inline(always)]
+fn is_digit(byte: u8) -> bool
+    ensures { result ≡ true → is_in UpperHex byte ≡ true }
+{
+    if byte <= b'9' {
+        return byte >= b'0';
+    }
+    if byte < b'A' {
+        return false;
+    }
+    byte <= b'F'
+}
+
 /// Whether the byte stands for itself, and a template's byte is for it.
 #[inline(always)]
 fn is_for(own: u8, byte: u8) -> bool
@@ -26,7 +42,7 @@ fn is_for(own: u8, byte: u8) -> bool
     ensures plain { result ≡ true → Forms.is_wild byte ≡ false }
 {
     if own == b'X' {
-        return has(ByteSet::UpperHex, byte);
+        return is_digit(byte);
     }
     if own == b'Y' {
         return has(ByteSet::AnyHex, byte);

@@ -1,5 +1,5 @@
 -- What is counted of assignments, one after another: how many, and their files.
-use Rattle.std.proofs.Common.{◌≡◌, ◌≤◌, ◌<◌, ◌∙◌, ap, sym, refl, ℕ, ◌+◌, List, [], ◌∷◌, ◌++◌, map, length, arith, Bool, true, false, true≢false, cond, append_assoc, append-nil}
+use Rattle.std.proofs.Common.{IfSome, subst, ◌≡◌, ◌≤◌, ◌<◌, ◌∙◌, ap, sym, refl, ℕ, ◌+◌, List, [], ◌∷◌, ◌++◌, map, length, arith, Bool, true, false, true≢false, cond, append_assoc, append-nil}
 use Rattle.std.specs.Borrow.{Bor}
 use Rattle.std.specs.Prelude.{flat_map, if◌then◌else◌}
 use Rattle.std.specs.List.{dedup_from}
@@ -9,14 +9,17 @@ use Rattle.hwdb_spec.specs.Assignment.{Assignment, ascending, put, text_cmp}
 use Rattle.hwdb_spec.specs.Differences.{Change, are_some, change_text}
 use Rattle.hwdb_spec.specs.Differences.Change.{Came, Went, Changed}
 use Rattle.hwdb_spec.specs.Folders.{same}
-use Rattle.hwdb_spec.specs.Lemmas.Orders.{same_text, same_itself}
+use Rattle.hwdb_spec.specs.Lemmas.Orders.{same_itself}
 use Rattle.hwdb_spec.specs.Status.{Amount, State, amount_of, first_text, stale_by}
 use Rattle.hwdb_spec.specs.Summary.{different, summary_of}
 use Rattle.hwdb_spec.specs.Tree.{Tree, members_under}
 use Rattle.hwdb_text.specs.Lemmas.Ascending.{deduped, same_bytes}
-use Rattle.hwdb_inspect.specs.Internal.Counting.{first_kept}
+use Rattle.hwdb_reader.specs.Unread.{IsFrom, file_of, text_of}
+use Rattle.hwdb_reader.specs.declared.unread.UnreadEntry.{UnreadEntry}
+use Rattle.hwdb_inspect.specs.declared.inventory.Inventory.{Inventory}
+use Rattle.hwdb_inspect.specs.Internal.Counting.{IsHeldFrom, first_kept}
 use Rattle.hwdb_inspect.specs.Internal.Forms.{change_form}
-use Rattle.hwdb_inspect.specs.Internal.Meeting.{changes_by, member_of, new_by, old_by}
+use Rattle.hwdb_inspect.specs.Internal.Meeting.{changes_by, unread_of, new_by, old_by}
 use Rattle.hwdb_inspect.specs.declared.meeting.Side.{Side}
 use Rattle.hwdb_inspect.specs.declared.meeting.Side.TheVariants.{Old, New, Both}
 
@@ -34,10 +37,9 @@ again_after [] text rest = again text rest
 again_after (first ∷ before) text rest = ap (put text_cmp first) (again_after before text rest)
 
 -- a file that is the last one
-pub last_again : (before : List (List ℕ)) (last text : List ℕ) (rest : List (List ℕ)) → same text last ≡ true
+pub last_again : (before : List (List ℕ)) (last text : List ℕ) (rest : List (List ℕ)) → text ≡ last
     → different ((before ++ last ∷ []) ++ rest) ≡ different ((before ++ last ∷ []) ++ text ∷ rest)
-last_again before last text rest is =
-    let one : text ≡ last = same_text text last is in
+last_again before last text rest one =
     ap different (append_assoc before (last ∷ []) rest) ∙ sym (ap length (again_after before last rest))
     ∙ ap (λ (t : List ℕ). different (before ++ last ∷ t ∷ rest)) (sym one) ∙ sym (ap different (append_assoc before (last ∷ []) (text ∷ rest)))
 
@@ -46,10 +48,11 @@ pub first_file : (before : List (List ℕ)) (text : List ℕ) (rest : List (List
 first_file before text rest = append_assoc before (text ∷ []) rest ∙ ap (λ l. l ++ text ∷ rest) (sym (append-nil before))
 
 -- another file than the last one
-pub next_file : (old now : List (Bor (List ℕ))) (last : Bor (List ℕ)) (text : List ℕ) (rest : List (List ℕ)) → now ≡ old ++ last ∷ []
-    → (map (λ t. t.now) now ++ text ∷ []) ++ rest ≡ (map (λ t. t.now) old ++ last.now ∷ []) ++ text ∷ rest
-next_file old now last text rest is =
-    append_assoc (map (λ t. t.now) now) (text ∷ []) rest ∙ ap (λ l. l ++ text ∷ rest) (ap (map (λ t. t.now)) is ∙ map-append (λ t. t.now) old (last ∷ []))
+pub next_file : (old now : List (Bor (List ℕ))) (read : Bor (List ℕ)) (last text : List ℕ) (rest : List (List ℕ)) → read.now ≡ last → now ≡ old ++ read ∷ []
+    → (map (λ t. t.now) now ++ text ∷ []) ++ rest ≡ (map (λ t. t.now) old ++ last ∷ []) ++ text ∷ rest
+next_file old now read last text rest one is =
+    append_assoc (map (λ t. t.now) now) (text ∷ []) rest
+    ∙ ap (λ l. l ++ text ∷ rest) (ap (map (λ t. t.now)) is ∙ map-append (λ t. t.now) old (read ∷ []) ∙ ap (λ t. map (λ b. b.now) old ++ t ∷ []) one)
 
 -- ---- a step
 
@@ -93,9 +96,9 @@ one_if false change h = (change, refl)
 
 -- there is one change, if there is any
 pub one_changed : (p q : List ℕ) (side : Side) → are_some (changes_by p q side) ≡ true → (c : Change) × (changes_by p q side ≡ c ∷ [])
-one_changed p q (Old x) h = (Went (member_of p x), refl)
-one_changed p q (New y) h = (Came (member_of q y), refl)
-one_changed p q (Both x y) h = one_if (same x.value.now y.value.now) (Changed (member_of p x) (member_of q y)) h
+one_changed p q (Old x) h = (Went (unread_of p x), refl)
+one_changed p q (New y) h = (Came (unread_of q y), refl)
+one_changed p q (Both x y) h = one_if (same (text_of x.value) (text_of y.value)) (Changed (unread_of p x) (unread_of q y)) h
 
 few_if : (b : Bool) (change : Change) → length (if b then [] else change ∷ []) ≤ 1
 few_if true change = omega arith
@@ -104,7 +107,7 @@ few_if false change = omega arith
 few_changed : (p q : List ℕ) (side : Side) → length (changes_by p q side) ≤ length (old_by p side) + length (new_by q side)
 few_changed p q (Old x) = omega arith
 few_changed p q (New y) = omega arith
-few_changed p q (Both x y) = let few = few_if (same x.value.now y.value.now) (Changed (member_of p x) (member_of q y)) in omega (arith, few)
+few_changed p q (Both x y) = let few = few_if (same (text_of x.value) (text_of y.value)) (Changed (unread_of p x) (unread_of q y)) in omega (arith, few)
 
 pub kept_none : (kept : List ℕ) (cs : List Change) → cs ≡ [] → kept ≡ first_kept kept cs
 kept_none [] cs is = sym (ap first_text is)
@@ -163,3 +166,11 @@ fits_one count left all limit is some few = omega (arith, is, some, few)
 
 pub fits_first : (x y limit : ℕ) → x + y < limit → x < limit
 fits_first x y limit few = omega (arith, few)
+
+-- ---- the file of what was counted last
+
+pub held_before : (f : List ℕ) (h : Inventory) (x : UnreadEntry) → IsHeldFrom f h → IsFrom f x → IfSome h.last (λ t. file_of t ≡ file_of x.path)
+held_before f h x held from = subst (λ (g : List ℕ). IsHeldFrom g h) (sym from.path) held
+
+pub held_after : (f : List ℕ) (h : Inventory) (x : UnreadEntry) → IfSome h.last (λ t. file_of t ≡ file_of x.path) → IsFrom f x → IsHeldFrom f h
+held_after f h x held from = subst (λ (g : List ℕ). IsHeldFrom g h) from.path held

@@ -1,22 +1,24 @@
 -- Two databases that are walked side by side.
-use Rattle.std.proofs.Common.{◌≡◌, ◌∙◌, ap, sym, refl, subst, ℕ, suc, ◌+◌, ◌≤◌, List, [], ◌∷◌, ◌++◌, drop, reverse, Option, None, Some, true, is_some, append_assoc, add-one, option_map, slice_get, IfNone, arith, length}
+use Rattle.std.proofs.Common.{◌≡◌, ◌∙◌, ap, sym, refl, subst, ℕ, suc, ◌+◌, ◌≤◌, List, [], ◌∷◌, ◌++◌, drop, reverse, Option, None, Some, Bool, true, false, is_some, ◌==◌, append_assoc, add-one, option_map, slice_get, IfNone, arith, length}
+use Rattle.std.specs.Prelude.{if◌then◌else◌}
 use Rattle.std.specs.Ordering.{match_ordering}
 use Rattle.std.specs.declared.cmp.Ordering.{Ordering}
 use Rattle.std.specs.declared.cmp.Ordering.TheVariants.{Less, Equal, Greater}
 use Rattle.hwdb_spec.specs.Assignment.{Assignment}
 use Rattle.hwdb_spec.specs.Differences.{change_between}
 use Rattle.hwdb_spec.specs.Differences.Change.{Came, Went}
-use Rattle.hwdb_spec.specs.Tree.{Tree, Value, values_of}
-use Rattle.hwdb_reader.specs.Views.{Shown, entered_tree, shown}
+use Rattle.hwdb_spec.specs.Tree.{Tree, Value, key_of, values_of}
+use Rattle.hwdb_reader.specs.Views.{entered_tree, shown}
 use Rattle.hwdb_reader.specs.declared.view.Inside.{Inside}
-use Rattle.hwdb_query.specs.Internal.Members.{one_assignment, own_members}
+use Rattle.hwdb_query.specs.Internal.Members.{own_members}
 use Rattle.hwdb_inspect.proofs.PartLemmas.{own_next, shown_some}
 use Rattle.hwdb_inspect.specs.Internal.Merging.{by_place, merged, merged_from}
-use Rattle.hwdb_inspect.specs.Internal.Meeting.{IsMet, IsNext, IsUnderWay, after_next, head_of, left_of, member_of, old_by, unlooked}
+use Rattle.hwdb_inspect.specs.Internal.Meeting.{IsMet, IsNext, IsUnderWay, after_next, head_of, left_of, unread_of, old_by, unlooked}
 use Rattle.hwdb_inspect.specs.Internal.Walks.{own_of, rest_of, to_come}
 use Rattle.hwdb_inspect.specs.declared.meeting.Side.{Side}
 use Rattle.hwdb_inspect.specs.declared.meeting.Side.TheVariants.{Old, New, Both}
-use Rattle.hwdb_inspect.specs.declared.members.Member.{Member}
+use Rattle.hwdb_reader.specs.Unread.{text_of, value_in}
+use Rattle.hwdb_reader.specs.declared.unread.UnreadEntry.{UnreadEntry}
 use Rattle.hwdb_inspect.specs.declared.members.Members.{Members}
 use Rattle.hwdb_inspect.specs.declared.walk.OpenVisit.{OpenVisit}
 use Rattle.hwdb_inspect.specs.declared.walk.Walk.{Walk}
@@ -28,20 +30,39 @@ pub none_looked : (path : List ℕ) (at : Option Inside) → unlooked 0 path at 
 none_looked path None = refl
 none_looked path (Some inside) = refl
 
-pub some_next : (o : Option Member) (P : Type 0) → true ≡ is_some o → IfNone o P
+pub some_next : (o : Option UnreadEntry) (P : Type 0) → true ≡ is_some o → IfNone o P
 some_next None P h = cc
 some_next (Some m) P h = tt
 
+keyed : (c : ℕ) (k : List ℕ) (b : Bool) → true ≡ is_some (if b then Some k else None) → (if b then Some k else None) ≡ Some k
+keyed c k true h = refl
+keyed c k false h = absurd (cc)
+
+-- a stored key that begins with a space, and one that doesn't
+has_key : (t : List ℕ) → true ≡ is_some (key_of t) → key_of t ≡ Some (drop 1 t)
+has_key [] h = absurd (cc)
+has_key (c ∷ k) h = keyed c k (c == 32) h
+
+unkeyed : (k : List ℕ) (b : Bool) → false ≡ is_some (if b then Some k else None) → (if b then Some k else None) ≡ None
+unkeyed k true h = absurd (cc)
+unkeyed k false h = refl
+
+pub no_key : (t : List ℕ) → false ≡ is_some (key_of t) → key_of t ≡ None
+no_key [] h = refl
+no_key (c ∷ k) h = unkeyed k (c == 32) h
+
 -- a value of the node is the next one
-pub found_here : (walk mine : Walk) (m : Member) (s : Shown) (values : List Value) (i looked : ℕ) → walk ≡ mine → s.key ≡ Some m.key.now
-    → one_assignment mine.path.items s (Some m.key.now) ≡ member_of mine.path.items m ∷ [] → option_map shown (slice_get values i) ≡ Some s
+pub found_here : (walk mine : Walk) (e : UnreadEntry) (values : List Value) (i looked : ℕ) → walk ≡ mine → true ≡ is_some (key_of (text_of e.key))
+    → slice_get values i ≡ Some (value_in e)
     → own_members mine.path.items (drop i values) ≡ own_members mine.path.items (drop looked values)
-    → member_of walk.path.items m ∷ own_members walk.path.items (drop (i + 1) values) ≡ own_members mine.path.items (drop looked values)
-found_here walk mine m s values i looked same key one at rest =
+    → unread_of walk.path.items e ∷ own_members walk.path.items (drop (i + 1) values) ≡ own_members mine.path.items (drop looked values)
+found_here walk mine e values i looked same key at rest =
     let p = mine.path.items in
-    ap (λ (w : Walk). member_of w.path.items m ∷ own_members w.path.items (drop (i + 1) values)) same
-    ∙ ap (λ n. member_of p m ∷ own_members p (drop n values)) (add-one i)
-    ∙ ap (λ r. r ++ own_members p (drop (suc i) values)) (sym (shown_some p m.key.now s key ∙ one)) ∙ sym (own_next p values i s at) ∙ rest
+    let s = shown (value_in e) in
+    ap (λ (w : Walk). unread_of w.path.items e ∷ own_members w.path.items (drop (i + 1) values)) same
+    ∙ ap (λ n. unread_of p e ∷ own_members p (drop n values)) (add-one i)
+    ∙ ap (λ r. r ++ own_members p (drop (suc i) values)) (sym (shown_some p (drop 1 (text_of e.key)) s (has_key (text_of e.key) key)))
+    ∙ sym (own_next p values i s (ap (option_map shown) at)) ∙ rest
 
 -- the next one was found at the node that the walk is at
 pub found_next : (old now : Members) (inside : Inside) → now.walk ≡ old.walk → old.walk.at ≡ Some inside
@@ -67,20 +88,20 @@ next_node old walk now inside same at none rest =
     ∙ ap (λ l. l ++ rest_of old.walk) (sym none)
     ∙ ap (λ (o : Option Inside). unlooked old.looked old.walk.path.items o ++ rest_of old.walk) (sym at)
 
-pub next_is : (m : Members) (x : Member) → m.next ≡ Some x → left_of m ≡ member_of m.walk.path.items x ∷ after_next m
-next_is m x is = ap (λ (n : Option Member). head_of m.walk.path.items n ++ after_next m) is
+pub next_is : (m : Members) (x : UnreadEntry) → m.next ≡ Some x → left_of m ≡ unread_of m.walk.path.items x ∷ after_next m
+next_is m x is = ap (λ (n : Option UnreadEntry). head_of m.walk.path.items n ++ after_next m) is
 
 -- the next one was passed over
-pub passed : (old now : Members) (x : Member) → old.next ≡ Some x → left_of now ≡ after_next old → left_of old ≡ member_of old.walk.path.items x ∷ left_of now
+pub passed : (old now : Members) (x : UnreadEntry) → old.next ≡ Some x → left_of now ≡ after_next old → left_of old ≡ unread_of old.walk.path.items x ∷ left_of now
 passed old now x is left =
-    next_is old x is ∙ ap (λ r. member_of old.walk.path.items x ∷ r) (sym left)
+    next_is old x is ∙ ap (λ r. unread_of old.walk.path.items x ∷ r) (sym left)
 
 -- none is left
 pub none_left : (m : Members) (t : Tree) → IsUnderWay t m → IfNone m.next (m.walk.at ≡ None) → m.next ≡ None → left_of m ≡ []
 none_left m t way end next =
-    let at : m.walk.at ≡ None = subst (λ (o : Option Member). IfNone o (m.walk.at ≡ None)) next end in
+    let at : m.walk.at ≡ None = subst (λ (o : Option UnreadEntry). IfNone o (m.walk.at ≡ None)) next end in
     let empty : m.walk.stack.items ≡ [] = subst (λ (o : Option Inside). IfNone o (m.walk.stack.items ≡ [])) at way.end in
-    ap (λ (g : Option Member × Option Inside × List OpenVisit).
+    ap (λ (g : Option UnreadEntry × Option Inside × List OpenVisit).
     head_of m.walk.path.items g.0 ++ (unlooked m.looked m.walk.path.items g.1 ++ to_come m.walk.path.items (reverse g.2)))
     (λ i. (next i, at i, empty i))
 
@@ -119,31 +140,31 @@ module _ (old new xs ys : List Assignment) (x y : Assignment) (o : old ≡ x ∷
 
 -- ---- the least of what is left of two databases
 
-module _ (old new : Members) (x y : Member) where
-  pub met_old : new.next ≡ Some y → by_place (member_of old.walk.path.items x) (member_of new.walk.path.items y) ≡ Less → IsMet old new (Old x)
+module _ (old new : Members) (x y : UnreadEntry) where
+  pub met_old : new.next ≡ Some y → by_place (unread_of old.walk.path.items x) (unread_of new.walk.path.items y) ≡ Less → IsMet old new (Old x)
   met_old is e xs ys o n =
-      less_met (left_of old) (left_of new) xs (after_next new) (member_of old.walk.path.items x) (member_of new.walk.path.items y) o (next_is new y is) e
-      ∙ ap (λ l. Went (member_of old.walk.path.items x) ∷ merged xs l) n
+      less_met (left_of old) (left_of new) xs (after_next new) (unread_of old.walk.path.items x) (unread_of new.walk.path.items y) o (next_is new y is) e
+      ∙ ap (λ l. Went (unread_of old.walk.path.items x) ∷ merged xs l) n
 
-  pub met_both : by_place (member_of old.walk.path.items x) (member_of new.walk.path.items y) ≡ Equal → IsMet old new (Both x y)
-  met_both e xs ys o n = equal_met (left_of old) (left_of new) xs ys (member_of old.walk.path.items x) (member_of new.walk.path.items y) o n e
+  pub met_both : by_place (unread_of old.walk.path.items x) (unread_of new.walk.path.items y) ≡ Equal → IsMet old new (Both x y)
+  met_both e xs ys o n = equal_met (left_of old) (left_of new) xs ys (unread_of old.walk.path.items x) (unread_of new.walk.path.items y) o n e
 
-  pub met_new : old.next ≡ Some x → by_place (member_of old.walk.path.items x) (member_of new.walk.path.items y) ≡ Greater → IsMet old new (New y)
+  pub met_new : old.next ≡ Some x → by_place (unread_of old.walk.path.items x) (unread_of new.walk.path.items y) ≡ Greater → IsMet old new (New y)
   met_new is e xs ys o n =
-      greater_met (left_of old) (left_of new) (after_next old) ys (member_of old.walk.path.items x) (member_of new.walk.path.items y) (next_is old x is) n e
-      ∙ ap (λ l. Came (member_of new.walk.path.items y) ∷ merged l ys) o
+      greater_met (left_of old) (left_of new) (after_next old) ys (unread_of old.walk.path.items x) (unread_of new.walk.path.items y) (next_is old x is) n e
+      ∙ ap (λ l. Came (unread_of new.walk.path.items y) ∷ merged l ys) o
 
-pub alone_old : (old new : Members) (x : Member) → left_of new ≡ [] → IsMet old new (Old x)
+pub alone_old : (old new : Members) (x : UnreadEntry) → left_of new ≡ [] → IsMet old new (Old x)
 alone_old old new x none xs ys o n =
-    old_met (left_of old) (left_of new) xs (member_of old.walk.path.items x) o none ∙ ap (λ l. Went (member_of old.walk.path.items x) ∷ merged xs l) n
+    old_met (left_of old) (left_of new) xs (unread_of old.walk.path.items x) o none ∙ ap (λ l. Went (unread_of old.walk.path.items x) ∷ merged xs l) n
 
-pub alone_new : (old new : Members) (y : Member) → left_of old ≡ [] → IsMet old new (New y)
+pub alone_new : (old new : Members) (y : UnreadEntry) → left_of old ≡ [] → IsMet old new (New y)
 alone_new old new y none xs ys o n =
-    new_met (left_of old) (left_of new) ys (member_of new.walk.path.items y) none n ∙ ap (λ l. Came (member_of new.walk.path.items y) ∷ merged l ys) o
+    new_met (left_of old) (left_of new) ys (unread_of new.walk.path.items y) none n ∙ ap (λ l. Came (unread_of new.walk.path.items y) ∷ merged l ys) o
 
 -- ---- one of them is left at least
 
-one_left : (m : Members) (x : Member) → m.next ≡ Some x → 1 ≤ length (left_of m)
+one_left : (m : Members) (x : UnreadEntry) → m.next ≡ Some x → 1 ≤ length (left_of m)
 one_left m x is = let size = ap length (next_is m x is) in omega (arith, size)
 
 pub next_old : (old new : Members) (side : Side) (p : List ℕ) → IsNext old new side → length (old_by p side) ≤ length (left_of old)

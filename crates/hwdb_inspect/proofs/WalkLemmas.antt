@@ -1,5 +1,5 @@
 -- The stack of a walk, and what its steps do to it.
-use Rattle.std.proofs.Common.{◌≡◌, ◌∙◌, ap, refl, sym, subst, ℕ, zero, suc, ◌+◌, ◌-◌, ◌≤◌, ◌<◌, List, [], ◌∷◌, ◌++◌, take, drop, reverse, length, arith, append_assoc, add-one, Option, None, Some, IfNone, IsSomeAnd, get_or, slice_get, slice_set, inl, inr}
+use Rattle.std.proofs.Common.{◌≡◌, ◌∙◌, ap, refl, sym, subst, ℕ, zero, suc, ◌+◌, ◌-◌, ◌≤◌, ◌<◌, List, [], ◌∷◌, ◌++◌, take, drop, reverse, length, arith, append_assoc, add-one, Option, None, Some, false, is_some, IfNone, IsSomeAnd, get_or, slice_get, slice_set, inl, inr}
 use Rattle.std.proofs.lemmas.List.{length-take-le, length-append}
 use Rattle.std.proofs.Math.Seq.{take-length}
 use Rattle.hwdb_spec.specs.Tree.{Tree, prefix_of, values_of, members_under}
@@ -52,6 +52,11 @@ taken_off items rest i n o h e is =
 pub own_entered : (path : List ℕ) (at : Option Inside) (t : Tree) → IsSomeAnd at (λ i. entered_tree i ≡ t) → own_of path at ≡ own_members path (values_of t)
 own_entered path None t h = absurd h
 own_entered path (Some i) t h = ap (λ u. own_members path (values_of u)) h
+
+-- it is at none
+pub at_none : (at : Option Inside) → is_some at ≡ false → at ≡ None
+at_none None h = refl
+at_none (Some i) h = absurd (cc)
 
 -- it is at one
 pub not_none : (at : Option Inside) (t : Tree) (P : Type 0) → IsSomeAnd at (λ i. entered_tree i ≡ t) → IfNone at P

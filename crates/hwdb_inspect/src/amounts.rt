@@ -45,8 +45,8 @@ pub(crate) fn amount_in(alloc: Global, bytes: usize, db: &Db<'_>) -> Result<Amou
 {
     let mut members = Members::start(alloc, db)?;
     let mut held = Inventory::new(alloc);
-    'members: while let Some(member) = members.next {
-        held.add(member.path)?;
+    'members: while let Some(entry) = members.next {
+        held.add(entry.path)?;
         members.pass()?;
     }
     held.amount(bytes)

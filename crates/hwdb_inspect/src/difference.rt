@@ -67,7 +67,7 @@ fn changes_between(
         (λ changes. changes.text.items ≡ comparison_text json None old.now new.now) }
     ensures differ { IfOk result (λ changes. changes.differ ≡ has_changed None old.now new.now) }
 {
-    changes_met(alloc, json, old, new)
+    changes_met(alloc, json, old.root(), new.root())
 }
 
 /// Adds what changed for a device, as text or JSON, and answers whether something did.

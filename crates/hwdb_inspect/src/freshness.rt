@@ -7,16 +7,18 @@ ghost use Rattle.hwdb_spec.specs.Written.{IsDatabaseOf};
 ghost use Rattle.hwdb_spec.specs.Status;
 ghost use Rattle.hwdb_spec.specs.Status.{IsAmount, IsState, IsStateOf, stale_by};
 ghost use Rattle.hwdb_spec.specs.Summary.{different, summary_of};
+ghost use Rattle.hwdb_reader.specs.Unread.{new_file, old_file};
+ghost use Rattle.hwdb_reader.specs.Views.{tree_of};
 ghost use Rattle.hwdb_inspect.specs.Views.{amount_shown, state_shown};
-ghost use Rattle.hwdb_inspect.specs.Internal.Counting.{files_in, first_kept};
-ghost use Rattle.hwdb_inspect.specs.Internal.Meeting.{changes_at, old_by};
+ghost use Rattle.hwdb_inspect.specs.Internal.Counting.{IsHeldFrom, files_in, first_kept};
+ghost use Rattle.hwdb_inspect.specs.Internal.Meeting.{AreFrom, changes_at, old_by};
 
 use crate::amounts::{Amount, amount_in, amount_of};
 use crate::inventory::Inventory;
 use crate::meeting::{Side, is_change, least, pass_over, tell};
 use crate::members::Members;
 use crate::texts::is_same;
-use hwdb_reader::{Db, check, law_ascending, law_one_tree};
+use hwdb_reader::{Db, Node, Twins, check, law_ascending, law_one_tree};
 use std::alloc::{AllocError, Global};
 
 /// The state of the database that is asked.
@@ -58,22 +60,24 @@ impl ChangeCount {
     fn count<'a, 'b>(
         &mut self,
         alloc: Global,
+        twins: &Twins<'_, '_>,
         old: &Members<'a>,
         new: &Members<'b>,
         side: Side<'a, 'b>,
     ) -> Result<(), AllocError>
-        requires { self.old.changes + 1 < 2 ^ 64 }
+        requires few { self.old.changes + 1 < 2 ^ 64 }
+        requires files { AreFrom (old_file twins.now) (new_file twins.now) side }
         ensures changes { OnOk result
             (self.new.changes ≡ self.old.changes + length (changes_at old.now new.now side.entry)) }
         ensures first { OnOk result (self.new.first.items
             ≡ first_kept self.old.first.items (changes_at old.now new.now side.entry)) }
     {
-        if !is_change(side) {
+        if !is_change(twins, side) {
             return Ok(());
         }
         self.changes += 1;
         if self.first.is_empty() {
-            tell(alloc, false, &mut self.first, old, new, side)?;
+            tell(alloc, twins, false, &mut self.first, old, new, side)?;
         }
         Ok(())
     }
@@ -81,12 +85,15 @@ impl ChangeCount {
 
 /// Counts the old database's assignment on a side, if it has one there.
 fn count_old<'a>(held: &mut Inventory<'a>, side: Side<'a, '_>) -> Result<(), AllocError>
-    requires { held.old.assignments + length (old_by [] side) < 2 ^ 64 }
+    requires few { held.old.assignments + length (old_by [] side) < 2 ^ 64 }
+    requires last { (f : List ℕ) × (g : List ℕ) × IsHeldFrom f held.old × AreFrom f g side }
     ensures files { OnOk result ((p : List ℕ) (rest : List (List ℕ))
         → different (files_in held.new ++ rest) ≡ different
         (files_in held.old ++ (map (λ f. f.path) (old_by p side.entry) ++ rest))) }
     ensures assignments { OnOk result ((p : List ℕ) → held.new.assignments
         ≡ held.old.assignments + length (old_by p side.entry)) }
+    ensures last { OnOk result ((f g : List ℕ)
+        → IsHeldFrom f held.old → AreFrom f g side.entry → IsHeldFrom f held.new) }
 {
     match side {
         Side::Old(x) => held.add(x.path),
@@ -95,25 +102,27 @@ fn count_old<'a>(held: &mut Inventory<'a>, side: Side<'a, '_>) -> Result<(), All
     }
 }
 
-/// How a database of so many bytes is beside another one. Both are walked side by side.
-fn compared(alloc: Global, size: usize, old: &Db<'_>, new: &Db<'_>) -> Result<Standing, AllocError>
-    requires old { IsTree old.now }
-    requires new { IsTree new.now }
-    requires few { length (members_under [] old.now) + length (members_under [] new.now) < 2 ^ 64 }
-    ensures state { IfOk result (λ s. state_shown s.state
-        ≡ stale_by (differences (map_of old.now) (map_of new.now))) }
+/// How a database of so many bytes is beside another one. Both are walked side by side, from their roots on.
+fn walked(alloc: Global, size: usize, old: Node<'_>, new: Node<'_>) -> Result<Standing, AllocError>
+    requires old { IsTree (tree_of old) }
+    requires new { IsTree (tree_of new) }
+    requires few { length (members_under [] (tree_of old))
+        + length (members_under [] (tree_of new)) < 2 ^ 64 }
+    ensures state { IfOk result (λ s. state_shown s.state ≡ stale_by
+        (differences (map_of (tree_of old.entry)) (map_of (tree_of new.entry)))) }
     ensures holds { IfOk result (λ s. option_map amount_shown s.holds
-        ≡ Some (Status.amount_of (summary_of size old.now))) }
+        ≡ Some (Status.amount_of (summary_of size (tree_of old.entry)))) }
 {
-    let mut before = Members::start(alloc, old)?;
-    let mut after = Members::start(alloc, new)?;
+    let twins = Twins::new(alloc, old, new)?;
+    let mut before = Members::start_at(alloc, old)?;
+    let mut after = Members::start_at(alloc, new)?;
     let mut held = Inventory::new(alloc);
     let mut tally = ChangeCount {
         changes: 0,
         first: Vec::new(alloc),
     };
-    'pairs: while let Some(side) = least(&before, &after) {
-        tally.count(alloc, &before, &after, side)?;
+    'pairs: while let Some(side) = least(&twins, &before, &after) {
+        tally.count(alloc, &twins, &before, &after, side)?;
         count_old(&mut held, side)?;
         pass_over(side, &mut before, &mut after)?;
     }
@@ -123,6 +132,19 @@ fn compared(alloc: Global, size: usize, old: &Db<'_>, new: &Db<'_>) -> Result<St
         state: State::Stale { changes, first },
         holds: Some(amount),
     })
+}
+
+/// How a database of so many bytes is beside another one.
+fn compared(alloc: Global, size: usize, old: &Db<'_>, new: &Db<'_>) -> Result<Standing, AllocError>
+    requires old { IsTree old.now }
+    requires new { IsTree new.now }
+    requires few { length (members_under [] old.now) + length (members_under [] new.now) < 2 ^ 64 }
+    ensures state { IfOk result (λ s. state_shown s.state
+        ≡ stale_by (differences (map_of old.now) (map_of new.now))) }
+    ensures holds { IfOk result (λ s. option_map amount_shown s.holds
+        ≡ Some (Status.amount_of (summary_of size old.now))) }
+{
+    walked(alloc, size, old.root(), new.root())
 }
 
 /// How a database of so many bytes is beside the bytes of another one.

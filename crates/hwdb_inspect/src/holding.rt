@@ -7,7 +7,7 @@ ghost use Rattle.hwdb_inspect.specs.Internal.Holding.{AllWithin, all_held, held_
 ghost use Rattle.hwdb_inspect.specs.Internal.Merging;
 ghost use Rattle.hwdb_inspect.specs.Internal.Meeting.{member_of};
 
-use crate::members::{Member, Members};
+use crate::members::{Member, Members, read};
 use crate::records::Shown;
 use hwdb_reader::Db;
 use std::alloc::{AllocError, Global};
@@ -84,8 +84,8 @@ pub(crate) fn keep<'a>(alloc: Global, db: &Db<'a>) -> Result<Kept<'a>, AllocErro
 {
     let mut members = Members::start(alloc, db)?;
     let mut kept = Kept::new(alloc);
-    'members: while let Some(member) = members.next {
-        kept.push(members.pattern(), member)?;
+    'members: while let Some(entry) = members.next {
+        kept.push(members.pattern(), read(&entry))?;
         members.pass()?;
     }
     Ok(kept)

@@ -62,8 +62,8 @@ fn said_records(
 /// It is an error if the record of an assignment, read as a file, doesn't say that assignment alone. The error has the
 /// first one's pattern.
 ///
-/// The memory is all assignments, and the text. The time is that of sorting the assignments and of reading their
-/// records.
+/// The memory is all assignments with their patterns, and the text. The time is that of sorting the assignments, and of some
+/// searches of each record. A record that these don't show to say its assignment is read as a file.
 pub fn dump(alloc: Global, bytes: &[u8]) -> Result<Vec<u8>, DumpError>
     ensures text { IfOk result (λ text. IsTextOf dump_text bytes.now text.items) }
     ensures sayable { OnOk result (IsSayable bytes.now) }

@@ -1,17 +1,20 @@
 //! What changed from one database to another: both are walked side by side, and neither's assignments are held.
-ghost use Rattle.std.specs.Prelude.{◌≡◌, ◌<◌, ◌+◌, ◌++◌, ◌∷◌, [], ℕ, List, true, None, Some, flat_map, length, IfNone, IfOk, IfSome, OnOk};
+ghost use Rattle.std.specs.Prelude.{◌≡◌, ◌<◌, ◌+◌, ◌++◌, ◌∷◌, [], ℕ, List, true, None, Some, drop, flat_map, length, IfNone, IfOk, IfSome, OnOk};
+ghost use Rattle.hwdb_spec.specs.Assignment.{text_cmp};
 ghost use Rattle.hwdb_spec.specs.Differences.{are_some, change_between};
 ghost use Rattle.hwdb_spec.specs.Differences.Change.{Came, Went};
 ghost use Rattle.hwdb_spec.specs.Tree.{Tree, members_under};
+ghost use Rattle.hwdb_reader.specs.Unread.{IsFrom, new_file, old_file, text_of};
+ghost use Rattle.hwdb_reader.specs.Views.{tree_of};
 ghost use Rattle.hwdb_inspect.specs.Internal.Forms.{change_form};
 ghost use Rattle.hwdb_inspect.specs.Internal.Merging.{by_place, merged};
-ghost use Rattle.hwdb_inspect.specs.Internal.Meeting.{IsMet, IsNext, IsUnderWay, changes_at, changes_by, left_of, member_of, new_at, old_at, to_meet};
+ghost use Rattle.hwdb_inspect.specs.Internal.Meeting.{AreFrom, AreOf, IsMet, IsNext, IsUnderWay, changes_at, changes_by, left_of, unread_of, new_at, old_at, to_meet};
 
 use crate::difference::{Changes, push_form};
-use crate::members::{Member, Members};
+use crate::members::{Members, key_of};
 use crate::pairs::Pair;
 use crate::texts::is_same;
-use hwdb_reader::Db;
+use hwdb_reader::{Node, Twins, UnreadEntry};
 use std::alloc::{AllocError, Global};
 use std::cmp::Ordering;
 
@@ -19,20 +22,50 @@ use std::cmp::Ordering;
 #[derive(Clone, Copy)]
 pub(crate) enum Side<'a, 'b> {
     /// The old database's alone.
-    Old(Member<'a>),
+    Old(UnreadEntry<'a>),
     /// The new one's alone.
-    New(Member<'b>),
+    New(UnreadEntry<'b>),
     /// That of both.
-    Both(Member<'a>, Member<'b>),
+    Both(UnreadEntry<'a>, UnreadEntry<'b>),
+}
+
+/// Compares two texts. Most are one.
+fn compare_texts(one: &[u8], other: &[u8]) -> Ordering
+    ensures { result ≡ text_cmp one.now other.now }
+{
+    if is_same(one, other) {
+        return Ordering::Equal;
+    }
+    one.cmp(other)
+}
+
+/// Compares the keys of two next assignments.
+fn compare_keys(twins: &Twins<'_, '_>, x: &UnreadEntry<'_>, y: &UnreadEntry<'_>) -> Ordering
+    requires old { IsFrom (old_file twins.now) x.now }
+    requires new { IsFrom (new_file twins.now) y.now }
+    ensures { result ≡ text_cmp (drop 1 (text_of x.now.key)) (drop 1 (text_of y.now.key)) }
+{
+    if twins.are_same(x.key, y.key) {
+        return Ordering::Equal;
+    }
+    compare_texts(key_of(x), key_of(y))
 }
 
 /// Compares two next assignments by pattern and then by key.
-fn compare(old: &Members<'_>, x: Member<'_>, new: &Members<'_>, y: Member<'_>) -> Ordering
-    ensures { result ≡ by_place (member_of old.now.walk.path.items x.entry)
-        (member_of new.now.walk.path.items y.entry) }
+fn compare(
+    twins: &Twins<'_, '_>,
+    old: &Members<'_>,
+    x: &UnreadEntry<'_>,
+    new: &Members<'_>,
+    y: &UnreadEntry<'_>,
+) -> Ordering
+    requires old { IsFrom (old_file twins.now) x.now }
+    requires new { IsFrom (new_file twins.now) y.now }
+    ensures { result ≡ by_place (unread_of old.now.walk.path.items x.now)
+        (unread_of new.now.walk.path.items y.now) }
 {
-    match old.pattern().cmp(new.pattern()) {
-        Ordering::Equal => x.key.cmp(y.key),
+    match compare_texts(old.pattern(), new.pattern()) {
+        Ordering::Equal => compare_keys(twins, x, y),
         other => other,
     }
 }
@@ -43,13 +76,13 @@ fn tell_old(
     json: bool,
     text: &mut Vec<u8>,
     old: &Members<'_>,
-    x: Member<'_>,
+    x: UnreadEntry<'_>,
 ) -> Result<bool, AllocError>
     ensures text { OnOk result (text.new.items ≡ text.old.items
-        ++ flat_map (change_form json) (Went (member_of old.now.walk.path.items x.entry) ∷ [])) }
+        ++ flat_map (change_form json) (Went (unread_of old.now.walk.path.items x.entry) ∷ [])) }
     ensures some { IfOk result (λ differs. differs ≡ true) }
 {
-    let made = old.copied(alloc, x)?;
+    let made = old.copied(alloc, &x)?;
     push_form(alloc, json, text, Pair::Old(&made))
 }
 
@@ -59,58 +92,64 @@ fn tell_new(
     json: bool,
     text: &mut Vec<u8>,
     new: &Members<'_>,
-    y: Member<'_>,
+    y: UnreadEntry<'_>,
 ) -> Result<bool, AllocError>
     ensures text { OnOk result (text.new.items ≡ text.old.items
-        ++ flat_map (change_form json) (Came (member_of new.now.walk.path.items y.entry) ∷ [])) }
+        ++ flat_map (change_form json) (Came (unread_of new.now.walk.path.items y.entry) ∷ [])) }
     ensures some { IfOk result (λ differs. differs ≡ true) }
 {
-    let made = new.copied(alloc, y)?;
+    let made = new.copied(alloc, &y)?;
     push_form(alloc, json, text, Pair::New(&made))
 }
 
 /// Adds the line of two next assignments with one pattern and key, if their values differ, and answers whether they do.
 fn tell_both(
     alloc: Global,
+    twins: &Twins<'_, '_>,
     json: bool,
     text: &mut Vec<u8>,
     old: &Members<'_>,
-    x: Member<'_>,
+    x: UnreadEntry<'_>,
     new: &Members<'_>,
-    y: Member<'_>,
+    y: UnreadEntry<'_>,
 ) -> Result<bool, AllocError>
+    requires old { IsFrom (old_file twins.now) x }
+    requires new { IsFrom (new_file twins.now) y }
     ensures text { OnOk result (text.new.items ≡ text.old.items ++ flat_map (change_form json)
-        (change_between (member_of old.now.walk.path.items x.entry)
-        (member_of new.now.walk.path.items y.entry))) }
+        (change_between (unread_of old.now.walk.path.items x.entry)
+        (unread_of new.now.walk.path.items y.entry))) }
     ensures some { IfOk result (λ differs. differs
-        ≡ are_some (change_between (member_of old.now.walk.path.items x.entry)
-        (member_of new.now.walk.path.items y.entry))) }
+        ≡ are_some (change_between (unread_of old.now.walk.path.items x.entry)
+        (unread_of new.now.walk.path.items y.entry))) }
 {
-    if is_same(x.value, y.value) {
+    if twins.are_same(x.value, y.value) {
         return Ok(false);
     }
-    let went = old.copied(alloc, x)?;
-    let came = new.copied(alloc, y)?;
+    let went = old.copied(alloc, &x)?;
+    let came = new.copied(alloc, &y)?;
     push_form(alloc, json, text, Pair::Both(&went, &came))
 }
 
 /// Whether two values differ.
-fn differ(old: Member<'_>, new: Member<'_>) -> bool
+fn differ(twins: &Twins<'_, '_>, old: &UnreadEntry<'_>, new: &UnreadEntry<'_>) -> bool
+    requires old { IsFrom (old_file twins.now) old.now }
+    requires new { IsFrom (new_file twins.now) new.now }
     ensures { (p q : List ℕ) → result
-        ≡ are_some (change_between (member_of p old.entry) (member_of q new.entry)) }
+        ≡ are_some (change_between (unread_of p old.now) (unread_of q new.now)) }
 {
-    if is_same(old.value, new.value) {
+    if twins.are_same(old.value, new.value) {
         return false;
     }
     true
 }
 
 /// Whether something changed at a pattern and key.
-pub(crate) fn is_change(side: Side<'_, '_>) -> bool
+pub(crate) fn is_change(twins: &Twins<'_, '_>, side: Side<'_, '_>) -> bool
+    requires { AreFrom (old_file twins.now) (new_file twins.now) side }
     ensures { (p q : List ℕ) → result ≡ are_some (changes_by p q side.entry) }
 {
     match side {
-        Side::Both(x, y) => differ(x, y),
+        Side::Both(x, y) => differ(twins, &x, &y),
         Side::Old(_) => true,
         Side::New(_) => true,
     }
@@ -119,12 +158,14 @@ pub(crate) fn is_change(side: Side<'_, '_>) -> bool
 /// Adds the line of what happened at the least pattern and key that are left, and answers whether something did.
 pub(crate) fn tell<'a, 'b>(
     alloc: Global,
+    twins: &Twins<'_, '_>,
     json: bool,
     text: &mut Vec<u8>,
     old: &Members<'a>,
     new: &Members<'b>,
     side: Side<'a, 'b>,
 ) -> Result<bool, AllocError>
+    requires { AreFrom (old_file twins.now) (new_file twins.now) side }
     ensures text { OnOk result (text.new.items ≡ text.old.items
         ++ flat_map (change_form json) (changes_at old.now new.now side.entry)) }
     ensures some { IfOk result
@@ -133,23 +174,27 @@ pub(crate) fn tell<'a, 'b>(
     match side {
         Side::Old(x) => tell_old(alloc, json, text, old, x),
         Side::New(y) => tell_new(alloc, json, text, new, y),
-        Side::Both(x, y) => tell_both(alloc, json, text, old, x, new, y),
+        Side::Both(x, y) => tell_both(alloc, twins, json, text, old, x, new, y),
     }
 }
 
 /// The side of the lesser of two next assignments, or both if they have one pattern and key.
 fn lesser<'a, 'b>(
+    twins: &Twins<'_, '_>,
     old: &Members<'a>,
-    x: Member<'a>,
+    x: UnreadEntry<'a>,
     new: &Members<'b>,
-    y: Member<'b>,
+    y: UnreadEntry<'b>,
 ) -> Side<'a, 'b>
     requires old { old.now.next ≡ Some x }
     requires new { new.now.next ≡ Some y }
+    requires old_file { IsFrom (old_file twins.now) x }
+    requires new_file { IsFrom (new_file twins.now) y }
     ensures met { IsMet old.now new.now result }
     ensures next { IsNext old.now new.now result }
+    ensures files { AreFrom (old_file twins.now) (new_file twins.now) result }
 {
-    match compare(old, x, new, y) {
+    match compare(twins, old, &x, new, &y) {
         Ordering::Less => Side::Old(x),
         Ordering::Equal => Side::Both(x, y),
         Ordering::Greater => Side::New(y),
@@ -157,21 +202,29 @@ fn lesser<'a, 'b>(
 }
 
 /// The side of the least pattern and key that are left, if some are.
-pub(crate) fn least<'a, 'b>(old: &Members<'a>, new: &Members<'b>) -> Option<Side<'a, 'b>>
+pub(crate) fn least<'a, 'b>(
+    twins: &Twins<'_, '_>,
+    old: &Members<'a>,
+    new: &Members<'b>,
+) -> Option<Side<'a, 'b>>
     requires old_walk { (t : Tree) × IsUnderWay t old.now }
     requires new_walk { (t : Tree) × IsUnderWay t new.now }
     requires old_end { IfNone old.now.next (old.now.walk.at ≡ None) }
     requires new_end { IfNone new.now.next (new.now.walk.at ≡ None) }
+    requires old_file { IfSome old.now.next (IsFrom (old_file twins.now)) }
+    requires new_file { IfSome new.now.next (IsFrom (new_file twins.now)) }
     ensures met { IfSome result (λ side. IsMet old.now new.now side) }
     ensures next { IfSome result (λ side. IsNext old.now new.now side) }
     ensures none { IfNone result (to_meet old.now new.now ≡ []) }
     ensures none_old { IfNone result (left_of old.now ≡ []) }
+    ensures files { IfSome result
+        (λ side. AreFrom (old_file twins.now) (new_file twins.now) side) }
 {
     match (old.next, new.next) {
         (None, None) => None,
         (Some(x), None) => Some(Side::Old(x)),
         (None, Some(y)) => Some(Side::New(y)),
-        (Some(x), Some(y)) => Some(lesser(old, x, new, y)),
+        (Some(x), Some(y)) => Some(lesser(twins, old, x, new, y)),
     }
 }
 
@@ -196,6 +249,8 @@ pub(crate) fn pass_over<'a, 'b>(
         → IfNone old.new.next (old.new.walk.at ≡ None)) }
     ensures new_end { OnOk result (IfNone new.old.next (new.old.walk.at ≡ None)
         → IfNone new.new.next (new.new.walk.at ≡ None)) }
+    ensures old_file { OnOk result ((f : List ℕ) → AreOf f old.old → AreOf f old.new) }
+    ensures new_file { OnOk result ((f : List ℕ) → AreOf f new.old → AreOf f new.new) }
 {
     match side {
         Side::Old(_) => {
@@ -218,20 +273,21 @@ pub(crate) fn pass_over<'a, 'b>(
 pub(crate) fn changes_met(
     alloc: Global,
     json: bool,
-    old: &Db<'_>,
-    new: &Db<'_>,
+    old: Node<'_>,
+    new: Node<'_>,
 ) -> Result<Changes, AllocError>
     ensures text { IfOk result (λ changes. changes.text.items ≡ flat_map (change_form json)
-        (merged (members_under [] old.now) (members_under [] new.now))) }
-    ensures differ { IfOk result (λ changes. changes.differ
-        ≡ are_some (merged (members_under [] old.now) (members_under [] new.now))) }
+        (merged (members_under [] (tree_of old.entry)) (members_under [] (tree_of new.entry)))) }
+    ensures differ { IfOk result (λ changes. changes.differ ≡ are_some
+        (merged (members_under [] (tree_of old.entry)) (members_under [] (tree_of new.entry)))) }
 {
-    let mut before = Members::start(alloc, old)?;
-    let mut after = Members::start(alloc, new)?;
+    let twins = Twins::new(alloc, old, new)?;
+    let mut before = Members::start_at(alloc, old)?;
+    let mut after = Members::start_at(alloc, new)?;
     let mut text = Vec::new(alloc);
     let mut differ = false;
-    'pairs: while let Some(side) = least(&before, &after) {
-        let differs = tell(alloc, json, &mut text, &before, &after, side)?;
+    'pairs: while let Some(side) = least(&twins, &before, &after) {
+        let differs = tell(alloc, &twins, json, &mut text, &before, &after, side)?;
         differ |= differs;
         pass_over(side, &mut before, &mut after)?;
     }

@@ -1,17 +1,18 @@
 //! The assignments of a database, one after another while it is walked. None but the next one is held, without a copy of
-//! its pattern.
-ghost use Rattle.std.specs.Prelude.{◌≡◌, ◌++◌, [], None, Some, false, drop, is_some, IfNone, IfOk, OnOk};
+//! its pattern, and without a look at its texts.
+ghost use Rattle.std.specs.Prelude.{◌≡◌, ◌++◌, ℕ, List, [], None, Some, false, drop, is_some, IfNone, IfOk, IfSome, OnOk};
 ghost use Rattle.hwdb_spec.specs.Tree.{Tree, members_under, values_of};
-ghost use Rattle.hwdb_reader.specs.Views.{entered_tree};
+ghost use Rattle.hwdb_reader.specs.Unread.{IsFrom, file_at, file_in, text_of};
+ghost use Rattle.hwdb_reader.specs.Views.{entered_tree, tree_of};
 ghost use Rattle.hwdb_query.specs.Internal.Members.{own_members};
 ghost use Rattle.hwdb_inspect.specs.Views.{assignment_of};
 ghost use Rattle.hwdb_inspect.specs.Internal.Walks.{IsWalkOf};
-ghost use Rattle.hwdb_inspect.specs.Internal.Meeting.{IsUnderWay, after_next, head_of, left_of, member_of};
+ghost use Rattle.hwdb_inspect.specs.Internal.Meeting.{AreOf, IsUnderWay, after_next, head_of, left_of, member_of, unread_of};
 
 use crate::gifts::shared;
 use crate::walk::Walk;
 use hwdb_query::StoredAssignment;
-use hwdb_reader::{Db, Inside};
+use hwdb_reader::{Db, Inside, Node, UnreadEntry};
 use std::alloc::{AllocError, Global};
 
 /// An assignment without its pattern.
@@ -31,7 +32,28 @@ pub(crate) struct Members<'a> {
     /// How many values of the node that the walk is at were looked at.
     looked: usize,
     /// The next assignment. Its pattern is the walk's path.
-    pub next: Option<Member<'a>>,
+    pub next: Option<UnreadEntry<'a>>,
+}
+
+/// The key of an assignment: the stored key after its first byte.
+pub(crate) fn key_of<'a>(entry: &UnreadEntry<'a>) -> &'a [u8]
+    ensures { result.now ≡ drop 1 (text_of entry.now.key) }
+{
+    let stored = entry.key.read();
+    &stored[stored.len().min(1)..]
+}
+
+/// An assignment with its texts.
+pub(crate) fn read<'a>(entry: &UnreadEntry<'a>) -> Member<'a>
+    ensures { (pattern : List ℕ) → member_of pattern result ≡ unread_of pattern entry.now }
+{
+    Member {
+        priority: entry.priority,
+        line: entry.line,
+        key: key_of(entry),
+        value: entry.value.read(),
+        path: entry.path.read(),
+    }
 }
 
 impl<'a> Members<'a> {
@@ -40,8 +62,21 @@ impl<'a> Members<'a> {
         ensures all { IfOk result (λ members. left_of members ≡ members_under [] db.now) }
         ensures walk { IfOk result (λ members. IsUnderWay db.now members) }
         ensures end { IfOk result (λ members. IfNone members.next (members.walk.at ≡ None)) }
+        ensures file { IfOk result (λ members. (f : List ℕ) × AreOf f members) }
     {
-        let walk = Walk::start(alloc, db)?;
+        Members::start_at(alloc, db.root())
+    }
+
+    /// The same, over the tree of a node.
+    pub(crate) fn start_at(alloc: Global, root: Node<'a>) -> Result<Members<'a>, AllocError>
+        ensures all { (t : Tree) → tree_of root.entry ≡ t
+            → IfOk result (λ members. left_of members ≡ members_under [] t) }
+        ensures walk { (t : Tree) → tree_of root.entry ≡ t
+            → IfOk result (λ members. IsUnderWay t members) }
+        ensures end { IfOk result (λ members. IfNone members.next (members.walk.at ≡ None)) }
+        ensures file { IfOk result (λ members. AreOf (file_at root.entry) members) }
+    {
+        let walk = Walk::start_at(alloc, root)?;
         let mut members = Members {
             walk,
             looked: 0,
@@ -62,13 +97,13 @@ impl<'a> Members<'a> {
     pub(crate) fn copied(
         &self,
         alloc: Global,
-        member: Member<'a>,
+        entry: &UnreadEntry<'a>,
     ) -> Result<StoredAssignment<'a>, AllocError>
-        ensures { IfOk result (λ made.
-            assignment_of made
-            ≡ member_of self.now.walk.path.items member.entry) }
+        ensures { IfOk result
+            (λ made. assignment_of made ≡ unread_of self.now.walk.path.items entry.now) }
     {
         let pattern = shared(alloc, &self.walk.path)?;
+        let member = read(entry);
         Ok(StoredAssignment {
             priority: member.priority,
             line: member.line,
@@ -90,19 +125,14 @@ impl<'a> Members<'a> {
             (drop self.old.looked (values_of (entered_tree inside.entry))) ≡ [] }
         ensures found { result ≡ is_some self.new.next }
         ensures same { self.new.walk ≡ self.old.walk }
+        ensures file { IfSome self.new.next (IsFrom (file_in inside.entry)) }
     {
         self.next = None;
         for i in self.looked..inside.values() {
-            let entry = inside.value(i);
-            if let Some(key) = entry.key {
+            let entry = inside.unread(i);
+            if entry.has_key() {
                 self.looked = i + 1;
-                self.next = Some(Member {
-                    priority: entry.priority,
-                    line: entry.line,
-                    key,
-                    value: entry.value,
-                    path: entry.path,
-                });
+                self.next = Some(entry);
                 return true;
             }
         }
@@ -115,6 +145,7 @@ impl<'a> Members<'a> {
         ensures walk { OnOk result ((t : Tree) → IsUnderWay t self.old → IsUnderWay t self.new) }
         ensures left { OnOk result (left_of self.new ≡ after_next self.old) }
         ensures end { OnOk result (IfNone self.new.next (self.new.walk.at ≡ None)) }
+        ensures file { OnOk result ((f : List ℕ) → AreOf f self.old → AreOf f self.new) }
     {
         'nodes: while let Some(inside) = self.walk.at {
             if self.look(inside) {

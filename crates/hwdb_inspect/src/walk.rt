@@ -7,11 +7,12 @@
 //! A node's own assignments are those of `hwdb_query`, by one call. The loop isn't: the descent there keeps at each open node what
 //! is known of the device, and passes over what can't match. That takes memory. This one enters all nodes and counts how deep they
 //! stand.
-ghost use Rattle.std.specs.Prelude.{◌≡◌, ◌<◌, ◌≤◌, ◌+◌, ◌++◌, ◌^◌, [], None, map, max, reverse, length, is_some, IfNone, IfOk, IsSomeAnd, OnOk};
+ghost use Rattle.std.specs.Prelude.{◌≡◌, ◌<◌, ◌≤◌, ◌+◌, ◌++◌, ◌^◌, ℕ, All, List, [], None, map, max, reverse, length, is_some, IfNone, IfOk, IsSomeAnd, OnOk};
 ghost use Rattle.hwdb_spec.specs.Tree.{Tree, members_under, prefix_of};
+ghost use Rattle.hwdb_reader.specs.Unread.{file_at};
 ghost use Rattle.hwdb_reader.specs.Views.{tree_of, entered_tree};
 ghost use Rattle.hwdb_inspect.specs.Views.{assignment_of};
-ghost use Rattle.hwdb_inspect.specs.Internal.Walks.{to_come, StandsOn, left, steps, deepest_to_come, Opened, IsWalkOf, entered_one, own_of, rest_of, still_left};
+ghost use Rattle.hwdb_inspect.specs.Internal.Walks.{IsAtOne, IsOf, IsOpenIn, to_come, StandsOn, left, steps, deepest_to_come, Opened, IsWalkOf, entered_one, own_of, rest_of, still_left};
 
 use hwdb_query::{StoredAssignment, push_answers};
 use hwdb_reader::{Db, Entered, Inside, Node};
@@ -67,7 +68,17 @@ impl<'a> Walk<'a> {
             own_of walk.path.items walk.at ++ rest_of walk ≡ members_under [] db.now) }
         ensures end { IfOk result (λ walk. IfNone walk.at (walk.stack.items ≡ [])) }
     {
-        let root = db.root();
+        Walk::start_at(alloc, db.root())
+    }
+
+    /// The same, over the tree of a node.
+    pub(crate) fn start_at(alloc: Global, root: Node<'a>) -> Result<Walk<'a>, AllocError>
+        ensures walk { (t : Tree) → tree_of root.entry ≡ t → IfOk result (λ walk. IsWalkOf t walk) }
+        ensures all { (t : Tree) → tree_of root.entry ≡ t → IfOk result (λ walk.
+            own_of walk.path.items walk.at ++ rest_of walk ≡ members_under [] t) }
+        ensures end { IfOk result (λ walk. IfNone walk.at (walk.stack.items ≡ [])) }
+        ensures file { IfOk result (λ walk. IsOf (file_at root.entry) walk) }
+    {
         root.law_tree();
         let mut walk = Walk::new(alloc);
         walk.enter(root)?;
@@ -95,6 +106,9 @@ impl<'a> Walk<'a> {
         ensures counted { OnOk result (self.new.entered ≡ self.old.entered + 1) }
         ensures deepest { OnOk result
             (self.new.deepest ≡ max self.old.deepest (length self.old.stack.items + 1)) }
+        ensures file { OnOk result (IsAtOne (file_at node.entry) self.new.at) }
+        ensures files { OnOk result ((f : List ℕ) → file_at node.entry ≡ f
+            → All (IsOpenIn f) self.old.stack.items → All (IsOpenIn f) self.new.stack.items) }
     {
         self.path.extend_from_slice(node.prefix())?;
         let inside = node.enter(&mut self.entered);
@@ -136,6 +150,10 @@ impl<'a> Walk<'a> {
             (max self.new.deepest (deepest_to_come (reverse self.new.stack.items))
             ≡ max self.old.deepest (deepest_to_come (reverse self.old.stack.items))) }
         ensures reached { OnOk result (length self.new.stack.items ≤ self.new.deepest) }
+        ensures file { OnOk result
+            ((f : List ℕ) → All (IsOpenIn f) self.old.stack.items → IsAtOne f self.new.at) }
+        ensures files { OnOk result ((f : List ℕ)
+            → All (IsOpenIn f) self.old.stack.items → All (IsOpenIn f) self.new.stack.items) }
     {
         let last = self.stack.len() - 1;
         let open = &mut self.stack[last];
@@ -144,7 +162,7 @@ impl<'a> Walk<'a> {
             self.stack.pop();
             return Ok(false);
         }
-        let child = open.inside.child(open.done);
+        let child = open.inside.child_in_file(open.done);
         open.done += 1;
         self.path.push(child.byte)?;
         self.enter(child.node)?;
@@ -160,6 +178,10 @@ impl<'a> Walk<'a> {
         ensures end { OnOk result (IfNone self.new.at (self.new.stack.items ≡ [])) }
         ensures left { OnOk result
             (entered_one self.new.at + still_left self.new ≡ still_left self.old) }
+        ensures file { OnOk result
+            ((f : List ℕ) → All (IsOpenIn f) self.old.stack.items → IsAtOne f self.new.at) }
+        ensures files { OnOk result ((f : List ℕ)
+            → All (IsOpenIn f) self.old.stack.items → All (IsOpenIn f) self.new.stack.items) }
     {
         self.at = None;
         'nodes: while !self.stack.is_empty() {

@@ -120,7 +120,7 @@ so_far all d n s (suc i) h =
     ∙ replacing_more (map (given_in own) (take i all)) whole (given_in own a) n
     ∙ raised_none _ _ _ (last_itself all i d within s) (so_far all d n s i (omega (arith, h)))
 
-none_replaced : (all : List Given) → IsStrictlySortedBy by_place all → (n : ℕ) → greatest (replacing_of (map (given_in own) all) (map (given_in own) all) n) ≡ 0
+pub none_replaced : (all : List Given) → IsStrictlySortedBy by_place all → (n : ℕ) → greatest (replacing_of (map (given_in own) all) (map (given_in own) all) n) ≡ 0
 none_replaced [] s n = refl
 none_replaced (x ∷ rest) s n =
     ap (λ (l : List Given). greatest (replacing_of (map (given_in own) l) (map (given_in own) (x ∷ rest)) n)) (sym (take_all (length (x ∷ rest)) (x ∷ rest) (omega arith)))

@@ -11,3 +11,5 @@ pub mod SoughtLemmas
 pub mod LawLemmas
 pub mod BracketLemmas
 pub mod CalmLemmas
+pub mod RecordLemmas
+pub mod PlainLemmas

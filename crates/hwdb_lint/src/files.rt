@@ -82,7 +82,14 @@ fn look_over(
     ensures errors { IfErr result (IsFileRefusal bytes.now) }
 {
     let scanned = scan(alloc, bytes)?;
-    let warned = warnings_of(alloc, telling, path, bytes, &scanned.assignments)?;
+    let warned = warnings_of(
+        alloc,
+        telling,
+        path,
+        bytes,
+        &scanned.assignments,
+        &scanned.faults,
+    )?;
     let mut reports = reports_of(alloc, telling.json, path, bytes, &scanned.faults)?;
     reports.extend_from_slice(&warned.text)?;
     let tally = Tally {

@@ -3,6 +3,7 @@ ghost use Rattle.std.specs.Prelude.{◌≡◌, map, IfOk};
 ghost use Rattle.hwdb_spec.specs.Records;
 ghost use Rattle.hwdb_text.specs.Views.{given_in};
 ghost use Rattle.hwdb_lint.specs.Internal.{IsKnown, own};
+ghost use Rattle.hwdb_lint.specs.Plain.{IsPlainFile};
 
 use crate::companions::unpaired_lines;
 use crate::repeats::repeated_lines;
@@ -43,4 +44,23 @@ pub fn known_of<'a>(
         unread: unread_lines(alloc, assignments)?,
         unpaired: unpaired_lines(alloc, assignments)?,
     })
+}
+
+/// What is known of a plain file: nothing is repeated, replaced, unread or unpaired in it.
+pub fn nothing_known<'a>(alloc: Global, bytes: &'a [u8]) -> Known<'a>
+    requires { IsPlainFile bytes.now }
+    ensures { IsKnown result × (result.bytes.now ≡ bytes.now) }
+{
+    let repeated = BTreeSet::new(alloc);
+    let replaced = BTreeMap::new(alloc);
+    let elsewhere = BTreeSet::new(alloc);
+    let read = BTreeSet::new(alloc);
+    let unpaired = BTreeSet::new(alloc);
+    Known {
+        bytes,
+        repeated,
+        replaced,
+        unread: UnreadLines { elsewhere, read },
+        unpaired,
+    }
 }

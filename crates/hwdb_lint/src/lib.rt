@@ -21,6 +21,7 @@
 //! | `repeats` | match lines that their record has already |
 //! | `replacements` | assignments that a later line of the same file replaces |
 //! | `known` | what is known of a file before its lines are read one by one |
+//! | `plain_files` | files of whose lines only the marks of comments have to be looked at |
 //! | `warnings` | the warnings of a file, and their reports |
 //! | `tallies` | how much was found: the last line, and the status |
 //! | `files` | text files that are checked, one after another |
@@ -38,6 +39,7 @@ mod line_texts;
 mod line_warnings;
 mod misuses;
 mod places;
+mod plain_files;
 mod repeats;
 mod replacements;
 mod reports;

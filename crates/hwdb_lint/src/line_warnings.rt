@@ -39,21 +39,21 @@ pub struct Read<'a> {
 }
 
 /// Whether a text begins with a byte order mark.
-fn begins_with_mark(text: &[u8]) -> bool
+pub fn begins_with_mark(text: &[u8]) -> bool
     ensures { result ≡ warns [] WarningKind.ByteOrderMark (line_of 0 []) (line_of 0 text.now) }
 {
     text.len() > 2 && text[0] == 239 && text[1] == 187 && text[2] == 191
 }
 
 /// Whether a text begins with a tab.
-fn begins_with_tab(text: &[u8]) -> bool
+pub fn begins_with_tab(text: &[u8]) -> bool
     ensures { result ≡ warns [] WarningKind.LeadingTab (line_of 0 []) (line_of 0 text.now) }
 {
     !text.is_empty() && text[0] == b'\t'
 }
 
 /// Whether a text has a carriage return.
-fn has_return(text: &[u8]) -> bool
+pub fn has_return(text: &[u8]) -> bool
     ensures { result ≡ warns [] WarningKind.CarriageReturn (line_of 0 []) (line_of 0 text.now) }
 {
     end_of(b'\r', text) < text.len()
@@ -88,7 +88,7 @@ fn has_open_bracket(clean: &[u8]) -> bool
 }
 
 /// Whether a text has a `[`.
-fn holds_bracket(text: &[u8]) -> bool
+pub fn holds_bracket(text: &[u8]) -> bool
     ensures { result ≡ Lines.has 91 text.now }
 {
     end_of(b'[', text) < text.len()
@@ -199,7 +199,7 @@ fn has_cut_value(text: &[u8], clean: &[u8]) -> bool
 }
 
 /// Whether a pattern matches no text that udev asks.
-fn is_unmatched(judgement: Judgement) -> bool
+pub fn is_unmatched(judgement: Judgement) -> bool
     ensures { result ≡ Unmatched.is_unmatched judgement }
 {
     !matches!(judgement, Judgement::Fine)

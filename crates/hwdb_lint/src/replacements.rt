@@ -137,7 +137,7 @@ fn is_before(one: &Given<'_>, other: &Given<'_>) -> bool
 }
 
 /// Whether each assignment comes before the next one, by pattern and then by key.
-fn ascend(all: &[Given<'_>]) -> bool
+pub fn ascend(all: &[Given<'_>]) -> bool
     ensures { result ≡ true → IsStrictlySortedBy by_place all.now }
 {
     let mut at = 1;

@@ -7,17 +7,19 @@ ghost use Rattle.hwdb_spec.specs.Reports.{hint_line};
 ghost use Rattle.hwdb_spec.specs.Warnings.{all_warnings, gets, line_kinds, line_warnings, warnings, warning_text, warning_place, warning_hint, warning_line, warning_report};
 ghost use Rattle.hwdb_text.specs.Views.{given_in};
 ghost use Rattle.hwdb_lint.specs.Internal.{IsKnown, IsPlain, IsRead, clean_of, line_of, number_text, own, read_line};
+ghost use Rattle.hwdb_lint.specs.Plain.{IsPlainFile, IsQuiet};
 
 use crate::json_lines::{Finding, finding_line};
 use crate::judgements::{judgement_of, judgement_place, judgement_text, push_judgement_hint};
 use crate::kinds::{Telling, is_told, warning_name};
-use crate::known::{Known, known_of};
+use crate::known::{Known, known_of, nothing_known};
 use crate::line_warnings::{Read, closed, is_warned, is_warned_at_all, kinds_of};
 use crate::misuses::{misuse_in, push_hint_of_misuse, push_unpaired_hint, push_unread_hint};
+use crate::plain_files::{is_plain, may_be_cut};
 use hwdb_pattern::{open_place, range_place};
 use hwdb_properties::misuse_text;
 use hwdb_show::{push_mark_line, push_shown_line};
-use hwdb_spec::{Misuse, WarningKind};
+use hwdb_spec::{Fault, Misuse, WarningKind};
 use hwdb_text::{Content, Given, Lines, content_of, end_of, indent_of};
 use itoa::Buffer;
 use std::alloc::{AllocError, Global};
@@ -373,11 +375,36 @@ impl Warned {
             }
         }
     }
+
+    /// As `put_line`, of a line that gets no warning unless a `#` cuts it.
+    fn put_quiet(
+        &mut self,
+        alloc: Global,
+        telling: &Telling<'_>,
+        path: &[u8],
+        known: &Known<'_>,
+        number: u64,
+        text: &[u8],
+    ) -> Result<(), AllocError>
+        requires known { IsKnown known.now }
+        requires quiet { IsQuiet known.now.bytes.now (line_of number text.now) }
+        ensures text { OnOk result (self.new.text.items ≡ self.old.text.items
+            ++ line_text telling.now.json (map string_bytes telling.now.allowed.now) path.now
+            known.now.bytes.now (line_of number text.now)) }
+        ensures found { OnOk result (self.new.found.items ≡ self.old.found.items
+            ++ line_warnings (map string_bytes telling.now.allowed.now) known.now.bytes.now
+            (line_of number text.now)) }
+    {
+        if may_be_cut(text) {
+            return self.put_line(alloc, telling, path, known, number, text);
+        }
+        Ok(())
+    }
 }
 
-/// The warnings of a file with these assignments that are told, and what is printed of them, by line.
+/// As `warnings_of`, of any file.
 #[tactic(auto, unfolding(hwdb_spec::specs::Lines::numbered))]
-pub fn warnings_of(
+fn warnings_by_line(
     alloc: Global,
     telling: &Telling<'_>,
     path: &[u8],
@@ -402,4 +429,55 @@ pub fn warnings_of(
         number += 1;
     }
     Ok(warned)
+}
+
+/// As `warnings_of`, of a plain file: only lines that a `#` may cut are looked at.
+#[tactic(auto, unfolding(hwdb_spec::specs::Lines::numbered))]
+fn cut_warnings(
+    alloc: Global,
+    telling: &Telling<'_>,
+    path: &[u8],
+    bytes: &[u8],
+) -> Result<Warned, AllocError>
+    requires { IsPlainFile bytes.now }
+    ensures text { IfOk result (λ w. w.text.items
+        ≡ warnings_text telling.now.json (map string_bytes telling.now.allowed.now)
+        path.now bytes.now) }
+    ensures found { IfOk result (λ w. w.found.items
+        ≡ warnings (map string_bytes telling.now.allowed.now) bytes.now) }
+{
+    let known = nothing_known(alloc, bytes);
+    let mut warned = Warned {
+        text: Vec::new(alloc),
+        found: Vec::new(alloc),
+    };
+    let mut number = 1;
+    for text in Lines::new(bytes) {
+        warned.put_quiet(alloc, telling, path, &known, number, text)?;
+        number += 1;
+    }
+    Ok(warned)
+}
+
+/// The warnings of a file with these assignments and these faults that are told, and what is printed of them, by line.
+pub fn warnings_of(
+    alloc: Global,
+    telling: &Telling<'_>,
+    path: &[u8],
+    bytes: &[u8],
+    assignments: &[Given<'_>],
+    faults: &[Fault],
+) -> Result<Warned, AllocError>
+    requires assignments { map (given_in own) assignments.now ≡ Records.assignments own bytes.now }
+    requires faults { faults.now ≡ Records.faults bytes.now }
+    ensures text { IfOk result (λ w. w.text.items
+        ≡ warnings_text telling.now.json (map string_bytes telling.now.allowed.now)
+        path.now bytes.now) }
+    ensures found { IfOk result (λ w. w.found.items
+        ≡ warnings (map string_bytes telling.now.allowed.now) bytes.now) }
+{
+    if is_plain(alloc, bytes, assignments, faults)? {
+        return cut_warnings(alloc, telling, path, bytes);
+    }
+    warnings_by_line(alloc, telling, path, bytes, assignments)
 }

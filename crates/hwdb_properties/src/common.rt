@@ -23,7 +23,7 @@ fn is_oui(name: &[u8]) -> bool
 }
 
 /// Whether a property is one of those. They take any text, and are read below any prefix, without others.
-pub(crate) fn is_common(name: &[u8]) -> bool
+pub fn is_common(name: &[u8]) -> bool
     ensures { result ≡ true → IsCommon name.now }
 {
     if is_model(name) {

@@ -23,6 +23,7 @@ mod rows;
 mod surroundings;
 mod values;
 
+pub use common::is_common;
 pub use cuts::{after, before, same};
 pub use laws::{
     axes_are_told, matrices_are_told, names_are_told, numbers_are_told, pairs_are_told,

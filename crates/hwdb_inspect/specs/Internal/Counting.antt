@@ -1,9 +1,10 @@
 -- What is counted of assignments.
-use Rattle.std.specs.Borrow.{Bor}
-use Rattle.std.specs.Prelude.{List, Option, None, Some, [], ◌∷◌, ◌++◌, ℕ, zero, suc, map, ◌+◌, if◌then◌else◌}
+use Rattle.std.specs.Prelude.{List, Option, None, Some, IfSome, [], ◌∷◌, ◌++◌, ℕ, zero, suc, map, ◌+◌, ◌≡◌, if◌then◌else◌}
 use Rattle.hwdb_spec.specs.Differences.{Change}
 use Rattle.hwdb_spec.specs.Folders.{same}
 use Rattle.hwdb_spec.specs.Status.{first_text}
+use Rattle.hwdb_reader.specs.Unread.{file_of, text_of}
+use Rattle.hwdb_reader.specs.declared.unread.StoredText.{StoredText}
 use Rattle.hwdb_inspect.specs.declared.inventory.Inventory.{Inventory}
 
 -- the text that was counted last, if one was
@@ -27,10 +28,14 @@ first_kept [] changes = first_text changes
 first_kept (b ∷ more) changes = b ∷ more
 
 -- the file of the last assignment that was counted, if one was
-abbrev pub last_file : Option (Bor (List ℕ)) → List (List ℕ)
+abbrev pub last_file : Option StoredText → List (List ℕ)
 last_file None = []
-last_file (Some path) = path.now ∷ []
+last_file (Some path) = text_of path ∷ []
 
 -- the files of those that were counted
 abbrev pub files_in : Inventory → List (List ℕ)
 files_in h = map (λ t. t.now) h.files.items ++ last_file h.last
+
+-- the last file is named by the database with these bytes
+abbrev pub IsHeldFrom : List ℕ → Inventory → Type 0
+IsHeldFrom file h = IfSome h.last (λ path. file_of path ≡ file)

@@ -1,10 +1,12 @@
 -- The assignments of two databases that are walked side by side.
-use Rattle.std.specs.Prelude.{List, ℕ, Option, None, Some, [], ◌∷◌, ◌++◌, ◌≡◌, drop, IfNone}
+use Rattle.std.specs.Prelude.{List, ℕ, Option, None, Some, [], ◌∷◌, ◌++◌, ◌≡◌, drop, IfNone, IfSome}
 use Rattle.hwdb_spec.specs.Assignment.{Assignment}
 use Rattle.hwdb_spec.specs.Differences.{Change, change_between}
 use Rattle.hwdb_spec.specs.Differences.Change.{Came, Went}
 use Rattle.hwdb_spec.specs.Tree.{Tree, values_of}
 use Rattle.hwdb_reader.specs.Views.{entered_tree}
+use Rattle.hwdb_reader.specs.Unread.{IsFrom, text_of}
+use Rattle.hwdb_reader.specs.declared.unread.UnreadEntry.{UnreadEntry}
 use Rattle.hwdb_reader.specs.declared.view.Inside.{Inside}
 use Rattle.hwdb_query.specs.Internal.Members.{own_members}
 use Rattle.hwdb_inspect.specs.declared.members.Member.{Member}
@@ -12,7 +14,7 @@ use Rattle.hwdb_inspect.specs.declared.members.Members.{Members}
 use Rattle.hwdb_inspect.specs.declared.meeting.Side.{Side}
 use Rattle.hwdb_inspect.specs.declared.meeting.Side.TheVariants.{Old, New, Both}
 use Rattle.hwdb_inspect.specs.Internal.Merging.{merged}
-use Rattle.hwdb_inspect.specs.Internal.Walks.{IsWalkOf, rest_of}
+use Rattle.hwdb_inspect.specs.Internal.Walks.{IsOf, IsWalkOf, rest_of}
 
 -- an assignment with this pattern
 abbrev pub member_of : (pattern : List ℕ) → Member → Assignment
@@ -22,9 +24,17 @@ member_of pattern m = record {
   path = m.path.now;
 }
 
-abbrev pub head_of : (pattern : List ℕ) → Option Member → List Assignment
+-- one whose texts weren't read. Its stored key begins with a space
+abbrev pub unread_of : (pattern : List ℕ) → UnreadEntry → Assignment
+unread_of pattern e = record {
+  position = record { priority = e.priority; line = e.line; pattern = pattern; key = drop 1 (text_of e.key) };
+  value = text_of e.value;
+  path = text_of e.path;
+}
+
+abbrev pub head_of : (pattern : List ℕ) → Option UnreadEntry → List Assignment
 head_of pattern None = []
-head_of pattern (Some m) = member_of pattern m ∷ []
+head_of pattern (Some m) = unread_of pattern m ∷ []
 
 -- what the values of a node assign that weren't looked at
 abbrev pub unlooked : (looked : ℕ) → (pattern : List ℕ) → Option Inside → List Assignment
@@ -50,15 +60,15 @@ to_meet old new = merged (left_of old) (left_of new)
 
 -- what the old one has there, with its pattern
 abbrev pub old_by : (pattern : List ℕ) → Side → List Assignment
-old_by pattern (Old x) = member_of pattern x ∷ []
+old_by pattern (Old x) = unread_of pattern x ∷ []
 old_by pattern (New y) = []
-old_by pattern (Both x y) = member_of pattern x ∷ []
+old_by pattern (Both x y) = unread_of pattern x ∷ []
 
 -- what the new one has there
 abbrev pub new_by : (pattern : List ℕ) → Side → List Assignment
 new_by pattern (Old x) = []
-new_by pattern (New y) = member_of pattern y ∷ []
-new_by pattern (Both x y) = member_of pattern y ∷ []
+new_by pattern (New y) = unread_of pattern y ∷ []
+new_by pattern (Both x y) = unread_of pattern y ∷ []
 
 abbrev pub old_at : Members → Side → List Assignment
 old_at old side = old_by old.walk.path.items side
@@ -68,9 +78,9 @@ new_at new side = new_by new.walk.path.items side
 
 -- what happened there, by the two patterns
 abbrev pub changes_by : (old new : List ℕ) → Side → List Change
-changes_by old new (Old x) = Went (member_of old x) ∷ []
-changes_by old new (New y) = Came (member_of new y) ∷ []
-changes_by old new (Both x y) = change_between (member_of old x) (member_of new y)
+changes_by old new (Old x) = Went (unread_of old x) ∷ []
+changes_by old new (New y) = Came (unread_of new y) ∷ []
+changes_by old new (Both x y) = change_between (unread_of old x) (unread_of new y)
 
 abbrev pub changes_at : (old new : Members) → Side → List Change
 changes_at old new side = changes_by old.walk.path.items new.walk.path.items side
@@ -86,3 +96,14 @@ abbrev pub IsMet : (old new : Members) → Side → Type 0
 IsMet old new side =
     (xs ys : List Assignment) → left_of old ≡ old_at old side ++ xs → left_of new ≡ new_at new side ++ ys
     → to_meet old new ≡ changes_at old new side ++ merged xs ys
+
+-- they come from the database with these bytes
+pub record AreOf (file : List ℕ) (m : Members) : Type 0 where
+  pub walk : IsOf file m.walk
+  pub next : IfSome m.next (IsFrom file)
+
+-- what is next comes from two databases with these bytes
+abbrev pub AreFrom : (old new : List ℕ) → Side → Type 0
+AreFrom old new (Old x) = IsFrom old x
+AreFrom old new (New y) = IsFrom new y
+AreFrom old new (Both x y) = IsFrom old x × IsFrom new y

@@ -1,9 +1,10 @@
 -- The stack of a walk: what is still to come, and how many nodes are left. The list begins with the top.
-use Rattle.std.specs.Prelude.{List, ℕ, Option, None, Some, [], ◌∷◌, ◌++◌, ◌+◌, ◌<◌, ◌≤◌, ◌≡◌, ◌^◌, ◌⊎◌, suc, take, drop, length, max, reverse}
+use Rattle.std.specs.Prelude.{All, IfSome, List, ℕ, Option, None, Some, [], ◌∷◌, ◌++◌, ◌+◌, ◌<◌, ◌≤◌, ◌≡◌, ◌^◌, ◌⊎◌, suc, take, drop, length, max, reverse}
 use Rattle.hwdb_spec.specs.Assignment.{Assignment}
 use Rattle.hwdb_spec.specs.Summary.{depth}
 use Rattle.hwdb_spec.specs.Tree.{Tree, values_of}
 use Rattle.hwdb_reader.specs.Views.{children_of, entered_tree, node_count}
+use Rattle.hwdb_reader.specs.Unread.{file_in}
 use Rattle.hwdb_reader.specs.declared.view.Inside.{Inside}
 use Rattle.hwdb_query.specs.Internal.Members.{members_in, own_members}
 use Rattle.hwdb_inspect.specs.declared.walk.OpenVisit.{OpenVisit}
@@ -84,3 +85,16 @@ pub record IsWalkOf (t : Tree) (w : Walk) : Type 0 where
   pub counted : w.entered + left (reverse w.stack.items) ≡ node_count t
   pub deepest : max w.deepest (deepest_to_come (reverse w.stack.items)) ≡ depth t
   pub reached : length w.stack.items ≤ w.deepest
+
+-- an open node is one of the database with these bytes
+abbrev pub IsOpenIn : List ℕ → OpenVisit → Type 0
+IsOpenIn file o = file_in o.inside ≡ file
+
+-- so is the node that a walk is at, if it is at one
+abbrev pub IsAtOne : List ℕ → Option Inside → Type 0
+IsAtOne file at = IfSome at (λ inside. file_in inside ≡ file)
+
+-- all nodes that a walk holds are
+pub record IsOf (file : List ℕ) (w : Walk) : Type 0 where
+  pub stack : All (IsOpenIn file) w.stack.items
+  pub at : IsAtOne file w.at

@@ -1,4 +1,4 @@
-use Rattle.std.proofs.Common.{◌≤◌, ◌-◌, length}
+use Rattle.std.proofs.Common.{◌≤◌, ◌-◌}
 use Rattle.hwdb_spec.specs.Patterns.{tokens}
 use Rattle.hwdb_forms.specs.Internal.{IsCut, LedTo, units}
 use Rattle.hwdb_forms.proofs.templates.template_count.Given as goal

@@ -1,8 +1,8 @@
-use Rattle.std.proofs.Common.{◌≡◌, ◌+◌, ◌++◌, [], None, map, length, IfNone}
+use Rattle.std.proofs.Common.{◌≡◌, ◌+◌, ◌++◌, [], List, ℕ, None, map, length, IfNone}
 use Rattle.hwdb_spec.specs.Summary.{different}
 use Rattle.hwdb_spec.specs.Tree.{members_under}
-use Rattle.hwdb_inspect.specs.Internal.Counting.{files_in}
-use Rattle.hwdb_inspect.specs.Internal.Meeting.{IsUnderWay, left_of}
+use Rattle.hwdb_inspect.specs.Internal.Counting.{IsHeldFrom, files_in}
+use Rattle.hwdb_inspect.specs.Internal.Meeting.{AreOf, IsUnderWay, left_of}
 use Rattle.hwdb_inspect.proofs.amounts.amount_in.Given as goal
 
 abbrev pub invariant-members : goal.invariant-members
@@ -11,6 +11,7 @@ invariant-members l = record {
   count : l.held.assignments + length (left_of l.members) ≡ length (members_under [] l.db);
   walk : IsUnderWay l.db l.members;
   end : IfNone l.members.next (l.members.walk.at ≡ None);
+  file : (f : List ℕ) × AreOf f l.members × IsHeldFrom f l.held;
 }
 
 abbrev pub decreases-members : goal.decreases-members

@@ -1,58 +1,29 @@
-use Rattle.std.proofs.Common.{◌∙◌, [], ap, length, map, sym, Some}
-use Rattle.hwdb_spec.specs.Status.{stale_by}
-use Rattle.hwdb_inspect.specs.Internal.Counting.{files_in}
-use Rattle.hwdb_inspect.specs.Internal.Meeting.{changes_at, left_of, old_by, to_meet}
-use Rattle.hwdb_inspect.proofs.InventoryLemmas.{all_counted, bound_on, changes_on, count_on, files_on, first_on, fits, fits_first, fits_one, path_of, stale_is}
-use Rattle.hwdb_inspect.proofs.MeetingLemmas.{next_old, next_some}
-use Rattle.hwdb_inspect.proofs.MergeLemmas.{merged_trees}
+use Rattle.std.proofs.Common.{◌≡◌, ◌<◌, ◌+◌, ◌^◌, [], IfOk, Some, length, subst, sym}
+use Rattle.std.specs.Prelude.{option_map}
+use Rattle.hwdb_spec.specs.Differences.{differences}
+use Rattle.hwdb_spec.specs.Status.{amount_of, stale_by}
+use Rattle.hwdb_spec.specs.Summary.{summary_of}
+use Rattle.hwdb_spec.specs.Tree.{IsTree, Tree, map_of, members_under}
+use Rattle.hwdb_inspect.specs.Views.{amount_shown, state_shown}
 use Rattle.hwdb_inspect.proofs.freshness.compared.Goals as goal
 
-pub count-requires : goal.count-requires
-count-requires c =
-    let next = rw c.in-Some.is at c.least.ensures.next in
-    fits_one c.pairs.tally.changes _ _ _ c.pairs.invariant.bound (next_some c.pairs.before c.pairs.after c.in-Some.side next) c.requires.few
+pub walked-requires-clause-old : goal.walked-requires-clause-old
+walked-requires-clause-old c = subst (λ t. IsTree t) (sym c.root.ensures.root) c.requires.old
 
-pub count_old-requires : goal.count_old-requires
-count_old-requires c =
-    let next = rw c.in-Some.is at c.least.ensures.next in
-    fits c.pairs.held.assignments (length (old_by [] c.in-Some.side)) (length (left_of c.pairs.before)) _ _ c.pairs.invariant.count
-    (next_old c.pairs.before c.pairs.after c.in-Some.side [] next) (fits_first _ _ _ c.requires.few)
+pub walked-requires-clause-new : goal.walked-requires-clause-new
+walked-requires-clause-new c = subst (λ t. IsTree t) (sym c.root-2.ensures.root) c.requires.new
 
-pub pairs-preserved : goal.pairs-preserved
-pairs-preserved c =
-    let met = rw c.in-Some.is at c.least.ensures.met in
-    let side = c.in-Some.side in
-    let p = c.pairs.before.walk.path.items in
-    let q = c.pairs.after.walk.path.items in
-    let all = to_meet c.pairs.before c.pairs.after in
-    let changes = changes_at c.pairs.before c.pairs.after side in
-    let olds = left_of c.pass_over.new.old in
-    let news = left_of c.pass_over.new.new in
-    let more = to_meet c.pass_over.new.old c.pass_over.new.new in
-    let old_left = c.in_ok-pass_over.ensures.old_left in
-    let new_left = c.in_ok-pass_over.ensures.new_left in
-    let are = met olds news old_left new_left in
-    let held = c.count_old.new.held in
-    record {
-      first = first_on c.pairs.tally.first.items c.count.new.self.first.items all changes more are c.in_ok-count.ensures.first ∙ c.pairs.invariant.first;
-      changes = changes_on c.pairs.tally.changes c.count.new.self.changes all changes more are c.in_ok-count.ensures.changes ∙ c.pairs.invariant.changes;
-      bound = bound_on p q side (left_of c.pairs.before) olds (left_of c.pairs.after) news old_left new_left c.pairs.tally.changes c.count.new.self.changes _ c.in_ok-count.ensures.changes c.pairs.invariant.bound;
-      files = files_on (files_in c.pairs.held) (files_in held) (left_of c.pairs.before) olds (old_by p side) old_left (c.in_ok-count_old.ensures.files p (map path_of olds)) ∙ c.pairs.invariant.files;
-      count = count_on c.pairs.held.assignments held.assignments (left_of c.pairs.before) olds (old_by p side) old_left (c.in_ok-count_old.ensures.assignments p) ∙ c.pairs.invariant.count;
-      old_walk = c.in_ok-pass_over.ensures.old_walk c.args.old.now c.pairs.invariant.old_walk;
-      new_walk = c.in_ok-pass_over.ensures.new_walk c.args.new.now c.pairs.invariant.new_walk;
-      old_end = c.in_ok-pass_over.ensures.old_end c.pairs.invariant.old_end;
-      new_end = c.in_ok-pass_over.ensures.new_end c.pairs.invariant.new_end;
-    }
+pub walked-requires-clause-few : goal.walked-requires-clause-few
+walked-requires-clause-few c =
+    subst (λ (g : Tree × Tree). length (members_under [] g.0) + length (members_under [] g.1) < 2 ^ 64)
+    (sym (λ i. (c.root.ensures.root i, c.root-2.ensures.root i))) c.requires.few
 
 pub returns-clause-state : goal.returns-clause-state
 returns-clause-state c =
-    let none = rw c.in_default.is at c.least.ensures.none in
-    stale_is c.pairs.tally.changes c.pairs.tally.first.items (to_meet c.pairs.before c.pairs.after) _ none c.pairs.invariant.changes c.pairs.invariant.first
-    ∙ ap stale_by (sym (merged_trees c.args.old.now c.args.new.now c.requires.old c.requires.new))
+    subst (λ (g : Tree × Tree). IfOk c.walked.result (λ s. state_shown s.state ≡ stale_by (differences (map_of g.0) (map_of g.1))))
+    (λ i. (c.root.ensures.root i, c.root-2.ensures.root i)) c.walked.ensures.state
 
 pub returns-clause-holds : goal.returns-clause-holds
 returns-clause-holds c =
-    let none = rw c.in_default.is at c.least.ensures.none_old in
-    ap Some (c.in_ok-amount.ensures
-    ∙ all_counted c.args.size c.args.old.now (files_in c.pairs.held) c.pairs.held.assignments (left_of c.pairs.before) none c.pairs.invariant.files c.pairs.invariant.count)
+    subst (λ (t : Tree). IfOk c.walked.result (λ s. option_map amount_shown s.holds ≡ Some (amount_of (summary_of c.args.size t))))
+    c.root.ensures.root c.walked.ensures.holds

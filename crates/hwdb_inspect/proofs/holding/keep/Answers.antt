@@ -9,12 +9,14 @@ pub members-preserved : goal.members-preserved
 members-preserved c =
     let before : List Assignment = all_held c.members.kept in
     let rest : List Assignment = left_of c.pass.new.self in
-    let m = c.in-Some.member in
+    let e = c.in-Some.entry in
+    let m = c.read.result in
     record {
       held = ap (λ (l : List Assignment). l ++ rest) (c.in_ok-push.ensures.held c.members.invariant.within)
           ∙ append_assoc before (member_of c.pattern.result.now m ∷ []) rest
           ∙ ap (λ (t : List ℕ). before ++ member_of t m ∷ rest) c.pattern.ensures
-          ∙ ap (λ (l : List Assignment). before ++ l) (sym (passed c.members.members c.pass.new.self m c.in-Some.is c.in_ok-pass.ensures.left))
+          ∙ ap (λ (a : Assignment). before ++ a ∷ rest) (c.read.ensures c.members.members.walk.path.items)
+          ∙ ap (λ (l : List Assignment). before ++ l) (sym (passed c.members.members c.pass.new.self e c.in-Some.is c.in_ok-pass.ensures.left))
           ∙ c.members.invariant.held;
       within = c.in_ok-push.ensures.within c.members.invariant.within;
       walk = c.in_ok-pass.ensures.walk c.args.db.now c.members.invariant.walk;

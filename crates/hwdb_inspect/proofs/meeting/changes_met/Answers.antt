@@ -1,8 +1,33 @@
-use Rattle.std.proofs.Common.{◌∙◌, refl, ◌||◌}
+use Rattle.std.proofs.Common.{◌≡◌, ◌∙◌, ◌++◌, ◌||◌, List, [], ap, refl, subst, sym}
+use Rattle.std.specs.Prelude.{flat_map}
+use Rattle.hwdb_spec.specs.Assignment.{Assignment}
+use Rattle.hwdb_spec.specs.Differences.{are_some}
+use Rattle.hwdb_spec.specs.Tree.{members_under}
+use Rattle.hwdb_inspect.specs.Internal.Merging.{merged}
+use Rattle.hwdb_reader.specs.Views.{tree_of}
 use Rattle.hwdb_inspect.specs.Internal.Forms.{change_form}
-use Rattle.hwdb_inspect.specs.Internal.Meeting.{changes_at, left_of, to_meet}
+use Rattle.hwdb_inspect.specs.Internal.Meeting.{AreOf, changes_at, left_of, to_meet}
 use Rattle.hwdb_inspect.proofs.DiffLemmas.{joined, differ_step}
 use Rattle.hwdb_inspect.proofs.meeting.changes_met.Goals as goal
+
+pub pairs-init : goal.pairs-init
+pairs-init c =
+    let before = c.in_ok-before.before in
+    let after = c.in_ok-after.after in
+    let old = c.in_ok-before.ensures.all (tree_of c.args.old) refl in
+    let new = c.in_ok-after.ensures.all (tree_of c.args.new) refl in
+    let both : to_meet before after ≡ merged (members_under [] (tree_of c.args.old)) (members_under [] (tree_of c.args.new)) =
+    ap (λ (g : List Assignment × List Assignment). merged g.0 g.1) (λ i. (old i, new i)) in
+    record {
+      text = ap (λ l. l ++ flat_map (change_form c.args.json) (to_meet before after)) c.new-text.ensures.items ∙ ap (flat_map (change_form c.args.json)) both;
+      differ = ap are_some both;
+      old_walk = c.in_ok-before.ensures.walk (tree_of c.args.old) refl;
+      new_walk = c.in_ok-after.ensures.walk (tree_of c.args.new) refl;
+      old_end = c.in_ok-before.ensures.end;
+      new_end = c.in_ok-after.ensures.end;
+      old_from = subst (λ f. AreOf f before) (sym c.in_ok-twins.ensures.old) c.in_ok-before.ensures.file;
+      new_from = subst (λ f. AreOf f after) (sym c.in_ok-twins.ensures.new) c.in_ok-after.ensures.file;
+    }
 
 pub pairs-preserved : goal.pairs-preserved
 pairs-preserved c =
@@ -14,8 +39,10 @@ pairs-preserved c =
     record {
       text = joined (change_form c.args.json) c.pairs.text.items c.tell.new.text.items all changes more are c.in_ok-differs.ensures.text ∙ c.pairs.invariant.text;
       differ = differ_step c.pairs.differ c.in_ok-differs.differs (c.pairs.differ || c.in_ok-differs.differs) all changes more are c.in_ok-differs.ensures.some refl ∙ c.pairs.invariant.differ;
-      old_walk = c.in_ok-pass_over.ensures.old_walk c.args.old.now c.pairs.invariant.old_walk;
-      new_walk = c.in_ok-pass_over.ensures.new_walk c.args.new.now c.pairs.invariant.new_walk;
+      old_walk = c.in_ok-pass_over.ensures.old_walk (tree_of c.args.old) c.pairs.invariant.old_walk;
+      new_walk = c.in_ok-pass_over.ensures.new_walk (tree_of c.args.new) c.pairs.invariant.new_walk;
       old_end = c.in_ok-pass_over.ensures.old_end c.pairs.invariant.old_end;
       new_end = c.in_ok-pass_over.ensures.new_end c.pairs.invariant.new_end;
+      old_from = c.in_ok-pass_over.ensures.old_file _ c.pairs.invariant.old_from;
+      new_from = c.in_ok-pass_over.ensures.new_file _ c.pairs.invariant.new_from;
     }

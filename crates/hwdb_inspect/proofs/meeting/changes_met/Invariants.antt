@@ -2,19 +2,23 @@ use Rattle.std.proofs.Common.{◌≡◌, ◌+◌, ◌++◌, ◌||◌, [], None, 
 use Rattle.std.specs.Prelude.{flat_map}
 use Rattle.hwdb_spec.specs.Differences.{are_some}
 use Rattle.hwdb_spec.specs.Tree.{members_under}
+use Rattle.hwdb_reader.specs.Unread.{new_file, old_file}
+use Rattle.hwdb_reader.specs.Views.{tree_of}
 use Rattle.hwdb_inspect.specs.Internal.Forms.{change_form}
 use Rattle.hwdb_inspect.specs.Internal.Merging.{merged}
-use Rattle.hwdb_inspect.specs.Internal.Meeting.{IsUnderWay, left_of, to_meet}
+use Rattle.hwdb_inspect.specs.Internal.Meeting.{AreOf, IsUnderWay, left_of, to_meet}
 use Rattle.hwdb_inspect.proofs.meeting.changes_met.Given as goal
 
 abbrev pub invariant-pairs : goal.invariant-pairs
 invariant-pairs l = record {
-  text : l.text.items ++ flat_map (change_form l.json) (to_meet l.before l.after) ≡ flat_map (change_form l.json) (merged (members_under [] l.old) (members_under [] l.new));
-  differ : (l.differ || are_some (to_meet l.before l.after)) ≡ are_some (merged (members_under [] l.old) (members_under [] l.new));
-  old_walk : IsUnderWay l.old l.before;
-  new_walk : IsUnderWay l.new l.after;
+  text : l.text.items ++ flat_map (change_form l.json) (to_meet l.before l.after) ≡ flat_map (change_form l.json) (merged (members_under [] (tree_of l.old)) (members_under [] (tree_of l.new)));
+  differ : (l.differ || are_some (to_meet l.before l.after)) ≡ are_some (merged (members_under [] (tree_of l.old)) (members_under [] (tree_of l.new)));
+  old_walk : IsUnderWay (tree_of l.old) l.before;
+  new_walk : IsUnderWay (tree_of l.new) l.after;
   old_end : IfNone l.before.next (l.before.walk.at ≡ None);
   new_end : IfNone l.after.next (l.after.walk.at ≡ None);
+  old_from : AreOf (old_file l.twins) l.before;
+  new_from : AreOf (new_file l.twins) l.after;
 }
 
 abbrev pub decreases-pairs : goal.decreases-pairs

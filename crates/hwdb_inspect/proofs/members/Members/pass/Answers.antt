@@ -1,5 +1,7 @@
-use Rattle.std.proofs.Common.{◌≡◌, ◌∙◌, sym, subst, [], IfNone}
-use Rattle.hwdb_inspect.specs.Internal.Walks.{IsWalkOf}
+use Rattle.std.proofs.Common.{◌≡◌, ◌∙◌, sym, subst, [], IfNone, IfSome, List, Option, ℕ}
+use Rattle.hwdb_inspect.specs.Internal.Walks.{IsAtOne, IsOf, IsWalkOf}
+use Rattle.hwdb_reader.specs.Unread.{IsFrom, file_in}
+use Rattle.hwdb_reader.specs.declared.view.Inside.{Inside}
 use Rattle.hwdb_inspect.specs.declared.walk.Walk.{Walk}
 use Rattle.hwdb_inspect.proofs.MeetingLemmas.{found_next, next_node, some_next}
 use Rattle.hwdb_inspect.proofs.members.Members.pass.Goals as goal
@@ -31,4 +33,19 @@ nodes-preserved c = record {
   };
   left = next_node c.nodes.self c.look.new.self.walk c.next.new.self c.in-Some.inside c.look.ensures.same c.in-Some.is (c.look.ensures.none c.if-look.false) c.in_ok-next.ensures.rest
       ∙ c.nodes.invariant.left;
+  file = λ f are.
+      let held : IsOf f c.look.new.self.walk = subst (λ (w : Walk). IsOf f w) (sym c.look.ensures.same) (c.nodes.invariant.file f are) in
+      record { stack = c.in_ok-next.ensures.files f held.stack; at = c.in_ok-next.ensures.file f held.stack };
 }
+
+pub returns-then-look-clause-file : goal.returns-then-look-clause-file
+returns-then-look-clause-file c f are =
+    let held = c.nodes.invariant.file f are in
+    let here : file_in c.in-Some.inside ≡ f = subst (λ (o : Option Inside). IsAtOne f o) c.in-Some.is held.at in
+    record {
+      walk = subst (λ (w : Walk). IsOf f w) (sym c.look.ensures.same) held;
+      next = subst (λ (g : List ℕ). IfSome c.look.new.self.next (IsFrom g)) here c.look.ensures.file;
+    }
+
+pub returns-clause-file : goal.returns-clause-file
+returns-clause-file c f are = record { walk = c.nodes.invariant.file f are; next = tt }

@@ -1,15 +1,12 @@
-use Rattle.std.proofs.Common.{◌∙◌, ap, ◌++◌}
-use Rattle.hwdb_inspect.specs.Internal.Walks.{rest_of}
-use Rattle.hwdb_inspect.proofs.MeetingLemmas.{none_looked}
+use Rattle.std.proofs.lemmas.Result.{IfOk-weaker}
+use Rattle.hwdb_reader.specs.Unread.{file_at}
 use Rattle.hwdb_inspect.proofs.members.Members.start.Goals as goal
 
-pub pass-requires : goal.pass-requires
-pass-requires c = (c.args.db.now, record { walk = c.in_ok-walk.ensures.walk; end = c.in_ok-walk.ensures.end })
-
 pub returns-clause-all : goal.returns-clause-all
-returns-clause-all c =
-    let w = c.in_ok-walk.walk in
-    c.in_ok-pass.ensures.left ∙ ap (λ l. l ++ rest_of w) (none_looked w.path.items w.at) ∙ c.in_ok-walk.ensures.all
+returns-clause-all c = c.start_at.ensures.all c.args.db.now c.root.ensures.root
 
 pub returns-clause-walk : goal.returns-clause-walk
-returns-clause-walk c = c.in_ok-pass.ensures.walk c.args.db.now (record { walk = c.in_ok-walk.ensures.walk; end = c.in_ok-walk.ensures.end })
+returns-clause-walk c = c.start_at.ensures.walk c.args.db.now c.root.ensures.root
+
+pub returns-clause-file : goal.returns-clause-file
+returns-clause-file c = IfOk-weaker c.start_at.result _ _ (λ m is. (file_at c.root.result, is)) c.start_at.ensures.file

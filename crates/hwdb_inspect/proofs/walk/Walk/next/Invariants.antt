@@ -1,5 +1,5 @@
-use Rattle.std.proofs.Common.{◌≡◌, ◌<◌, ◌+◌, ◌≤◌, ◌^◌, None, max, reverse, length}
-use Rattle.hwdb_inspect.specs.Internal.Walks.{to_come, StandsOn, left, steps, deepest_to_come}
+use Rattle.std.proofs.Common.{All, List, ℕ, ◌≡◌, ◌<◌, ◌+◌, ◌≤◌, ◌^◌, None, max, reverse, length}
+use Rattle.hwdb_inspect.specs.Internal.Walks.{IsOpenIn, to_come, StandsOn, left, steps, deepest_to_come}
 use Rattle.hwdb_inspect.proofs.walk.Walk.next.Given as goal
 
 abbrev pub invariant-nodes : goal.invariant-nodes
@@ -12,6 +12,7 @@ invariant-nodes l = record {
   left : left (reverse l.self.stack.items) ≡ left (reverse l.initial.self.stack.items);
   deepest : max l.self.deepest (deepest_to_come (reverse l.self.stack.items)) ≡ max l.initial.self.deepest (deepest_to_come (reverse l.initial.self.stack.items));
   reached : length l.self.stack.items ≤ l.self.deepest;
+  files : (f : List ℕ) → All (IsOpenIn f) l.initial.self.stack.items → All (IsOpenIn f) l.self.stack.items;
 }
 
 abbrev pub decreases-nodes : goal.decreases-nodes

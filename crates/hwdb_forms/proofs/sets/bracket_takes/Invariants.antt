@@ -3,7 +3,7 @@ use Rattle.std.specs.List.{list_any}
 use Rattle.hwdb_spec.specs.Patterns.{token_at}
 use Rattle.hwdb_spec.specs.Forms.{all_bytes_from, candidates}
 use Rattle.hwdb_forms.specs.Internal.{takes_of_set}
-use Rattle.hwdb_forms.proofs.sets.bracket_meets.Given as goal
+use Rattle.hwdb_forms.proofs.sets.bracket_takes.Given as goal
 
 abbrev pub invariant-loop-byte : goal.invariant-loop-byte
 invariant-loop-byte l = record {

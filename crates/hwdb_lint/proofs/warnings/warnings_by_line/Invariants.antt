@@ -4,7 +4,7 @@ use Rattle.hwdb_spec.specs.Findings.{line_text, warnings_text}
 use Rattle.hwdb_spec.specs.Lines.{numbered}
 use Rattle.hwdb_spec.specs.Warnings.{line_warnings, warnings}
 use Rattle.hwdb_text.specs.PiecesLeft.{lines_left}
-use Rattle.hwdb_lint.proofs.warnings.warnings_of.Given as goal
+use Rattle.hwdb_lint.proofs.warnings.warnings_by_line.Given as goal
 
 abbrev pub invariant-loop-text : goal.invariant-loop-text
 invariant-loop-text l = record {

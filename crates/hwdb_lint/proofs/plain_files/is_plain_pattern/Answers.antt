@@ -1,0 +1,12 @@
+use Rattle.std.proofs.Common.{◌∙◌, ap, sym}
+use Rattle.hwdb_spec.specs.Unmatched.{is_unmatched}
+use Rattle.hwdb_lint.proofs.PlainLemmas.{false_if}
+use Rattle.hwdb_lint.proofs.plain_files.is_plain_pattern.Goals as goal
+
+pub returns : goal.returns
+returns c = λ e. record {
+  mark = sym c.begins_with_mark.ensures ∙ c.if-begins_with_mark.false;
+  tab = sym c.begins_with_tab.ensures ∙ c.if-begins_with_tab.false;
+  bracket = sym c.holds_bracket.ensures ∙ c.if-holds_bracket.false;
+  judged = ap is_unmatched (sym c.in_ok-judgement.ensures) ∙ sym c.is_unmatched.ensures ∙ false_if _ e;
+}
