@@ -19,7 +19,7 @@ ghost use Rattle.std.specs.List.Sorted.{IsStrictlySortedBy};
 ghost use Rattle.hwdb_spec.specs.Tree.{values_under};
 ghost use Rattle.hwdb_writer.specs.declared.entries.Setting.{Setting as EntryRecord};
 ghost use Rattle.hwdb_writer.specs.Internal.Storable.{IsSound};
-ghost use Rattle.hwdb_writer.specs.Internal.Entries.{by_place, placed, IsStorableEntry};
+ghost use Rattle.hwdb_writer.specs.Internal.Entries.{by_place, placed, now_of, IsStorableEntry};
 ghost use Rattle.hwdb_writer.specs.Internal.PostOrder.{IsPostOrder, tree_of};
 ghost use Rattle.hwdb_writer.specs.Internal.Spine.{Frame, IsClosable, IsClosedTo, IsBuilt, IsNext, IsFinished, MeetAt, Closes, Cuts, Opens, Counts};
 ghost use Rattle.hwdb_writer.specs.declared.builder.OpenBranch.{OpenBranch as OpenRecord};
@@ -253,14 +253,16 @@ impl<'t> Builder<'t> {
 /// One pass over the entries' patterns. The only error is `AllocError`.
 pub fn post_order<'t>(
     alloc: Global,
-    entries: &[Setting<'t>],
+    entries: &[&Setting<'t>],
 ) -> Result<Vec<BuiltNode<'t>>, AllocError>
-    requires ascending { IsStrictlySortedBy by_place entries.now }
-    requires storable { AllByRecursion IsStorableEntry entries.now }
-    ensures order { IfOk result (λ nodes. IsPostOrder entries.now nodes.items) }
-    ensures sound { IfOk result (λ nodes. IsSound (tree_of entries.now nodes.items)) }
-    ensures values { IfOk result (λ nodes. values_under [] (tree_of entries.now nodes.items)
-        ≡ map placed entries.now) }
+    requires ascending { IsStrictlySortedBy by_place (map now_of entries.now) }
+    requires storable { AllByRecursion IsStorableEntry (map now_of entries.now) }
+    ensures order { IfOk result (λ nodes. IsPostOrder (map now_of entries.now) nodes.items) }
+    ensures sound { IfOk result
+        (λ nodes. IsSound (tree_of (map now_of entries.now) nodes.items)) }
+    ensures values { IfOk result
+        (λ nodes. values_under [] (tree_of (map now_of entries.now) nodes.items)
+        ≡ map placed (map now_of entries.now)) }
 {
     let mut builder = Builder::new(alloc, entries.len())?;
     for (number, entry) in entries.iter().enumerate() {
