@@ -1,4 +1,4 @@
-use Rattle.std.proofs.Common.{◌≡◌, arith, sym, ap, get_or, map}
+use Rattle.std.proofs.Common.{arith, ap, get_or, map}
 use Rattle.std.proofs.lemmas.List.{get_or-map, length-map}
 use Rattle.hwdb_writer.specs.Internal.Entries.{now_of}
 use Rattle.hwdb_writer.specs.declared.entries.Setting.{Setting}

@@ -1,4 +1,4 @@
-use Rattle.std.proofs.Common.{refl, subst, List, ℕ, ◌++◌, ◌∷◌, []}
+use Rattle.std.proofs.Common.{refl, subst, List, ◌++◌, ◌∷◌, []}
 use Rattle.hwdb_spec.specs.Written.{strings_of}
 use Rattle.hwdb_writer.specs.Internal.PostOrder.{tree_of}
 use Rattle.hwdb_writer.specs.Internal.Stored.{IsUnder, AreNodes, all_values, prefixes}

@@ -1,4 +1,4 @@
-use Rattle.std.proofs.Common.{arith, subst, sym, ◌∙◌, ◌≡◌, ap, ◌+◌, ◌-◌, List, ◌++◌, get_or, take, drop, map, length}
+use Rattle.std.proofs.Common.{arith, subst, sym, ◌∙◌, ◌≡◌, ap, ◌+◌, ◌-◌, List, ◌++◌, get_or, take, drop, map}
 use Rattle.hwdb_writer.specs.Internal.Entries.{value_of, now_of}
 use Rattle.hwdb_writer.specs.Internal.PostOrder.{values_at}
 use Rattle.hwdb_writer.specs.Internal.Stored.{IsUnder, AreValues, all_values}
