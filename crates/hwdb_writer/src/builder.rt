@@ -88,9 +88,11 @@ fn common(a: &[u8], b: &[u8]) -> usize
     n
 }
 
-/// For how many nodes there is room, for each entry. At most two come: the one that is opened for it, and the rest of one
-/// that is cut.
-const NODES_AN_ENTRY: usize = 2;
+/// For how many nodes of so many entries there is room from the start. At most two come for an entry: the one that is opened
+/// for it, and the rest of one that is cut. In people's files fewer do, and unused room would lie between what is used again.
+fn room_for(entries: usize) -> usize {
+    (entries / 2).saturating_add(entries).saturating_add(1)
+}
 
 /// For how many open nodes there is room from the start. glibc keeps short lists that are let go of for lists as short. One of
 /// these would lie between the nodes and the strings, whose memory the database takes as one piece.
@@ -102,7 +104,7 @@ impl<'t> Builder<'t> {
         ensures { IfOk result (λ made. (es : List EntryRecord)
             → (fs : List Frame) × IsBuilt es 0 made fs) }
     {
-        let room = entries.saturating_mul(NODES_AN_ENTRY).saturating_add(1);
+        let room = room_for(entries);
         let closed = Vec::with_capacity(alloc, room)?;
         let above = Vec::with_capacity(alloc, OPEN_NODES)?;
         Ok(Builder {

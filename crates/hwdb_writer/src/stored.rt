@@ -174,8 +174,8 @@ pub fn with_values<'t>(
     ensures { IfOk result (λ s. (s.nodes.items ≡ nodes.entry.items)
         × IsValued (map now_of entries.now) s) }
 {
-    // Most keys and paths come again, and so does the string of many a node. As many bytes were let go of by the sort.
-    let looked_up = entries.len().saturating_mul(2);
+    // Most keys and paths come again, and so does the string of many a node.
+    let looked_up = entries.len().saturating_add(nodes.len());
     let mut interner = Interner::new(alloc, nodes.len(), looked_up)?;
     let values = store_values(alloc, entries, &nodes, &mut interner)?;
     Ok(StoredValues {
