@@ -19,7 +19,7 @@ ghost use Rattle.std.specs.List.Sorted.{IsStrictlySortedBy};
 ghost use Rattle.hwdb_spec.specs.Tree.{values_under};
 ghost use Rattle.hwdb_writer.specs.declared.entries.Setting.{Setting as EntryRecord};
 ghost use Rattle.hwdb_writer.specs.Internal.Storable.{IsSound};
-ghost use Rattle.hwdb_writer.specs.Internal.Entries.{by_place, placed, IsStorableEntry};
+ghost use Rattle.hwdb_writer.specs.Internal.Entries.{by_place, placed, now_of, IsStorableEntry};
 ghost use Rattle.hwdb_writer.specs.Internal.PostOrder.{IsPostOrder, tree_of};
 ghost use Rattle.hwdb_writer.specs.Internal.Spine.{Frame, IsClosable, IsClosedTo, IsBuilt, IsNext, IsFinished, MeetAt, Closes, Cuts, Opens, Counts};
 ghost use Rattle.hwdb_writer.specs.declared.builder.OpenBranch.{OpenBranch as OpenRecord};
@@ -88,9 +88,11 @@ fn common(a: &[u8], b: &[u8]) -> usize
     n
 }
 
-/// For how many nodes there is room, for each entry. At most two come: the one that is opened for it, and the rest of one
-/// that is cut.
-const NODES_AN_ENTRY: usize = 2;
+/// For how many nodes of so many entries there is room from the start. At most two come for an entry: the one that is opened
+/// for it, and the rest of one that is cut. In people's files fewer do, and unused room would lie between what is used again.
+fn room_for(entries: usize) -> usize {
+    (entries / 2).saturating_add(entries).saturating_add(1)
+}
 
 /// For how many open nodes there is room from the start. glibc keeps short lists that are let go of for lists as short. One of
 /// these would lie between the nodes and the strings, whose memory the database takes as one piece.
@@ -102,7 +104,7 @@ impl<'t> Builder<'t> {
         ensures { IfOk result (λ made. (es : List EntryRecord)
             → (fs : List Frame) × IsBuilt es 0 made fs) }
     {
-        let room = entries.saturating_mul(NODES_AN_ENTRY).saturating_add(1);
+        let room = room_for(entries);
         let closed = Vec::with_capacity(alloc, room)?;
         let above = Vec::with_capacity(alloc, OPEN_NODES)?;
         Ok(Builder {
@@ -253,14 +255,16 @@ impl<'t> Builder<'t> {
 /// One pass over the entries' patterns. The only error is `AllocError`.
 pub fn post_order<'t>(
     alloc: Global,
-    entries: &[Setting<'t>],
+    entries: &[&Setting<'t>],
 ) -> Result<Vec<BuiltNode<'t>>, AllocError>
-    requires ascending { IsStrictlySortedBy by_place entries.now }
-    requires storable { AllByRecursion IsStorableEntry entries.now }
-    ensures order { IfOk result (λ nodes. IsPostOrder entries.now nodes.items) }
-    ensures sound { IfOk result (λ nodes. IsSound (tree_of entries.now nodes.items)) }
-    ensures values { IfOk result (λ nodes. values_under [] (tree_of entries.now nodes.items)
-        ≡ map placed entries.now) }
+    requires ascending { IsStrictlySortedBy by_place (map now_of entries.now) }
+    requires storable { AllByRecursion IsStorableEntry (map now_of entries.now) }
+    ensures order { IfOk result (λ nodes. IsPostOrder (map now_of entries.now) nodes.items) }
+    ensures sound { IfOk result
+        (λ nodes. IsSound (tree_of (map now_of entries.now) nodes.items)) }
+    ensures values { IfOk result
+        (λ nodes. values_under [] (tree_of (map now_of entries.now) nodes.items)
+        ≡ map placed (map now_of entries.now)) }
 {
     let mut builder = Builder::new(alloc, entries.len())?;
     for (number, entry) in entries.iter().enumerate() {

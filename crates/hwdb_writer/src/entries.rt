@@ -1,14 +1,14 @@
 //! The assignments that were set, and the last one of each pattern and key among them.
-ghost use Rattle.std.specs.Prelude.{◌≡◌, ◌∷◌, refl, map, IfOk};
+ghost use Rattle.std.specs.Prelude.{◌≡◌, ◌∷◌, refl, map, reverse, IfOk};
 ghost use Rattle.std.specs.Ordering.{eq_by_cmp, as_partial_cmp};
 ghost use Rattle.std.specs.Cmp.{eq_by_cmp_equiv, partial_equiv_from_equiv, partial_order_from_total};
 ghost use Rattle.std.specs.List.Sorted.{IsStrictlySortedBy};
 ghost use Rattle.hwdb_spec.specs.Tree.{surviving, entry_of};
 ghost use Rattle.std.specs.FinMap.{from_entries};
-ghost use Rattle.hwdb_writer.specs.Internal.Entries.{by_place, by_place_total, assignment_of, IsStorableEntry};
+ghost use Rattle.hwdb_writer.specs.Internal.Entries.{by_place, by_place_total, assignment_of, now_of, IsStorableEntry};
 ghost use Rattle.std.specs.List.{AllByRecursion};
 
-use std::alloc::AllocError;
+use std::alloc::{AllocError, Global};
 use std::cmp::Ordering;
 
 /// An assignment that was set. Its texts are borrowed from the bytes of its file, and its path from the caller.
@@ -65,20 +65,38 @@ impl<'t> Ord for Setting<'t> {
     }
 }
 
+/// References to the entries, the last of them first.
+fn last_first<'s, 't>(
+    alloc: Global,
+    all: &'s [Setting<'t>],
+) -> Result<Vec<&'s Setting<'t>>, AllocError>
+    ensures { IfOk result (λ v. map now_of v.items ≡ reverse all.now) }
+{
+    let mut order: Vec<&'s Setting<'t>> = Vec::with_capacity(alloc, all.len())?;
+    for entry in all {
+        order.push(entry)?;
+    }
+    order.reverse();
+    Ok(order)
+}
+
 /// The entries by pattern and key; of those with one pattern and key the last. It takes the entries as they were set.
 ///
 /// Reversed first, so that a stable sort has the last one of each pattern and key in front, and the others are left
-/// out.
-pub fn last_of_each(all: Vec<Setting<'_>>) -> Result<Vec<Setting<'_>>, AllocError>
-    ensures ascending { IfOk result (λ v. IsStrictlySortedBy by_place v.items) }
-    ensures storable { AllByRecursion IsStorableEntry all.entry.items
-        → IfOk result (λ v. AllByRecursion IsStorableEntry v.items) }
-    ensures same { IfOk result (λ v. from_entries (map entry_of (map assignment_of v.items))
-        ≡ surviving (map assignment_of all.entry.items)) }
+/// out. References are sorted, which are a ninth as long as entries.
+pub fn last_of_each<'s, 't>(
+    alloc: Global,
+    all: &'s [Setting<'t>],
+) -> Result<Vec<&'s Setting<'t>>, AllocError>
+    ensures ascending { IfOk result (λ v. IsStrictlySortedBy by_place (map now_of v.items)) }
+    ensures storable { AllByRecursion IsStorableEntry all.now
+        → IfOk result (λ v. AllByRecursion IsStorableEntry (map now_of v.items)) }
+    ensures same { IfOk result
+        (λ v. from_entries (map entry_of (map assignment_of (map now_of v.items)))
+        ≡ surviving (map assignment_of all.now)) }
 {
-    let mut entries = all;
-    entries.reverse();
-    entries.sort()?;
-    entries.dedup();
-    Ok(entries)
+    let mut order = last_first(alloc, all)?;
+    order.sort()?;
+    order.dedup();
+    Ok(order)
 }

@@ -1,23 +1,26 @@
 //! The written form of a tree: its header, nodes section and string section.
-ghost use Rattle.std.specs.Prelude.{◌≡◌, ◌<◌, ◌≤◌, ◌++◌, ◌+◌, ◌^◌, OnOk, IfOk, MatchOption, flat_map, length, List, ℕ};
+ghost use Rattle.std.specs.Prelude.{◌≡◌, ◌<◌, ◌≤◌, ◌++◌, ◌+◌, ◌^◌, OnOk, IfOk, MatchOption, flat_map, length, map, List, ℕ};
 ghost use Rattle.std.specs.Result.{IsErrOf};
 ghost use Rattle.byteorder.specs.Endian.{little_bytes};
 ghost use Rattle.hwdb_spec.specs.Written.{text_size, record_at, written, IsWritten, IsLonger, IsDatabaseOf};
-ghost use Rattle.hwdb_writer.specs.declared.entries.Setting.{Setting};
+ghost use Rattle.hwdb_writer.specs.declared.entries.Setting.{Setting as EntryRecord};
 ghost use Rattle.hwdb_writer.specs.declared.nodes.BuiltNode.{BuiltNode};
 ghost use Rattle.hwdb_writer.specs.Internal.Narrow.{IsNarrow};
 ghost use Rattle.hwdb_writer.specs.Internal.PostOrder.{tree_of, IsPostOrder};
-ghost use Rattle.hwdb_writer.specs.Internal.Stored.{IsAt, AreNodes, IsStored, IsLaidOut, IsMade};
+ghost use Rattle.std.specs.List.{AllByRecursion};
+ghost use Rattle.hwdb_spec.specs.Tree.{surviving};
+ghost use Rattle.hwdb_writer.specs.Internal.Entries.{assignment_of, IsStorableEntry};
+ghost use Rattle.hwdb_writer.specs.Internal.Stored.{IsAt, AreNodes, IsValued, IsStored, IsLaidOut, IsMade};
 
 use crate::assignments::Assignments;
 use crate::builder::post_order;
-use crate::entries::last_of_each;
+use crate::entries::{Setting, last_of_each};
 use crate::memory::keep_pages;
 use crate::records::{
     CHILD_SIZE, HEADER_SIZE, NODE_SIZE, VALUE_SIZE, push_records, push_u64, record_length,
     text_length,
 };
-use crate::stored::{Stored, StoredNode, StoredValue, store};
+use crate::stored::{Stored, StoredNode, StoredValue, StoredValues, store, with_values};
 use crate::strings::table_of;
 use hwdb_spec::StoreError;
 use std::alloc::{AllocError, Global};
@@ -38,10 +41,10 @@ fn push_numbers(out: &mut Vec<u8>, numbers: &[usize]) -> Result<(), AllocError>
 /// The offset of the root's record, after a nodes section of so many bytes.
 fn root_place(nodes: &[StoredNode], size: usize) -> usize
     requires { (place : List ℕ → ℕ) × (places : List ℕ)
-        × (es : List Setting) × (ns : List BuiltNode)
+        × (es : List EntryRecord) × (ns : List BuiltNode)
         × IsPostOrder es ns × AreNodes (IsAt place places) nodes.now ns
         × (size ≡ text_size (tree_of es ns)) × (80 + size < 2 ^ 64) }
-    ensures { (place : List ℕ → ℕ) (places : List ℕ) (es : List Setting) (ns : List BuiltNode)
+    ensures { (place : List ℕ → ℕ) (places : List ℕ) (es : List EntryRecord) (ns : List BuiltNode)
         → IsPostOrder es ns → AreNodes (IsAt place places) nodes.now ns
         → size ≡ text_size (tree_of es ns) → result ≡ record_at 80 (tree_of es ns) }
 {
@@ -60,9 +63,9 @@ fn database(
     size: usize,
     section: &[u8],
 ) -> Result<Vec<u8>, AllocError>
-    requires { (es : List Setting) × (ns : List BuiltNode)
+    requires { (es : List EntryRecord) × (ns : List BuiltNode)
         × IsLaidOut es ns nodes.now values.now places.now size section.now }
-    ensures { IfOk result (λ v. (es : List Setting) (ns : List BuiltNode)
+    ensures { IfOk result (λ v. (es : List EntryRecord) (ns : List BuiltNode)
         → IsLaidOut es ns nodes.now values.now places.now size section.now
         → v.items ≡ written (tree_of es ns)) }
 {
@@ -85,9 +88,9 @@ fn database_within(
     stored: Stored<'_>,
     max_bytes: u32,
 ) -> Result<Option<Vec<u8>>, AllocError>
-    requires { (es : List Setting) × (ns : List BuiltNode) × IsStored es ns stored
+    requires { (es : List EntryRecord) × (ns : List BuiltNode) × IsStored es ns stored
         × IsNarrow (tree_of es ns) }
-    ensures { IfOk result (λ o. (es : List Setting) (ns : List BuiltNode)
+    ensures { IfOk result (λ o. (es : List EntryRecord) (ns : List BuiltNode)
         → IsStored es ns stored.entry → IsNarrow (tree_of es ns)
         → let bytes = written (tree_of es ns) in MatchOption o (max_bytes < length bytes)
         (λ v. (v.items ≡ bytes) × (length bytes ≤ max_bytes))) }
@@ -106,15 +109,26 @@ fn database_within(
     Ok(Some(bytes))
 }
 
+/// The nodes of the tight tree of what was set, and their values with strings by number. It consumes what was set, so that
+/// its memory is free for the nodes with strings by number.
+fn stored_values<'t>(alloc: Global, all: Vec<Setting<'t>>) -> Result<StoredValues<'t>, AllocError>
+    requires { AllByRecursion IsStorableEntry all.items }
+    ensures { IfOk result (λ s. (es : List EntryRecord) × IsValued es s
+        × IsMade (surviving (map assignment_of all.entry.items)) (tree_of es s.nodes.items)) }
+{
+    let entries = last_of_each(alloc, &all)?;
+    let nodes = post_order(alloc, &entries)?;
+    with_values(alloc, &entries, nodes)
+}
+
 /// The nodes of the tight tree of what was set, with strings by number. It consumes the tree, and frees what was set.
 fn stored_nodes<'t>(alloc: Global, tree: Assignments<'t>) -> Result<Stored<'t>, AllocError>
-    ensures { IfOk result (λ s. (es : List Setting) × (ns : List BuiltNode) × IsStored es ns s
+    ensures { IfOk result (λ s. (es : List EntryRecord) × (ns : List BuiltNode) × IsStored es ns s
         × IsMade tree.entry (tree_of es ns)) }
 {
     keep_pages(alloc);
-    let entries = last_of_each(tree.entries)?;
-    let nodes = post_order(alloc, &entries)?;
-    store(alloc, entries, &nodes)
+    let half = stored_values(alloc, tree.entries)?;
+    store(alloc, half)
 }
 
 /// The database of the tree's map, of at most `max_bytes` bytes. It consumes the tree, so that it takes less memory

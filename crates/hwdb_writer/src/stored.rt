@@ -1,11 +1,12 @@
 //! Nodes and their values as a database has them, but for offsets: strings have numbers, and records have none yet.
-ghost use Rattle.std.specs.Prelude.{◌++◌, ◌∷◌, [], List, OnOk, IfOk, map, flat_map};
+ghost use Rattle.std.specs.Prelude.{◌≡◌, ◌++◌, ◌∷◌, [], List, OnOk, IfOk, map, flat_map};
 ghost use Rattle.hwdb_spec.specs.Tree.{Value};
 ghost use Rattle.hwdb_spec.specs.Written.{strings_of_value};
-ghost use Rattle.hwdb_writer.specs.Internal.Entries.{value_of};
+ghost use Rattle.hwdb_writer.specs.declared.entries.Setting.{Setting as EntryRecord};
+ghost use Rattle.hwdb_writer.specs.Internal.Entries.{value_of, now_of};
 ghost use Rattle.hwdb_writer.specs.Internal.PostOrder.{IsPostOrder};
 ghost use Rattle.hwdb_writer.specs.Internal.Membership.{SameMembers};
-ghost use Rattle.hwdb_writer.specs.Internal.Stored.{Grows, AreNodes, AreValues, IsUnder, IsStored, all_values, prefixes};
+ghost use Rattle.hwdb_writer.specs.Internal.Stored.{Grows, AreNodes, AreValues, IsUnder, IsValued, IsStored, all_values, prefixes};
 
 use crate::entries::Setting;
 use crate::interner::Interner;
@@ -31,6 +32,14 @@ pub struct StoredNode {
     pub children: u16,
     pub prefix: usize,
     pub count: usize,
+}
+
+/// The nodes of a tree, with their strings. The values of all of them one after another, and the strings of the values.
+#[derive(Drop)]
+pub struct StoredValues<'t> {
+    pub nodes: Vec<BuiltNode<'t>>,
+    pub values: Vec<StoredValue>,
+    pub interner: Interner<'t>,
 }
 
 /// The nodes of a tree, the values of all of them one after another, and their strings.
@@ -80,17 +89,17 @@ fn push_value<'t>(
 
 /// Appends the values of the entries.
 fn push_values<'t>(
-    entries: &[Setting<'t>],
+    entries: &[&Setting<'t>],
     interner: &mut Interner<'t>,
     out: &mut Vec<StoredValue>,
 ) -> Result<(), AllocError>
     ensures grows { OnOk result (Grows interner.old interner.new) }
     ensures members { OnOk result (SameMembers interner.new
-        (interner.old ++ flat_map strings_of_value (map value_of entries.now))) }
+        (interner.old ++ flat_map strings_of_value (map value_of (map now_of entries.now)))) }
     ensures values { OnOk result ((xs : List Value)
         → AreValues (IsUnder interner.old) out.old.items xs
         → AreValues (IsUnder interner.new) out.new.items
-        (xs ++ map value_of entries.now)) }
+        (xs ++ map value_of (map now_of entries.now))) }
 {
     for entry in entries {
         push_value(entry, interner, out)?;
@@ -98,20 +107,19 @@ fn push_values<'t>(
     Ok(())
 }
 
-/// The values of the nodes, one node's after another's. It consumes the entries, so that their memory is free for the
-/// nodes.
+/// The values of the nodes, one node's after another's.
 fn store_values<'t>(
     alloc: Global,
-    entries: Vec<Setting<'t>>,
+    entries: &[&Setting<'t>],
     nodes: &[BuiltNode<'t>],
     interner: &mut Interner<'t>,
 ) -> Result<Vec<StoredValue>, AllocError>
-    requires { IsPostOrder entries.items nodes.now }
+    requires { IsPostOrder (map now_of entries.now) nodes.now }
     ensures members { OnOk result (SameMembers interner.new
         (interner.old
-        ++ flat_map strings_of_value (all_values entries.entry.items nodes.now))) }
+        ++ flat_map strings_of_value (all_values (map now_of entries.now) nodes.now))) }
     ensures values { IfOk result (λ v. AreValues (IsUnder interner.new) v.items
-        (all_values entries.entry.items nodes.now)) }
+        (all_values (map now_of entries.now) nodes.now)) }
 {
     let mut values = Vec::with_capacity(alloc, entries.len())?;
     for node in nodes {
@@ -157,22 +165,36 @@ fn store_nodes<'t>(
 
 /// The nodes, each after its children, and the values that they have among the entries. Each string of these is looked
 /// up once.
-pub fn store<'t>(
+pub fn with_values<'t>(
     alloc: Global,
-    entries: Vec<Setting<'t>>,
-    nodes: &[BuiltNode<'t>],
-) -> Result<Stored<'t>, AllocError>
-    requires { IsPostOrder entries.items nodes.now }
-    ensures { IfOk result (IsStored entries.entry.items nodes.now) }
+    entries: &[&Setting<'t>],
+    nodes: Vec<BuiltNode<'t>>,
+) -> Result<StoredValues<'t>, AllocError>
+    requires { IsPostOrder (map now_of entries.now) nodes.items }
+    ensures { IfOk result (λ s. (s.nodes.items ≡ nodes.entry.items)
+        × IsValued (map now_of entries.now) s) }
 {
     // Most keys and paths come again, and so does the string of many a node.
     let looked_up = entries.len().saturating_add(nodes.len());
     let mut interner = Interner::new(alloc, nodes.len(), looked_up)?;
-    let values = store_values(alloc, entries, nodes, &mut interner)?;
-    let nodes = store_nodes(alloc, nodes, &mut interner)?;
-    Ok(Stored {
+    let values = store_values(alloc, entries, &nodes, &mut interner)?;
+    Ok(StoredValues {
         nodes,
         values,
+        interner,
+    })
+}
+
+/// The nodes, with their strings by number too. Each of these is looked up once.
+pub fn store(alloc: Global, half: StoredValues<'_>) -> Result<Stored<'_>, AllocError>
+    ensures { IfOk result (λ s. (es : List EntryRecord) → IsValued es half.entry
+        → IsStored es half.entry.nodes.items s) }
+{
+    let mut interner = half.interner;
+    let nodes = store_nodes(alloc, &half.nodes, &mut interner)?;
+    Ok(Stored {
+        nodes,
+        values: half.values,
         interner,
     })
 }

@@ -1,5 +1,6 @@
 -- What an entry sets: a value at a pattern and a key.
 use Rattle.std.specs.Prelude.{List, ℕ, ◌∷◌, ◌≤◌, length}
+use Rattle.std.specs.Borrow.{Bor}
 use Rattle.std.specs.Cmp.{IsTotalOrder, on_total, then_total}
 use Rattle.std.specs.Cmp.Lexicographic.{nat_list_cmp_total}
 use Rattle.std.specs.declared.cmp.Ordering.{Ordering}
@@ -34,6 +35,10 @@ by_place a b = place_cmp (place_of a) (place_of b)
 pub by_place_total : IsTotalOrder by_place
 by_place_total =
     then_total (on_total (λ (e : Setting). e.pattern.now) nat_list_cmp_total) (on_total (λ (e : Setting). e.key.now) nat_list_cmp_total)
+
+-- the entry that a reference is to
+abbrev pub now_of : Bor Setting → Setting
+now_of r = r.now
 
 -- a tree can hold it
 pub record IsStorableEntry (e : Setting) : Type 0 where

@@ -4,8 +4,9 @@ use Rattle.byteorder.specs.Endian.{little_bytes}
 use Rattle.std.specs.List.{AllZip}
 use Rattle.hwdb_spec.specs.Assignment.{ascending}
 use Rattle.hwdb_spec.specs.Tree.{Map, Tree, Value, map_of}
-use Rattle.hwdb_spec.specs.Written.{padding, table_of, text_size, section_of, place_of, value_text}
+use Rattle.hwdb_spec.specs.Written.{padding, table_of, text_size, section_of, place_of, value_text, strings_of_value}
 use Rattle.hwdb_writer.specs.Internal.Narrow.{IsNarrow}
+use Rattle.hwdb_writer.specs.Internal.Membership.{SameMembers}
 use Rattle.hwdb_writer.specs.Internal.PostOrder.{IsPostOrder, tree_of, values_at}
 use Rattle.hwdb_writer.specs.Internal.Storable.{IsSound}
 use Rattle.hwdb_writer.specs.declared.entries.Setting.{Setting}
@@ -13,6 +14,7 @@ use Rattle.hwdb_writer.specs.declared.nodes.BuiltNode.{BuiltNode}
 use Rattle.hwdb_writer.specs.declared.stored.Stored.{Stored}
 use Rattle.hwdb_writer.specs.declared.stored.StoredNode.{StoredNode}
 use Rattle.hwdb_writer.specs.declared.stored.StoredValue.{StoredValue}
+use Rattle.hwdb_writer.specs.declared.stored.StoredValues.{StoredValues}
 
 -- the string has the number
 pub record IsUnder (words : List (List ℕ)) (number : ℕ) (s : List ℕ) : Type 0 where
@@ -56,6 +58,12 @@ all_values es ns = flat_map (values_at es) ns
 -- the strings of the nodes
 abbrev pub prefixes : List BuiltNode → List (List ℕ)
 prefixes = map (λ (n : BuiltNode). n.prefix.now)
+
+-- the nodes of entries, their values, and the strings of the values after the empty string
+pub record IsValued (es : List Setting) (s : StoredValues) : Type 0 where
+  pub order : IsPostOrder es s.nodes.items
+  pub values : AreValues (IsUnder s.interner) s.values.items (all_values es s.nodes.items)
+  pub members : SameMembers s.interner (([] ∷ []) ++ flat_map strings_of_value (all_values es s.nodes.items))
 
 -- the nodes and values of entries, and their strings
 pub record IsStored (es : List Setting) (ns : List BuiltNode) (s : Stored) : Type 0 where

@@ -1,17 +1,10 @@
-use Rattle.std.proofs.Common.{sym, refl}
+use Rattle.std.proofs.Common.{◌∙◌}
 use Rattle.std.proofs.lemmas.Result.{IfOk-weaker}
-use Rattle.hwdb_writer.proofs.MadeLemmas.{made}
 use Rattle.hwdb_writer.proofs.output.stored_nodes.Goals as goal
 
 pub returns : goal.returns
 returns c =
+    let half = c.in_ok-half.ensures in
     IfOk-weaker c.store.result _ _
-    (λ s st. (
-      c.in_ok-entries.entries.items,
-      c.deref-2.result.now,
-      st,
-      made c.deref.result.now c.in_ok-entries.entries.items c.in_ok-entries.entries.items c.tree.inside.entries.items c.tree.inside.entries.items c.in_ok-nodes.nodes.items c.deref-2.result.now c.args.tree
-          c.deref.ensures.value (sym c.deref-2.ensures.value) (sym c.deref.ensures.value) refl
-          c.in_ok-nodes.ensures.sound c.in_ok-nodes.ensures.values c.in_ok-entries.ensures.same c.tree.view_is,
-    ))
+    (λ s h. (half.0, c.in_ok-half.half.nodes.items, h half.0 half.1, record { sound = half.2.sound; same = half.2.same ∙ c.tree.view_is }))
     c.store.ensures

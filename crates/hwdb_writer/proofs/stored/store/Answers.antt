@@ -1,24 +1,23 @@
-use Rattle.std.proofs.Common.{refl, subst, List, ℕ, ◌++◌, ◌∷◌, []}
+use Rattle.std.proofs.Common.{refl, subst, List, ◌++◌, ◌∷◌, []}
 use Rattle.hwdb_spec.specs.Written.{strings_of}
 use Rattle.hwdb_writer.specs.Internal.PostOrder.{tree_of}
+use Rattle.hwdb_writer.specs.Internal.Stored.{IsUnder, AreNodes, all_values, prefixes}
 use Rattle.hwdb_writer.specs.Internal.Membership.{SameMembers}
-use Rattle.hwdb_writer.specs.Internal.Stored.{IsUnder, all_values}
+use Rattle.hwdb_writer.specs.declared.nodes.BuiltNode.{BuiltNode}
 use Rattle.hwdb_writer.proofs.MembershipLemmas.{collected}
-use Rattle.hwdb_writer.proofs.SplitLemmas.{all_strings, value_texts}
+use Rattle.hwdb_writer.proofs.SplitLemmas.{all_strings}
 use Rattle.hwdb_writer.proofs.StoredLemmas.{values_by}
 use Rattle.hwdb_writer.proofs.stored.store.Goals as goal
 
 pub returns : goal.returns
-returns c =
-    let es = c.args.entries.items in
-    let ns = c.args.nodes.now in
-    let between = c.store_values.new.interner in
+returns c es half =
+    let ns = c.args.half.nodes.items in
+    let between = c.args.half.interner in
     let words = c.store_nodes.new.interner in
-    let S : List (List ℕ) → Type 0 = λ l. SameMembers between (l ++ value_texts es ns) in
+    let P : List BuiltNode → Type 0 = λ l. SameMembers words (between ++ prefixes l) in
     record {
-      order = c.requires;
-      nodes = c.in_ok-nodes.ensures.nodes;
-      values = values_by (IsUnder between) (IsUnder words) c.in_ok-nodes.ensures.grows c.in_ok-values.values.items (all_values es ns) c.in_ok-values.ensures.values;
-      strings = collected words ([] ∷ []) (strings_of (tree_of es ns)) refl
-          (all_strings es ns c.requires ([] ∷ []) between words (subst S c.in_ok-interner.ensures c.in_ok-values.ensures.members) c.in_ok-nodes.ensures.members);
+      order = half.order;
+      nodes = subst (AreNodes (IsUnder words) c.in_ok-nodes.nodes.items) c.deref.ensures.value c.in_ok-nodes.ensures.nodes;
+      values = values_by (IsUnder between) (IsUnder words) c.in_ok-nodes.ensures.grows c.args.half.values.items (all_values es ns) half.values;
+      strings = collected words ([] ∷ []) (strings_of (tree_of es ns)) refl (all_strings es ns half.order ([] ∷ []) between words half.members (subst P c.deref.ensures.value c.in_ok-nodes.ensures.members));
     }

@@ -1,24 +1,25 @@
-use Rattle.std.proofs.Common.{arith, subst, sym, ◌∙◌, ◌≡◌, ap, ◌+◌, ◌-◌, List, ◌++◌, get_or, take, drop, map, length}
-use Rattle.hwdb_writer.specs.Internal.Entries.{value_of}
+use Rattle.std.proofs.Common.{arith, subst, sym, ◌∙◌, ◌≡◌, ap, ◌+◌, ◌-◌, List, ◌++◌, get_or, take, drop, map}
+use Rattle.hwdb_writer.specs.Internal.Entries.{value_of, now_of}
 use Rattle.hwdb_writer.specs.Internal.PostOrder.{values_at}
 use Rattle.hwdb_writer.specs.Internal.Stored.{IsUnder, AreValues, all_values}
 use Rattle.hwdb_writer.specs.declared.entries.Setting.{Setting}
 use Rattle.hwdb_writer.proofs.EmissionLemmas.{in_range, no_node, cut_out}
+use Rattle.std.proofs.lemmas.List.{length-map, take-map, drop-map}
 use Rattle.hwdb_writer.proofs.SplitLemmas.{values_step}
 use Rattle.hwdb_writer.proofs.StoredLemmas.{values_more}
 use Rattle.hwdb_writer.proofs.stored.store_values.Goals as goal
 
 pub loop-node-preserved : goal.loop-node-preserved
 loop-node-preserved c =
-    let es = c.args.entries.items in
+    let rs = c.args.entries.now in
+    let es = map now_of rs in
     let ns = c.args.nodes.now in
     let i = c.loop-node.node-index in
     let lt = c.loop-node-test.true in
     let n = get_or ns i no_node in
-    let vals : List Setting = take (n.first + n.count - n.first) (drop n.first c.deref.result.now) in
+    let vals : List Setting = map now_of (take (n.first + n.count - n.first) (drop n.first rs)) in
     let is : map value_of vals ≡ values_at es n =
-    ap (λ (l : List Setting). map value_of (take (n.first + n.count - n.first) (drop n.first l))) c.deref.ensures.value
-    ∙ ap (λ (l : List Setting). map value_of l) (cut_out es ns c.requires i no_node lt)
+    ap (λ (l : List Setting). map value_of l) (sym (ap (take (n.first + n.count - n.first)) (drop-map now_of n.first rs) ∙ take-map now_of (n.first + n.count - n.first) (drop n.first rs)) ∙ cut_out es ns c.requires i no_node lt)
     in
     record {
       members = values_step es ns i no_node lt c.args.interner.now c.loop-node.interner c.push_values.new.interner c.loop-node.invariant.members vals is c.in_ok-push_values.ensures.members;
@@ -28,10 +29,10 @@ loop-node-preserved c =
     }
 
 pub overflow_add-own : goal.overflow_add-own
-overflow_add-own c = omega (arith, ap length c.deref.ensures.value, in_range c.args.entries.items c.args.nodes.now c.requires c.loop-node.node-index no_node c.loop-node-test.true)
+overflow_add-own c = omega (arith, length-map c.args.entries.now now_of, in_range (map now_of c.args.entries.now) c.args.nodes.now c.requires c.loop-node.node-index no_node c.loop-node-test.true)
 
-pub offset_bounds-deref-node : goal.offset_bounds-deref-node
-offset_bounds-deref-node c = omega (arith, ap length c.deref.ensures.value, in_range c.args.entries.items c.args.nodes.now c.requires c.loop-node.node-index no_node c.loop-node-test.true)
+pub offset_bounds-entries-node : goal.offset_bounds-entries-node
+offset_bounds-entries-node c = omega (arith, length-map c.args.entries.now now_of, in_range (map now_of c.args.entries.now) c.args.nodes.now c.requires c.loop-node.node-index no_node c.loop-node-test.true)
 
 pub slice_bounds-own-end : goal.slice_bounds-own-end
-slice_bounds-own-end c = omega (arith, ap length c.deref.ensures.value, in_range c.args.entries.items c.args.nodes.now c.requires c.loop-node.node-index no_node c.loop-node-test.true)
+slice_bounds-own-end c = omega (arith, length-map c.args.entries.now now_of, in_range (map now_of c.args.entries.now) c.args.nodes.now c.requires c.loop-node.node-index no_node c.loop-node-test.true)
