@@ -1,5 +1,5 @@
 -- Strings of two databases whose bytes are the same.
-use Rattle.std.proofs.Common.{◌≡◌, ◌≤◌, ◌<◌, ◌+◌, ◌-◌, ℕ, zero, suc, List, [], ◌∷◌, length, take, drop, get_or, Bool, true, false, not, cond, None, Some, is_some, All, refl, sym, subst, ◌∙◌, ap, arith, length-drop, ◌⊎◌, inl, inr, ◌==◌}
+use Rattle.std.proofs.Common.{◌≡◌, ◌≤◌, ◌<◌, ◌+◌, ◌-◌, ℕ, zero, suc, List, [], ◌∷◌, length, take, drop, get_or, Bool, true, false, not, cond, None, Some, is_some, All, refl, sym, ◌∙◌, ap, arith, length-drop, ◌⊎◌, inl, inr, ◌==◌}
 use Rattle.std.specs.List.{take_while}
 use Rattle.std.proofs.lemmas.List.{get_or-drop, get_or-take}
 use Rattle.std.proofs.lemmas.Bool.{cases_lt}
@@ -117,13 +117,14 @@ cut_to a b x y n same =
     ap (λ k. take k (drop x a)) (sym (size x)) ∙ same ∙ ap (λ k. take k (drop y b)) (size y)
 
 -- texts at corresponding places
-pub known : (old new : List ℕ) (found : List Stretch) (k : ℕ) (s : Stretch) (i j : ℕ) → All (λ s. AreShared old new s.old s.new s.count) found → k < length found
-    → s ≡ get_or found k s → (s.old ≤ i) × (i - s.old < s.count) × (j ≡ s.new + (i - s.old)) → text_at old i ≡ text_at new j
-known old new found k s i j all lt is h =
+pub known : (old new : List ℕ) (found : List Stretch) (k : ℕ) (d : Stretch) (i j : ℕ) → All (λ s. AreShared old new s.old s.new s.count) found → k < length found
+    → ((get_or found k d).old ≤ i) × (i - (get_or found k d).old < (get_or found k d).count) × (j ≡ (get_or found k d).new + (i - (get_or found k d).old))
+    → text_at old i ≡ text_at new j
+known old new found k d i j all lt h =
+    let s = get_or found k d in
     let low = h.0 in
     let there : s.old + (i - s.old) ≡ i = omega (arith, low) in
-    let shared : AreShared old new s.old s.new s.count =
-    subst (λ (t : Stretch). AreShared old new t.old t.new t.count) (sym is) (All-get_or (λ (t : Stretch). AreShared old new t.old t.new t.count) found k s lt all) in
+    let shared : AreShared old new s.old s.new s.count = All-get_or (λ (s : Stretch). AreShared old new s.old s.new s.count) found k d lt all in
     ap (text_at old) (sym there) ∙ shared (i - s.old) h.1 ∙ ap (text_at new) (sym h.2)
 
 -- and so are the texts

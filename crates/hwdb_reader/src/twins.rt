@@ -224,8 +224,7 @@ impl<'a, 'b> Twins<'a, 'b> {
     fn is_known(&self, old: usize, new: usize) -> bool
         ensures { result ≡ true → text_at self.now.old.now old ≡ text_at self.now.new.now new }
     {
-        for i in 0..self.stretches.len() {
-            let stretch = self.stretches[i];
+        for stretch in &self.stretches {
             if stretch.has(old, new) {
                 return true;
             }

@@ -50,7 +50,7 @@ impl<'a> StoredText<'a> {
 }
 
 impl<'a> UnreadEntry<'a> {
-    ghost use Rattle.std.specs.Prelude.{◌≡◌, is_some, option_map};
+    ghost use Rattle.std.specs.Prelude.{◌≡◌, is_some};
     ghost use Rattle.hwdb_spec.specs.Tree.{key_of};
     ghost use Rattle.hwdb_reader.specs.Unread.{text_of};
 
@@ -59,15 +59,5 @@ impl<'a> UnreadEntry<'a> {
         ensures { result ≡ is_some (key_of (text_of self.now.key)) }
     {
         self.key.bytes[self.key.at] == b' '
-    }
-
-    /// The stored key without its one leading space, if it has one.
-    pub fn key(&self) -> Option<&'a [u8]>
-        ensures { option_map (λ k. k.now) result ≡ key_of (text_of self.now.key) }
-    {
-        match self.key.read() {
-            [b' ', key @ ..] => Some(key),
-            _ => None,
-        }
     }
 }

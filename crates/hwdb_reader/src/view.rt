@@ -11,7 +11,7 @@ use crate::fields::{text, text_front, u64_at};
 use crate::frame::Frame;
 use crate::places::{child_entry_at, read_origin, read_unread, read_value, value_entry_at};
 use crate::stars::{StarRun, long_stars};
-use crate::unread::UnreadEntry;
+use crate::unread::{StoredText, UnreadEntry};
 use std::marker::Model;
 
 /// Counts the nodes that were entered, from 0 on. By it a contract can say that a walk reads a part of the tree alone.
@@ -138,7 +138,7 @@ impl<'a> Node<'a> {
     ghost use Rattle.hwdb_spec.specs.Tree.{prefix_of, IsTree};
     ghost use Rattle.hwdb_reader.specs.Views.{node_count};
     ghost use Rattle.hwdb_reader.specs.Views.{tree_of, entered_tree};
-    ghost use Rattle.hwdb_reader.specs.Unread.{file_at, file_in};
+    ghost use Rattle.hwdb_reader.specs.Unread.{file_at, file_in, file_of, text_of};
 
     /// In the node's tree stored keys and bytes ascend, and its nodes can be counted.
     pub fn law_tree(&self)
@@ -151,6 +151,17 @@ impl<'a> Node<'a> {
         ensures { result.now ≡ prefix_of (tree_of self.now) }
     {
         text(self.bytes, u64_at(self.bytes, self.offset))
+    }
+
+    /// The prefix, which isn't read.
+    pub fn stored_prefix(&self) -> StoredText<'a>
+        ensures text { text_of result ≡ prefix_of (tree_of self.now) }
+        ensures file { file_of result ≡ file_at self.now }
+    {
+        StoredText {
+            bytes: self.bytes,
+            at: u64_at(self.bytes, self.offset),
+        }
     }
 
     /// The prefix's bytes from a place on, at most so many. Reads no more than these.

@@ -1,6 +1,5 @@
 use Rattle.std.proofs.Common.{◌∙◌, ◌+◌, ◌≤◌, sym, ap, arith, subst, take, drop, length}
 use Rattle.hwdb_reader.specs.Views.{tree_of}
-use Rattle.hwdb_spec.specs.Tree.{prefix_of}
 use Rattle.hwdb_spec.specs.Format.{text_at, prefix_off}
 use Rattle.hwdb_reader.proofs.BoundLemmas.{record_fields}
 use Rattle.hwdb_reader.proofs.StringLemmas.{front_within, text_further}
