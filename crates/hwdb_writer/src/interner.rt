@@ -3,7 +3,7 @@
 //!
 //! What is forgotten gets a second number, which costs a little memory. In return the registry has a fixed size, and a
 //! string is compared with at most two others. The contract says only that a string's number gives that string.
-ghost use Rattle.std.specs.Prelude.{◌≡◌, ◌++◌, ◌∷◌, [], IfOk, OnOk, IfSome};
+ghost use Rattle.std.specs.Prelude.{◌≡◌, ◌++◌, ◌∷◌, [], ◌+◌, ◌^◌, ◌≤◌, ◌<◌, length, IfOk, OnOk, IfSome};
 ghost use Rattle.std.specs.Bool.{OnTrue};
 ghost use Rattle.hwdb_writer.specs.Internal.Membership.{SameMembers};
 ghost use Rattle.hwdb_writer.specs.Internal.Stored.{Grows, IsUnder};
@@ -54,18 +54,19 @@ impl<'t> Interner<'t> {
 
     /// Whether the string has the number.
     #[inline(always)]
-    fn is_under(&self, number: usize, word: &KeyedStr<'t>) -> bool
+    fn is_under(&self, number: u32, word: &KeyedStr<'t>) -> bool
         ensures { OnTrue result (IsUnder self.now number word.now) }
     {
         let known: &[NumberedStr<'_>] = &self.words;
-        if number < known.len() && known[number].word == *word {
+        let at = number as usize;
+        if at < known.len() && known[at].word == *word {
             return true;
         }
         false
     }
 
     /// The number of an equal string, if one is remembered.
-    fn remembered(&self, word: &KeyedStr<'t>) -> Option<usize>
+    fn remembered(&self, word: &KeyedStr<'t>) -> Option<u32>
         ensures { IfSome result (λ n. IsUnder self.now n word.now) }
     {
         let number = self.registry.lookup(word);
@@ -76,20 +77,24 @@ impl<'t> Interner<'t> {
     }
 
     /// Adds the string, and remembers it. Returns its number.
-    fn add(&mut self, word: KeyedStr<'t>) -> Result<usize, AllocError>
+    fn add(&mut self, word: KeyedStr<'t>) -> Result<u32, AllocError>
+        requires few { length self.old < 2 ^ 32 }
+        ensures few { OnOk result (length self.new ≤ length self.old + 1) }
         ensures grows { OnOk result (Grows self.old self.new) }
         ensures members { OnOk result (SameMembers self.new
             (self.old ++ word.entry ∷ [])) }
         ensures number { IfOk result (λ n. IsUnder self.new n word.entry) }
     {
-        let number = self.words.as_slice().len();
+        let number = self.words.as_slice().len() as u32;
         self.registry.remember(&word, number);
         self.words.push(NumberedStr { word, number })?;
         Ok(number)
     }
 
     /// The number of the string, which is added if none like it is remembered.
-    pub fn intern(&mut self, word: KeyedStr<'t>) -> Result<usize, AllocError>
+    pub fn intern(&mut self, word: KeyedStr<'t>) -> Result<u32, AllocError>
+        requires few { length self.old < 2 ^ 32 }
+        ensures few { OnOk result (length self.new ≤ length self.old + 1) }
         ensures grows { OnOk result (Grows self.old self.new) }
         ensures members { OnOk result (SameMembers self.new
             (self.old ++ word.entry ∷ [])) }
@@ -104,7 +109,9 @@ impl<'t> Interner<'t> {
     /// The number of the string, as [`Interner::intern`] gives one. The string with the number `near` is compared first,
     /// without a look-up.
     #[inline(always)]
-    pub fn intern_near(&mut self, word: KeyedStr<'t>, near: usize) -> Result<usize, AllocError>
+    pub fn intern_near(&mut self, word: KeyedStr<'t>, near: u32) -> Result<u32, AllocError>
+        requires few { length self.old < 2 ^ 32 }
+        ensures few { OnOk result (length self.new ≤ length self.old + 1) }
         ensures grows { OnOk result (Grows self.old self.new) }
         ensures members { OnOk result (SameMembers self.new
             (self.old ++ word.entry ∷ [])) }

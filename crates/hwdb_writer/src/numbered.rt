@@ -12,7 +12,7 @@ use std::cmp::Ordering;
 #[derive(Drop)]
 pub struct NumberedStr<'t> {
     pub word: KeyedStr<'t>,
-    pub number: usize,
+    pub number: u32,
 }
 
 /// Numbers don't count.

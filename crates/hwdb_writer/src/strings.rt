@@ -83,7 +83,7 @@ fn fill(
             end = end.saturating_add(numbered.word.len()).saturating_add(1);
             push_ended(section, &numbered.word)?;
         }
-        put(places, numbered.number, start);
+        put(places, numbered.number as usize, start);
     }
     Ok(end)
 }

@@ -20,4 +20,4 @@ pub returns-clause-number : goal.returns-clause-number
 returns-clause-number c =
     last_under c.args.self.now (texts c.push.new.self.items) c.args.word _
     (ap texts c.in_ok-push.ensures.items ∙ texts_more c.self.inside.words.items _ ∙ ap (λ l. l ++ c.args.word ∷ []) c.self.view_is)
-    (ap length c.as_slice-number.ensures.value ∙ sym (length-map c.self.inside.words.items word_of) ∙ ap length c.self.view_is)
+    (ap length c.as_slice.ensures.value ∙ sym (length-map c.self.inside.words.items word_of) ∙ ap length c.self.view_is)
