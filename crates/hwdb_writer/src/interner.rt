@@ -10,7 +10,6 @@ ghost use Rattle.hwdb_writer.specs.Internal.Stored.{Grows, IsUnder};
 ghost use Rattle.hwdb_writer.specs.Internal.Numbered.{texts, IsNumbered};
 
 use crate::keyed::KeyedStr;
-use crate::numbered::NumberedStr;
 use crate::registry::Registry;
 use std::alloc::{AllocError, Global};
 use std::marker::Model;
@@ -18,7 +17,7 @@ use std::marker::Model;
 /// The strings so far, each at its number. A string can be there more than once.
 #[derive(Drop)]
 pub struct Interner<'t> {
-    words: Vec<NumberedStr<'t>>,
+    words: Vec<KeyedStr<'t>>,
     registry: Registry,
 }
 
@@ -42,10 +41,7 @@ impl<'t> Interner<'t> {
         ensures { IfOk result (λ interner. interner ≡ [] ∷ []) }
     {
         let mut words = Vec::with_capacity(alloc, strings.saturating_add(1))?;
-        words.push(NumberedStr {
-            word: KeyedStr::new(&[]),
-            number: 0,
-        })?;
+        words.push(KeyedStr::new(&[]))?;
         Ok(Interner {
             words,
             registry: Registry::new(alloc, entries)?,
@@ -55,11 +51,11 @@ impl<'t> Interner<'t> {
     /// Whether the string has the number.
     #[inline(always)]
     fn is_under(&self, number: u32, word: &KeyedStr<'t>) -> bool
-        ensures { OnTrue result (IsUnder self.now number word.now) }
+        ensures { OnTrue result (IsUnder self.now number word.now.word) }
     {
-        let known: &[NumberedStr<'_>] = &self.words;
+        let known: &[KeyedStr<'_>] = &self.words;
         let at = number as usize;
-        if at < known.len() && known[at].word == *word {
+        if at < known.len() && known[at] == *word {
             return true;
         }
         false
@@ -67,7 +63,7 @@ impl<'t> Interner<'t> {
 
     /// The number of an equal string, if one is remembered.
     fn remembered(&self, word: &KeyedStr<'t>) -> Option<u32>
-        ensures { IfSome result (λ n. IsUnder self.now n word.now) }
+        ensures { IfSome result (λ n. IsUnder self.now n word.now.word) }
     {
         let number = self.registry.lookup(word);
         if self.is_under(number, word) {
@@ -82,12 +78,12 @@ impl<'t> Interner<'t> {
         ensures few { OnOk result (length self.new ≤ length self.old + 1) }
         ensures grows { OnOk result (Grows self.old self.new) }
         ensures members { OnOk result (SameMembers self.new
-            (self.old ++ word.entry ∷ [])) }
-        ensures number { IfOk result (λ n. IsUnder self.new n word.entry) }
+            (self.old ++ word.entry.word ∷ [])) }
+        ensures number { IfOk result (λ n. IsUnder self.new n word.entry.word) }
     {
         let number = self.words.as_slice().len() as u32;
         self.registry.remember(&word, number);
-        self.words.push(NumberedStr { word, number })?;
+        self.words.push(word.numbered(number))?;
         Ok(number)
     }
 
@@ -97,8 +93,8 @@ impl<'t> Interner<'t> {
         ensures few { OnOk result (length self.new ≤ length self.old + 1) }
         ensures grows { OnOk result (Grows self.old self.new) }
         ensures members { OnOk result (SameMembers self.new
-            (self.old ++ word.entry ∷ [])) }
-        ensures number { IfOk result (λ n. IsUnder self.new n word.entry) }
+            (self.old ++ word.entry.word ∷ [])) }
+        ensures number { IfOk result (λ n. IsUnder self.new n word.entry.word) }
     {
         match self.remembered(&word) {
             Some(number) => Ok(number),
@@ -114,8 +110,8 @@ impl<'t> Interner<'t> {
         ensures few { OnOk result (length self.new ≤ length self.old + 1) }
         ensures grows { OnOk result (Grows self.old self.new) }
         ensures members { OnOk result (SameMembers self.new
-            (self.old ++ word.entry ∷ [])) }
-        ensures number { IfOk result (λ n. IsUnder self.new n word.entry) }
+            (self.old ++ word.entry.word ∷ [])) }
+        ensures number { IfOk result (λ n. IsUnder self.new n word.entry.word) }
     {
         if self.is_under(near, &word) {
             Ok(near)
@@ -125,7 +121,7 @@ impl<'t> Interner<'t> {
     }
 
     /// The strings, each with its number.
-    pub fn into_words(self) -> Vec<NumberedStr<'t>>
+    pub fn into_words(self) -> Vec<KeyedStr<'t>>
         ensures texts { texts result.items ≡ self.entry }
         ensures numbered { IsNumbered result.items }
     {

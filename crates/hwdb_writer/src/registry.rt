@@ -22,7 +22,7 @@ impl Registry {
     /// Which entry a string has.
     fn entry_of(&self, word: &KeyedStr<'_>) -> usize {
         let entries = self.places.len() as u64;
-        ((word.number() >> 32).wrapping_mul(entries) >> 32) as usize
+        ((word.hash() >> 32).wrapping_mul(entries) >> 32) as usize
     }
 
     /// The place at which the string may be.
