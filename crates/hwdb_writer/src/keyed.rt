@@ -3,7 +3,7 @@
 //!
 //! Most comparisons of a sort are decided by that number, without a look at the text, which is elsewhere in memory. A
 //! key is stored with a space before it. It is kept as the text and a mark, so that no copy with a space is made.
-ghost use Rattle.std.specs.Prelude.{◌≡◌, ◌∷◌, ◌++◌, ◌-◌, ◌^◌, List, ℕ, Some, OnOk, length, min, nat_eq, refl};
+ghost use Rattle.std.specs.Prelude.{◌≡◌, ◌∷◌, ◌++◌, ◌-◌, ◌^◌, ◌<◌, List, ℕ, Some, get_or, OnOk, length, min, nat_eq, refl};
 ghost use Rattle.std.specs.Ordering.{nat_cmp, on};
 ghost use Rattle.std.specs.Cmp.{on_equiv, on_po, on_total, partial_equiv_from_equiv};
 ghost use Rattle.std.specs.Cmp.Lexicographic.{slice_cmp, pointwise, nat_list_eq_equiv, nat_list_cmp_total, texts_po, texts_ties};
@@ -43,8 +43,9 @@ impl<'t> Model for KeyedStr<'t> {
 const FACTOR: u64 = 0x9e37_79b9_7f4a_7c15;
 
 /// The first eight bytes as a number, the highest first; those that a shorter string lacks count as 0.
-fn head_of(text: &[u8]) -> u64
-    ensures { result ≡ big_number 8 text.now }
+pub fn head_of(text: &[u8]) -> u64
+    ensures head { result ≡ big_number 8 text.now }
+    ensures bytes { (i : ℕ) → get_or text.now i 0 < 256 }
 {
     if text.len() >= HEAD {
         return BigEndian::read_u64(text);

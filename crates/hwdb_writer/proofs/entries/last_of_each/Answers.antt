@@ -1,18 +1,23 @@
+use Rattle.std.proofs.Common.{◌∙◌, sym, ap, subst, List}
+use Rattle.std.specs.List.{AllByRecursion}
+use Rattle.std.specs.List.Sorted.{IsStrictlySortedBy}
 use Rattle.std.proofs.lemmas.List.Filters.{dedup_is}
-use Rattle.hwdb_writer.proofs.LastLemmas.{refs_ascend, refs_same, refs_storable}
+use Rattle.hwdb_writer.specs.Internal.Entries.{by_place, IsStorableEntry}
+use Rattle.hwdb_writer.specs.declared.entries.Setting.{Setting}
+use Rattle.hwdb_writer.proofs.LastLemmas.{map_of_entries, last_ascend, last_same, last_storable}
 use Rattle.hwdb_writer.proofs.entries.last_of_each.Goals as goal
 
 pub returns-clause-ascending : goal.returns-clause-ascending
 returns-clause-ascending c =
-    refs_ascend c.args.all.now c.in_ok-order.order.items c.sort.new.self.items c.dedup.new.self.items c.in_ok-order.ensures
-    c.in_ok-sort.ensures.permutation c.in_ok-sort.ensures.sorted c.in_ok-sort.ensures.stable (dedup_is _ _ _ c.dedup.ensures.filtered)
+    last_ascend c.args.all.now c.in_ok-order.order.items c.sort.new.self.items _ c.in_ok-order.ensures c.in_ok-sort.ensures.permutation c.in_ok-sort.ensures.sorted c.in_ok-sort.ensures.stable
+    (c.in_ok-entries.ensures ∙ c.deref.ensures.value ∙ dedup_is _ _ _ c.dedup.ensures.filtered)
 
 pub returns-clause-same : goal.returns-clause-same
 returns-clause-same c =
-    refs_same c.args.all.now c.in_ok-order.order.items c.sort.new.self.items c.dedup.new.self.items c.in_ok-order.ensures
-    c.in_ok-sort.ensures.permutation c.in_ok-sort.ensures.sorted c.in_ok-sort.ensures.stable (dedup_is _ _ _ c.dedup.ensures.filtered)
+    last_same c.args.all.now c.in_ok-order.order.items c.sort.new.self.items _ c.in_ok-order.ensures c.in_ok-sort.ensures.permutation c.in_ok-sort.ensures.sorted c.in_ok-sort.ensures.stable
+    (c.in_ok-entries.ensures ∙ c.deref.ensures.value ∙ dedup_is _ _ _ c.dedup.ensures.filtered)
 
 pub returns-clause-storable : goal.returns-clause-storable
 returns-clause-storable c =
-    refs_storable c.args.all.now c.in_ok-order.order.items c.sort.new.self.items c.dedup.new.self.items c.in_ok-order.ensures
-    c.in_ok-sort.ensures.permutation c.in_ok-sort.ensures.sorted c.in_ok-sort.ensures.stable (dedup_is _ _ _ c.dedup.ensures.filtered)
+    last_storable c.args.all.now c.in_ok-order.order.items c.sort.new.self.items _ c.in_ok-order.ensures c.in_ok-sort.ensures.permutation c.in_ok-sort.ensures.sorted c.in_ok-sort.ensures.stable
+    (c.in_ok-entries.ensures ∙ c.deref.ensures.value ∙ dedup_is _ _ _ c.dedup.ensures.filtered)
