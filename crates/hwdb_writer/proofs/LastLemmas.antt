@@ -1,5 +1,5 @@
 -- The last entry of each pattern and key: a stable sort of the entries, the last first, and the first of each run.
-use Rattle.std.proofs.Common.{◌≡◌, ◌+◌, zero, suc, List, [], ◌∷◌, ◌++◌, map, reverse, Bool, true, false, cond, not, ◌&&◌, refl, sym, ◌∙◌, ap, subst, arith, Option, None, Some, Ordering, All}
+use Rattle.std.proofs.Common.{◌≡◌, zero, suc, List, [], ◌∷◌, ◌++◌, map, reverse, Bool, true, false, cond, not, ◌&&◌, refl, sym, ◌∙◌, ap, subst, arith, Option, None, Some, Ordering, All}
 use Rattle.std.specs.Prelude.{filter}
 use Rattle.std.specs.List.{AllByRecursion, dedup}
 use Rattle.std.specs.List.Sorted.{IsStrictlySortedBy, IsSorted, IsStable, IsPermutation, ties}

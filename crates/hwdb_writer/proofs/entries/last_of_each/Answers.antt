@@ -1,10 +1,6 @@
-use Rattle.std.proofs.Common.{◌∙◌, sym, ap, subst, List}
-use Rattle.std.specs.List.{AllByRecursion}
-use Rattle.std.specs.List.Sorted.{IsStrictlySortedBy}
+use Rattle.std.proofs.Common.{◌∙◌}
 use Rattle.std.proofs.lemmas.List.Filters.{dedup_is}
-use Rattle.hwdb_writer.specs.Internal.Entries.{by_place, IsStorableEntry}
-use Rattle.hwdb_writer.specs.declared.entries.Setting.{Setting}
-use Rattle.hwdb_writer.proofs.LastLemmas.{map_of_entries, last_ascend, last_same, last_storable}
+use Rattle.hwdb_writer.proofs.LastLemmas.{last_ascend, last_same, last_storable}
 use Rattle.hwdb_writer.proofs.entries.last_of_each.Goals as goal
 
 pub returns-clause-ascending : goal.returns-clause-ascending

@@ -1,4 +1,4 @@
-use Rattle.std.proofs.Common.{arith, ap, ◌∙◌, Ordering}
+use Rattle.std.proofs.Common.{arith, ap, Ordering}
 use Rattle.std.specs.Ordering.{nat_cmp, ordering_then}
 use Rattle.std.specs.Cmp.Lexicographic.{slice_cmp}
 use Rattle.hwdb_writer.proofs.HeadLemmas.{less_head, greater_head}
