@@ -1,20 +1,19 @@
 -- The last entry of each pattern and key: a stable sort of the entries, the last first, and the first of each run.
-use Rattle.std.proofs.Common.{◌≡◌, ◌+◌, zero, suc, List, [], ◌∷◌, ◌++◌, map, reverse, Bool, true, false, cond, not, ◌&&◌, refl, sym, ◌∙◌, ap, subst, arith, Option, None, Some, Ordering, All}
+use Rattle.std.proofs.Common.{◌≡◌, zero, suc, List, [], ◌∷◌, ◌++◌, map, reverse, Bool, true, false, cond, not, ◌&&◌, refl, sym, ◌∙◌, ap, subst, arith, Option, None, Some, Ordering, All}
 use Rattle.std.specs.Prelude.{filter}
-use Rattle.std.specs.Borrow.{Bor}
-use Rattle.std.specs.List.{AllByRecursion, dedup, dedup_from}
+use Rattle.std.specs.List.{AllByRecursion, dedup}
 use Rattle.std.specs.List.Sorted.{IsStrictlySortedBy, IsSorted, IsStable, IsPermutation, ties}
 use Rattle.std.specs.declared.cmp.Ordering.TheVariants.{Less, Equal, Greater}
 use Rattle.std.specs.Ordering.{is_lt, is_eq, eq_by_cmp, ordering_reverse}
 use Rattle.std.specs.FinMap.{same_map, get-from_entries, from_entries}
 use Rattle.std.specs.FinMap.Entries.{find}
-use Rattle.std.proofs.lemmas.List.{reverse-append, get_or-map, length-map}
+use Rattle.std.proofs.lemmas.List.{reverse-append}
 use Rattle.std.proofs.lemmas.List.Filters.{All-dedup}
-use Rattle.std.proofs.lemmas.List.Sorted.{All-permutation, IsPermutation-map}
+use Rattle.std.proofs.lemmas.List.Sorted.{All-permutation}
 use Rattle.std.proofs.lemmas.List.Kept.{IsStrictlySortedBy-dedup}
 use Rattle.hwdb_spec.specs.Assignment.{Assignment}
 use Rattle.hwdb_spec.specs.Tree.{Map, place_cmp, entry_of, surviving}
-use Rattle.hwdb_writer.specs.Internal.Entries.{assignment_of, place_of, by_place, by_place_total, now_of, IsStorableEntry}
+use Rattle.hwdb_writer.specs.Internal.Entries.{assignment_of, place_of, by_place, by_place_total, IsStorableEntry}
 use Rattle.hwdb_writer.specs.declared.entries.Setting.{Setting}
 use Rattle.hwdb_writer.proofs.MapLemmas.{Place, is_place}
 use Rattle.hwdb_spec.specs.Lemmas.Places.{equal_place, place_total}
@@ -93,16 +92,6 @@ map_of_entries es = from_entries (map entry_of (map assignment_of es))
 pub same_at : (xs ys : List Setting) → ((q : Place) → at q xs ≡ at q ys) → map_of_entries xs ≡ map_of_entries ys
 same_at xs ys h = same_map place_total equal_place _ _ (λ q. get-from_entries place_total _ q ∙ h q ∙ sym (get-from_entries place_total _ q))
 
--- a list of references
-abbrev by_now : Bor Setting → Bor Setting → Ordering
-by_now a b = by_place a.now b.now
-
-abbrev same_now : Bor Setting → Bor Setting → Bool
-same_now a b = eq_by_cmp by_place a.now b.now
-
-abbrev ref_to : Setting → Bor Setting
-ref_to e = record { ref_ptr = (0, 0); now = e }
-
 reversed : (es : List Setting) → map assignment_of (reverse es) ≡ reverse (map assignment_of es)
 reversed [] = refl
 reversed (e ∷ es) =
@@ -146,62 +135,3 @@ module _ (all back sorted new : List Setting) (turned : back ≡ reverse all) (m
       turned_all : (xs : List Setting) → AllByRecursion IsStorableEntry xs → AllByRecursion IsStorableEntry (reverse xs)
       turned_all [] a = tt
       turned_all (x ∷ xs) a = subst (AllByRecursion IsStorableEntry) (sym (reverse-append (x ∷ []) xs)) (behind (reverse xs) x (turned_all xs a.1) a.0)
-
--- what references are to, when these are sorted
-refs_sorted : (rs : List (Bor Setting)) → IsSorted by_now rs → IsSorted by_place (map now_of rs)
-refs_sorted rs up k d low high =
-    let r = ref_to d in
-    let long = length-map rs now_of in
-    rw (get_or-map now_of rs (k + 1) r d (omega (arith, high, long)), get_or-map now_of rs k r d (omega (arith, high, long))) (up k r low (omega (arith, high, long)))
-
-refs_kept : (p : Setting → Bool) (rs : List (Bor Setting)) → filter p (map now_of rs) ≡ map now_of (filter (λ (r : Bor Setting). p r.now) rs)
-refs_kept p [] = refl
-refs_kept p (r ∷ rs) = by (p r.now) (refs_kept p rs)
-  where
-    by : (b : Bool) → filter p (map now_of rs) ≡ map now_of (filter (λ (r : Bor Setting). p r.now) rs) →
-        cond b (r.now ∷ filter p (map now_of rs)) (filter p (map now_of rs)) ≡ map now_of (cond b (r ∷ filter (λ (r : Bor Setting). p r.now) rs) (filter (λ (r : Bor Setting). p r.now) rs))
-    by true e = ap (λ l. r.now ∷ l) e
-    by false e = e
-
-refs_stable : (old new : List (Bor Setting)) → IsStable by_now old new → IsStable by_place (map now_of old) (map now_of new)
-refs_stable old new stable e = refs_kept (ties less e) new ∙ ap (map now_of) (stable (ref_to e)) ∙ sym (refs_kept (ties less e) old)
-
-refs_left : (k : Bor Setting) (rs : List (Bor Setting)) → map now_of (dedup_from same_now k rs) ≡ dedup_from (eq_by_cmp by_place) k.now (map now_of rs)
-refs_left k [] = refl
-refs_left k (r ∷ rs) = by (same_now r k) (refs_left k rs) (refs_left r rs)
-  where
-    by : (b : Bool) → map now_of (dedup_from same_now k rs) ≡ dedup_from (eq_by_cmp by_place) k.now (map now_of rs) → map now_of (dedup_from same_now r rs) ≡ dedup_from (eq_by_cmp by_place) r.now (map now_of rs) →
-        map now_of (cond b (dedup_from same_now k rs) (k ∷ dedup_from same_now r rs)) ≡ cond b (dedup_from (eq_by_cmp by_place) k.now (map now_of rs)) (k.now ∷ dedup_from (eq_by_cmp by_place) r.now (map now_of rs))
-    by true e f = e
-    by false e f = ap (λ l. k.now ∷ l) f
-
-refs_deduped : (rs : List (Bor Setting)) → map now_of (dedup same_now rs) ≡ dedup (eq_by_cmp by_place) (map now_of rs)
-refs_deduped [] = refl
-refs_deduped (r ∷ rs) = refs_left r rs
-
-pub refs_reversed : (rs : List (Bor Setting)) → map now_of (reverse rs) ≡ reverse (map now_of rs)
-refs_reversed [] = refl
-refs_reversed (r ∷ rs) =
-    ap (map now_of) (reverse-append (r ∷ []) rs) ∙ refs_more (reverse rs) r ∙ ap (λ l. l ++ r.now ∷ []) (refs_reversed rs) ∙ sym (reverse-append (r.now ∷ []) (map now_of rs))
-  where
-    refs_more : (xs : List (Bor Setting)) (r : Bor Setting) → map now_of (xs ++ r ∷ []) ≡ map now_of xs ++ r.now ∷ []
-    refs_more [] r = refl
-    refs_more (x ∷ xs) r = ap (λ l. x.now ∷ l) (refs_more xs r)
-
--- what references to the entries are to, after they are reversed, sorted and left out
-module _ (all : List Setting) (back sorted new : List (Bor Setting)) (turned : map now_of back ≡ reverse all) (moved : IsPermutation back sorted)
-    (up : IsSorted by_now sorted) (stable : IsStable by_now back sorted) (left : new ≡ dedup same_now sorted) where
-  abbrev moved_too : IsPermutation (map now_of back) (map now_of sorted)
-  moved_too = IsPermutation-map now_of back sorted moved
-
-  abbrev left_too : map now_of new ≡ dedup (eq_by_cmp by_place) (map now_of sorted)
-  left_too = ap (map now_of) left ∙ refs_deduped sorted
-
-  pub refs_ascend : IsStrictlySortedBy by_place (map now_of new)
-  refs_ascend = last_ascend all (map now_of back) (map now_of sorted) (map now_of new) turned moved_too (refs_sorted sorted up) (refs_stable back sorted stable) left_too
-
-  pub refs_same : map_of_entries (map now_of new) ≡ surviving (map assignment_of all)
-  refs_same = last_same all (map now_of back) (map now_of sorted) (map now_of new) turned moved_too (refs_sorted sorted up) (refs_stable back sorted stable) left_too
-
-  pub refs_storable : AllByRecursion IsStorableEntry all → AllByRecursion IsStorableEntry (map now_of new)
-  refs_storable = last_storable all (map now_of back) (map now_of sorted) (map now_of new) turned moved_too (refs_sorted sorted up) (refs_stable back sorted stable) left_too

@@ -8,29 +8,29 @@ use Rattle.std.proofs.lemmas.List.Sorted.{Contains-permutation, IsPermutation-sy
 use Rattle.std.proofs.str.Laws.{order}
 use Rattle.hwdb_spec.specs.Assignment.{ascending}
 use Rattle.hwdb_spec.specs.Written.{place_of, section_of}
-use Rattle.hwdb_writer.specs.declared.numbered.NumberedStr.{NumberedStr}
-use Rattle.hwdb_writer.specs.Internal.Numbered.{word_of, texts, distinct, IsNumbered, IsNew, IsOld, IsReached, IsFilledTo, bounded_place}
+use Rattle.hwdb_writer.specs.Internal.Word.{Word, word_of}
+use Rattle.hwdb_writer.specs.Internal.Numbered.{texts, distinct, IsNumbered, IsNew, IsOld, IsReached, IsFilledTo, bounded_place}
 use Rattle.hwdb_writer.specs.Internal.Stored.{IsUnder}
 use Rattle.hwdb_writer.proofs.PlaceLemmas.{place_within, nothing}
 use Rattle.hwdb_text.specs.Lemmas.Ascending.{ordered_is}
 
-abbrev pub none : NumberedStr
+abbrev pub none : Word
 none = record { word = []; number = 0 }
 
 abbrev same : List ℕ → List ℕ → Bool
 same = pointwise nat_eq
 
-pub text_at : (ws : List NumberedStr) (i : ℕ) (d : NumberedStr) → i < length ws → get_or (texts ws) i nothing ≡ (get_or ws i d).word
+pub text_at : (ws : List Word) (i : ℕ) (d : Word) → i < length ws → get_or (texts ws) i nothing ≡ (get_or ws i d).word
 text_at ws i d lt = get_or-map word_of ws i d nothing lt
 
-pub texts_sorted : (ws : List NumberedStr) → IsSorted (on word_of (slice_cmp nat_cmp)) ws → IsSorted (slice_cmp nat_cmp) (texts ws)
+pub texts_sorted : (ws : List Word) → IsSorted (on word_of (slice_cmp nat_cmp)) ws → IsSorted (slice_cmp nat_cmp) (texts ws)
 texts_sorted ws up k d low high =
-    let w : NumberedStr = record { word = d; number = 0 } in
+    let w : Word = record { word = d; number = 0 } in
     let long = length-map ws word_of in
     rw (get_or-map word_of ws (k + 1) w d (omega (arith, high, long)), get_or-map word_of ws k w d (omega (arith, high, long))) (up k w low (omega (arith, high, long)))
 
 -- strings in another order
-module _ (words ordered : List NumberedStr) (numbered : IsNumbered words) (moved : IsPermutation words ordered) where
+module _ (words ordered : List Word) (numbered : IsNumbered words) (moved : IsPermutation words ordered) where
   long : length ordered ≡ length words
   long = length_permutation words ordered moved
 
@@ -38,21 +38,21 @@ module _ (words ordered : List NumberedStr) (numbered : IsNumbered words) (moved
   distinct_is up = ordered_is (texts words) (texts ordered) (distinct (texts ordered)) (IsPermutation-map word_of words ordered moved) (texts_sorted ordered up) refl
 
   -- each is the one that had its number
-  record IsOwn (w : NumberedStr) : Type 0 where
+  record IsOwn (w : Word) : Type 0 where
     within : w.number < length words
     is : get_or words w.number w ≡ w
 
-  own : (j : ℕ) (d : NumberedStr) → j < length ordered → IsOwn (get_or ordered j d)
+  own : (j : ℕ) (d : Word) → j < length ordered → IsOwn (get_or ordered j d)
   own j d lt =
       let w = get_or ordered j d in
       let c = Contains-permutation ordered words w (IsPermutation-sym words ordered moved) (j, lt, get_or_default ordered j w d lt) in
-      let n : w.number ≡ c.0 = sym (ap (λ (v : NumberedStr). v.number) c.2) ∙ numbered c.0 w c.1 in
+      let n : w.number ≡ c.0 = sym (ap (λ (v : Word). v.number) c.2) ∙ numbered c.0 w c.1 in
       record { within = omega (arith, n, c.1); is = ap (λ k. get_or words k w) n ∙ c.2 }
 
-  pub number_within : (j : ℕ) (d : NumberedStr) → j < length ordered → (get_or ordered j d).number < length ordered
+  pub number_within : (j : ℕ) (d : Word) → j < length ordered → (get_or ordered j d).number < length ordered
   number_within j d lt = omega (arith, (own j d lt).within, long)
 
-  one_word : (v w : NumberedStr) → IsOwn v → IsOwn w → v.number ≡ w.number → v.word ≡ w.word
+  one_word : (v w : Word) → IsOwn v → IsOwn w → v.number ≡ w.number → v.word ≡ w.word
   one_word v w a b e =
       ap word_of (sym a.is ∙ ap (λ k. get_or words k v) e ∙ get_or_default words w.number v w b.within ∙ b.is)
 
@@ -61,7 +61,7 @@ module _ (words ordered : List NumberedStr) (numbered : IsNumbered words) (moved
     place = bounded_place first (distinct (texts ordered))
 
     -- one more offset is filled in
-    pub filled_more : (places next : List ℕ) (i start : ℕ) (d : NumberedStr) → i < length ordered → length places ≡ length ordered → next ≡ set places (get_or ordered i d).number start → start ≡ place (get_or ordered i d).word →
+    pub filled_more : (places next : List ℕ) (i start : ℕ) (d : Word) → i < length ordered → length places ≡ length ordered → next ≡ set places (get_or ordered i d).number start → start ≡ place (get_or ordered i d).word →
         IsFilledTo first ordered places i → IsFilledTo first ordered next (i + 1)
     filled_more places next i start d lt size e s h j c below =
         let v = get_or ordered j c in
@@ -75,9 +75,9 @@ module _ (words ordered : List NumberedStr) (numbered : IsNumbered words) (moved
         ⊎_elim {C = get_or next v.number 0 ≡ place v.word} (λ l. other (λ n. absurd (omega (arith, l, n))))
         (λ m. ⊎_elim {C = get_or next v.number 0 ≡ place v.word} (λ l. other (λ n. absurd (omega (arith, l, n)))) (λ g. equal (omega (arith, m, g))) (order w.number v.number)) (order v.number w.number)
       where
-        before : (j : ℕ) (c : NumberedStr) → j < i + 1 → ((get_or ordered j c).number ≡ (get_or ordered i d).number → ⊥) → j < i
+        before : (j : ℕ) (c : Word) → j < i + 1 → ((get_or ordered j c).number ≡ (get_or ordered i d).number → ⊥) → j < i
         before j c below n =
-            ⊎_elim {C = j < i} (λ l. l) (λ m. let k : j ≡ i = omega (arith, m, below) in absurd (n (ap (λ q. (get_or ordered q c).number) k ∙ ap (λ (x : NumberedStr). x.number) (get_or_default ordered i c d lt)))) (order j i)
+            ⊎_elim {C = j < i} (λ l. l) (λ m. let k : j ≡ i = omega (arith, m, below) in absurd (n (ap (λ q. (get_or ordered q c).number) k ∙ ap (λ (x : Word). x.number) (get_or_default ordered i c d lt)))) (order j i)
 
     -- all offsets are filled in
     pub all_filled : (places : List ℕ) → length places ≡ length ordered → IsFilledTo first ordered places (length ordered) → places ≡ map place (texts words)
@@ -88,7 +88,7 @@ module _ (words ordered : List NumberedStr) (numbered : IsNumbered words) (moved
         at k lt =
             let w = get_or words k none in
             let c = Contains-permutation words ordered w moved (k, lt, get_or_default words k w none lt) in
-            let f : get_or places w.number 0 ≡ place w.word = subst (λ (v : NumberedStr). get_or places v.number 0 ≡ place v.word) c.2 (h c.0 w c.1) in
+            let f : get_or places w.number 0 ≡ place w.word = subst (λ (v : Word). get_or places v.number 0 ≡ place v.word) c.2 (h c.0 w c.1) in
             let a = length-map words word_of in
             ap (λ n. get_or places n 0) (sym (numbered k none lt)) ∙ f ∙ ap place (sym (text_at words k none lt)) ∙ sym (get_or-map place (texts words) k nothing 0 (omega (arith, lt, a)))
 
@@ -101,12 +101,15 @@ fitting first table (w ∷ ws) fits =
     (λ i. e i ∷ fitting first table ws fits i)
 
 -- one more string
-pub texts_more : (ws : List NumberedStr) (w : NumberedStr) → texts (ws ++ w ∷ []) ≡ texts ws ++ w.word ∷ []
+pub texts_more : (ws : List Word) (w : Word) → texts (ws ++ w ∷ []) ≡ texts ws ++ w.word ∷ []
 texts_more [] w = refl
 texts_more (v ∷ ws) w = ap (λ l. v.word ∷ l) (texts_more ws w)
 
+pub texts_and_one : (ws all : List Word) (w : Word) (s : List ℕ) (now : List (List ℕ)) → all ≡ ws ++ w ∷ [] → w.word ≡ s → texts ws ≡ now → texts all ≡ now ++ s ∷ []
+texts_and_one ws all w s now e is view = ap texts e ∙ texts_more ws w ∙ (λ i. view i ++ is i ∷ [])
+
 -- the string that has a number
-pub known_at : (ws inside : List NumberedStr) (now : List (List ℕ)) (n : ℕ) (w : NumberedStr) (s : List ℕ) → ws ≡ inside → now ≡ texts inside → n < length ws → w ≡ get_or ws n w → w.word ≡ s → IsUnder now n s
+pub known_at : (ws inside : List Word) (now : List (List ℕ)) (n : ℕ) (w : Word) (s : List ℕ) → ws ≡ inside → now ≡ texts inside → n < length ws → w ≡ get_or ws n w → w.word ≡ s → IsUnder now n s
 known_at ws inside now n w s e v lt is same =
     subst (λ (l : List (List ℕ)). IsUnder l n s) (ap texts e ∙ sym v) (record {
       known = let a = length-map ws word_of in omega (arith, lt, a);
@@ -114,7 +117,7 @@ known_at ws inside now n w s e v lt is same =
     })
 
 -- a string and the one before it
-module _ (ws : List NumberedStr) (i : ℕ) (x y : NumberedStr) (lt : i < length ws) (some : 0 < i) (is_x : x ≡ get_or ws (i - 1) x) (is_y : y ≡ get_or ws i y) where
+module _ (ws : List Word) (i : ℕ) (x y : Word) (lt : i < length ws) (some : 0 < i) (is_x : x ≡ get_or ws (i - 1) x) (is_y : y ≡ get_or ws i y) where
   here : get_or (texts ws) i nothing ≡ y.word
   here = text_at ws i y lt ∙ ap word_of (sym is_y)
 

@@ -38,7 +38,7 @@ three_rows end root nodes section a b c d e f g =
     g ∙ ap (λ x. x ++ flat_map (little_bytes 8) (root ∷ nodes ∷ section ∷ [])) (f ∙ ap (λ x. x ++ flat_map (little_bytes 8) (24 ∷ 16 ∷ 32 ∷ [])) e) ∙ (simp append_assoc)
 
 -- what a saturated sum says of the length
-pub too_long : (nodes first end most size strings : ℕ) → nodes ≡ min size (2 ^ 64 - 1) → first ≡ min (nodes + 80) (2 ^ 64 - 1) → end ≡ min (first + strings) (2 ^ 64 - 1) → most < end → most < 80 + size + strings
+pub too_long : (nodes first end most size strings : ℕ) → nodes ≡ size → first ≡ min (nodes + 80) (2 ^ 64 - 1) → end ≡ min (first + strings) (2 ^ 64 - 1) → most < end → most < 80 + size + strings
 too_long nodes first end most size strings a b c d = omega (arith, a, b, c, d)
 
 pub record Exact (nodes first end most size strings : ℕ) : Type 0 where
@@ -47,7 +47,7 @@ pub record Exact (nodes first end most size strings : ℕ) : Type 0 where
   pub section_is : end - first ≡ strings
   pub within : 80 + size + strings ≤ most
 
-pub exact : (nodes first end most size strings : ℕ) → nodes ≡ min size (2 ^ 64 - 1) → first ≡ min (nodes + 80) (2 ^ 64 - 1) → end ≡ min (first + strings) (2 ^ 64 - 1) → end ≤ most → most < 2 ^ 32 → Exact nodes first end most size strings
+pub exact : (nodes first end most size strings : ℕ) → nodes ≡ size → first ≡ min (nodes + 80) (2 ^ 64 - 1) → end ≡ min (first + strings) (2 ^ 64 - 1) → end ≤ most → most < 2 ^ 32 → Exact nodes first end most size strings
 exact nodes first end most size strings a b c d e = record {
   nodes_is = omega (arith, a, b, c, d, e);
   first_is = omega (arith, a, b, c, d, e);

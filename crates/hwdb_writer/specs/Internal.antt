@@ -6,6 +6,7 @@ pub mod Spine
 pub mod Storable
 pub mod Codes
 pub mod Keyed
+pub mod Word
 pub mod Numbered
 pub mod Narrow
 pub mod Membership

@@ -8,8 +8,10 @@ ghost use Rattle.std.specs.FinMap.{from_entries};
 ghost use Rattle.hwdb_writer.specs.Internal.Entries.{by_place, by_place_total, assignment_of, now_of, IsStorableEntry};
 ghost use Rattle.std.specs.List.{AllByRecursion};
 
+use crate::keyed::head_of;
 use std::alloc::{AllocError, Global};
 use std::cmp::Ordering;
+use std::marker::Model;
 
 /// An assignment that was set. Its texts are borrowed from the bytes of its file, and its path from the caller.
 #[derive(Clone, Copy)]
@@ -65,25 +67,123 @@ impl<'t> Ord for Setting<'t> {
     }
 }
 
+/// A reference to an entry, and the first eight bytes of its pattern as a number. Most comparisons of entries of two files are
+/// decided by that number, without a look at the entry and its pattern.
+#[derive(Drop)]
+struct HeadedEntry<'s, 't> {
+    head: u64,
+    entry: &'s Setting<'t>,
+}
+
+impl<'s, 't> Model for HeadedEntry<'s, 't> {
+    ghost use Rattle.hwdb_writer.specs.declared.entries.Setting.{Setting as EntryRecord};
+    ghost use Rattle.hwdb_writer.specs.Internal.Entries.{coded_entry};
+    ghost use Rattle.hwdb_writer.specs.Internal.Keyed.{IsHeaded};
+
+    ghost Value = { EntryRecord };
+
+    ghost coded = { coded_entry };
+
+    ghost view = { λ h. h.entry.now };
+
+    ghost invariant = { λ h. IsHeaded h.head h.entry.now.pattern.now };
+}
+
+impl<'s, 't> HeadedEntry<'s, 't> {
+    fn new(entry: &'s Setting<'t>) -> HeadedEntry<'s, 't>
+        ensures { result ≡ entry.now }
+    {
+        HeadedEntry {
+            head: head_of(entry.pattern),
+            entry,
+        }
+    }
+
+    fn entry(&self) -> &'s Setting<'t>
+        ensures { result.now ≡ self.now }
+    {
+        self.entry
+    }
+}
+
+impl<'s, 't> PartialEq for HeadedEntry<'s, 't> {
+    ghost eq = { eq_by_cmp by_place };
+
+    ghost laws = { partial_equiv_from_equiv (eq_by_cmp_equiv by_place_total) };
+
+    fn eq(&self, other: &Self) -> bool {
+        self.cmp(other).is_eq()
+    }
+}
+
+impl<'s, 't> Eq for HeadedEntry<'s, 't> {
+    ghost laws = { eq_by_cmp_equiv by_place_total };
+}
+
+impl<'s, 't> PartialOrd for HeadedEntry<'s, 't> {
+    ghost partial_cmp = { as_partial_cmp by_place };
+
+    ghost laws = { partial_order_from_total by_place_total };
+
+    fn partial_cmp(&self, other: &Self) -> Option<Ordering> {
+        Some(self.cmp(other))
+    }
+}
+
+/// As the entries.
+impl<'s, 't> Ord for HeadedEntry<'s, 't> {
+    ghost cmp = { by_place };
+
+    ghost total = { by_place_total };
+
+    ghost matches_partial_cmp = { λ x y. refl };
+
+    ghost matches_eq = { λ x y. refl };
+
+    fn cmp(&self, other: &Self) -> Ordering {
+        if self.head < other.head {
+            return Ordering::Less;
+        }
+        if self.head > other.head {
+            return Ordering::Greater;
+        }
+        self.entry.cmp(other.entry)
+    }
+}
+
 /// References to the entries, the last of them first.
 fn last_first<'s, 't>(
     alloc: Global,
     all: &'s [Setting<'t>],
-) -> Result<Vec<&'s Setting<'t>>, AllocError>
-    ensures { IfOk result (λ v. map now_of v.items ≡ reverse all.now) }
+) -> Result<Vec<HeadedEntry<'s, 't>>, AllocError>
+    ensures { IfOk result (λ v. v.items ≡ reverse all.now) }
 {
-    let mut order: Vec<&'s Setting<'t>> = Vec::with_capacity(alloc, all.len())?;
+    let mut order: Vec<HeadedEntry<'s, 't>> = Vec::with_capacity(alloc, all.len())?;
     for entry in all {
-        order.push(entry)?;
+        order.push(HeadedEntry::new(entry))?;
     }
     order.reverse();
     Ok(order)
 }
 
+/// The entries, without the numbers beside them.
+fn entries_of<'s, 't>(
+    alloc: Global,
+    order: &[HeadedEntry<'s, 't>],
+) -> Result<Vec<&'s Setting<'t>>, AllocError>
+    ensures { IfOk result (λ v. map now_of v.items ≡ order.now) }
+{
+    let mut entries: Vec<&'s Setting<'t>> = Vec::with_capacity(alloc, order.len())?;
+    for headed in order {
+        entries.push(headed.entry())?;
+    }
+    Ok(entries)
+}
+
 /// The entries by pattern and key; of those with one pattern and key the last. It takes the entries as they were set.
 ///
 /// Reversed first, so that a stable sort has the last one of each pattern and key in front, and the others are left
-/// out. References are sorted, which are a ninth as long as entries.
+/// out. References are sorted, which are shorter than entries.
 pub fn last_of_each<'s, 't>(
     alloc: Global,
     all: &'s [Setting<'t>],
@@ -98,5 +198,6 @@ pub fn last_of_each<'s, 't>(
     let mut order = last_first(alloc, all)?;
     order.sort()?;
     order.dedup();
-    Ok(order)
+    let entries = entries_of(alloc, &order)?;
+    Ok(entries)
 }

@@ -3,14 +3,13 @@
 //!
 //! What is forgotten gets a second number, which costs a little memory. In return the registry has a fixed size, and a
 //! string is compared with at most two others. The contract says only that a string's number gives that string.
-ghost use Rattle.std.specs.Prelude.{◌≡◌, ◌++◌, ◌∷◌, [], IfOk, OnOk, IfSome};
+ghost use Rattle.std.specs.Prelude.{◌≡◌, ◌++◌, ◌∷◌, [], ◌+◌, ◌^◌, ◌≤◌, ◌<◌, length, IfOk, OnOk, IfSome};
 ghost use Rattle.std.specs.Bool.{OnTrue};
 ghost use Rattle.hwdb_writer.specs.Internal.Membership.{SameMembers};
 ghost use Rattle.hwdb_writer.specs.Internal.Stored.{Grows, IsUnder};
 ghost use Rattle.hwdb_writer.specs.Internal.Numbered.{texts, IsNumbered};
 
 use crate::keyed::KeyedStr;
-use crate::numbered::NumberedStr;
 use crate::registry::Registry;
 use std::alloc::{AllocError, Global};
 use std::marker::Model;
@@ -18,7 +17,7 @@ use std::marker::Model;
 /// The strings so far, each at its number. A string can be there more than once.
 #[derive(Drop)]
 pub struct Interner<'t> {
-    words: Vec<NumberedStr<'t>>,
+    words: Vec<KeyedStr<'t>>,
     registry: Registry,
 }
 
@@ -42,10 +41,7 @@ impl<'t> Interner<'t> {
         ensures { IfOk result (λ interner. interner ≡ [] ∷ []) }
     {
         let mut words = Vec::with_capacity(alloc, strings.saturating_add(1))?;
-        words.push(NumberedStr {
-            word: KeyedStr::new(&[]),
-            number: 0,
-        })?;
+        words.push(KeyedStr::new(&[]))?;
         Ok(Interner {
             words,
             registry: Registry::new(alloc, entries)?,
@@ -54,19 +50,20 @@ impl<'t> Interner<'t> {
 
     /// Whether the string has the number.
     #[inline(always)]
-    fn is_under(&self, number: usize, word: &KeyedStr<'t>) -> bool
-        ensures { OnTrue result (IsUnder self.now number word.now) }
+    fn is_under(&self, number: u32, word: &KeyedStr<'t>) -> bool
+        ensures { OnTrue result (IsUnder self.now number word.now.word) }
     {
-        let known: &[NumberedStr<'_>] = &self.words;
-        if number < known.len() && known[number].word == *word {
+        let known: &[KeyedStr<'_>] = &self.words;
+        let at = number as usize;
+        if at < known.len() && known[at] == *word {
             return true;
         }
         false
     }
 
     /// The number of an equal string, if one is remembered.
-    fn remembered(&self, word: &KeyedStr<'t>) -> Option<usize>
-        ensures { IfSome result (λ n. IsUnder self.now n word.now) }
+    fn remembered(&self, word: &KeyedStr<'t>) -> Option<u32>
+        ensures { IfSome result (λ n. IsUnder self.now n word.now.word) }
     {
         let number = self.registry.lookup(word);
         if self.is_under(number, word) {
@@ -76,24 +73,28 @@ impl<'t> Interner<'t> {
     }
 
     /// Adds the string, and remembers it. Returns its number.
-    fn add(&mut self, word: KeyedStr<'t>) -> Result<usize, AllocError>
+    fn add(&mut self, word: KeyedStr<'t>) -> Result<u32, AllocError>
+        requires few { length self.old < 2 ^ 32 }
+        ensures few { OnOk result (length self.new ≤ length self.old + 1) }
         ensures grows { OnOk result (Grows self.old self.new) }
         ensures members { OnOk result (SameMembers self.new
-            (self.old ++ word.entry ∷ [])) }
-        ensures number { IfOk result (λ n. IsUnder self.new n word.entry) }
+            (self.old ++ word.entry.word ∷ [])) }
+        ensures number { IfOk result (λ n. IsUnder self.new n word.entry.word) }
     {
-        let number = self.words.as_slice().len();
+        let number = self.words.as_slice().len() as u32;
         self.registry.remember(&word, number);
-        self.words.push(NumberedStr { word, number })?;
+        self.words.push(word.numbered(number))?;
         Ok(number)
     }
 
     /// The number of the string, which is added if none like it is remembered.
-    pub fn intern(&mut self, word: KeyedStr<'t>) -> Result<usize, AllocError>
+    pub fn intern(&mut self, word: KeyedStr<'t>) -> Result<u32, AllocError>
+        requires few { length self.old < 2 ^ 32 }
+        ensures few { OnOk result (length self.new ≤ length self.old + 1) }
         ensures grows { OnOk result (Grows self.old self.new) }
         ensures members { OnOk result (SameMembers self.new
-            (self.old ++ word.entry ∷ [])) }
-        ensures number { IfOk result (λ n. IsUnder self.new n word.entry) }
+            (self.old ++ word.entry.word ∷ [])) }
+        ensures number { IfOk result (λ n. IsUnder self.new n word.entry.word) }
     {
         match self.remembered(&word) {
             Some(number) => Ok(number),
@@ -104,11 +105,13 @@ impl<'t> Interner<'t> {
     /// The number of the string, as [`Interner::intern`] gives one. The string with the number `near` is compared first,
     /// without a look-up.
     #[inline(always)]
-    pub fn intern_near(&mut self, word: KeyedStr<'t>, near: usize) -> Result<usize, AllocError>
+    pub fn intern_near(&mut self, word: KeyedStr<'t>, near: u32) -> Result<u32, AllocError>
+        requires few { length self.old < 2 ^ 32 }
+        ensures few { OnOk result (length self.new ≤ length self.old + 1) }
         ensures grows { OnOk result (Grows self.old self.new) }
         ensures members { OnOk result (SameMembers self.new
-            (self.old ++ word.entry ∷ [])) }
-        ensures number { IfOk result (λ n. IsUnder self.new n word.entry) }
+            (self.old ++ word.entry.word ∷ [])) }
+        ensures number { IfOk result (λ n. IsUnder self.new n word.entry.word) }
     {
         if self.is_under(near, &word) {
             Ok(near)
@@ -118,7 +121,7 @@ impl<'t> Interner<'t> {
     }
 
     /// The strings, each with its number.
-    pub fn into_words(self) -> Vec<NumberedStr<'t>>
+    pub fn into_words(self) -> Vec<KeyedStr<'t>>
         ensures texts { texts result.items ≡ self.entry }
         ensures numbered { IsNumbered result.items }
     {

@@ -1,14 +1,15 @@
-//! A string that is ordered by its bytes, with its first eight bytes as one number that is compared first.
+//! A string that is ordered by its bytes, with its first eight bytes as one number that is compared first. It takes its number
+//! among strings along through a sort.
 //!
 //! Most comparisons of a sort are decided by that number, without a look at the text, which is elsewhere in memory. A
 //! key is stored with a space before it. It is kept as the text and a mark, so that no copy with a space is made.
-ghost use Rattle.std.specs.Prelude.{◌≡◌, ◌∷◌, ◌++◌, ◌-◌, ◌^◌, ℕ, List, Some, OnOk, length, min, nat_eq, refl};
-ghost use Rattle.std.specs.Ordering.{nat_cmp};
-ghost use Rattle.std.specs.Cmp.{partial_equiv_from_equiv};
+ghost use Rattle.std.specs.Prelude.{◌≡◌, ◌∷◌, ◌++◌, ◌-◌, ◌^◌, ◌<◌, List, ℕ, Some, get_or, OnOk, length, min, nat_eq, refl};
+ghost use Rattle.std.specs.Ordering.{nat_cmp, on};
+ghost use Rattle.std.specs.Cmp.{on_equiv, on_po, on_total, partial_equiv_from_equiv};
 ghost use Rattle.std.specs.Cmp.Lexicographic.{slice_cmp, pointwise, nat_list_eq_equiv, nat_list_cmp_total, texts_po, texts_ties};
 ghost use Rattle.byteorder.specs.Endian.{big_number};
-ghost use Rattle.hwdb_writer.specs.Internal.Codes.{coded_bytes};
 ghost use Rattle.hwdb_writer.specs.Internal.Keyed.{IsHeaded, spaced_text};
+ghost use Rattle.hwdb_writer.specs.Internal.Word.{Word, word_of, coded_word};
 
 use byteorder::{BigEndian, ByteOrder};
 use std::alloc::AllocError;
@@ -18,21 +19,22 @@ use std::marker::Model;
 /// How many of a string's first bytes are kept beside it as a number.
 const HEAD: usize = 8;
 
-/// A string: a text, or a space and a text. Its first eight bytes are beside it as a number, so that few comparisons
-/// look at the text.
+/// A string, and its number among strings. The string is a text, or a space and a text. Its first eight bytes are beside it
+/// as a number, so that few comparisons look at the text.
 #[derive(Drop)]
 pub struct KeyedStr<'t> {
     head: u64,
     is_spaced: bool,
+    number: u32,
     text: &'t [u8],
 }
 
 impl<'t> Model for KeyedStr<'t> {
-    ghost Value = { List ℕ };
+    ghost Value = { Word };
 
-    ghost coded = { coded_bytes };
+    ghost coded = { coded_word };
 
-    ghost view = { λ w. spaced_text w.is_spaced w.text.now };
+    ghost view = { λ w. record { word = spaced_text w.is_spaced w.text.now; number = w.number } };
 
     ghost invariant = { λ w. IsHeaded w.head (spaced_text w.is_spaced w.text.now) };
 }
@@ -41,8 +43,9 @@ impl<'t> Model for KeyedStr<'t> {
 const FACTOR: u64 = 0x9e37_79b9_7f4a_7c15;
 
 /// The first eight bytes as a number, the highest first; those that a shorter string lacks count as 0.
-fn head_of(text: &[u8]) -> u64
-    ensures { result ≡ big_number 8 text.now }
+pub fn head_of(text: &[u8]) -> u64
+    ensures head { result ≡ big_number 8 text.now }
+    ensures bytes { (i : ℕ) → get_or text.now i 0 < 256 }
 {
     if text.len() >= HEAD {
         return BigEndian::read_u64(text);
@@ -63,30 +66,53 @@ fn spaced_head_of(text: &[u8]) -> u64
 }
 
 impl<'t> KeyedStr<'t> {
-    /// A text.
+    /// A text, with the number 0.
     pub fn new(text: &'t [u8]) -> KeyedStr<'t>
-        ensures { result ≡ text.now }
+        ensures word { result.word ≡ text.now }
+        ensures number { result.number ≡ 0 }
     {
         KeyedStr {
             head: head_of(text),
             is_spaced: false,
+            number: 0,
             text,
         }
     }
 
-    /// A space and a text.
+    /// A space and a text, with the number 0.
     pub fn spaced(text: &'t [u8]) -> KeyedStr<'t>
-        ensures { result ≡ 32 ∷ text.now }
+        ensures { result.word ≡ 32 ∷ text.now }
     {
         KeyedStr {
             head: spaced_head_of(text),
             is_spaced: true,
+            number: 0,
             text,
         }
     }
 
-    /// A number made of its first, middle and last bytes. Equal strings have one number, and so can different ones.
-    pub fn number(&self) -> u64 {
+    /// The same string with another number.
+    pub fn numbered(self, number: u32) -> KeyedStr<'t>
+        ensures word { result.word ≡ self.entry.word }
+        ensures number { result.number ≡ number }
+    {
+        KeyedStr {
+            head: self.head,
+            is_spaced: self.is_spaced,
+            number,
+            text: self.text,
+        }
+    }
+
+    /// Its number among strings.
+    pub fn number(&self) -> u32
+        ensures { result ≡ self.now.number }
+    {
+        self.number
+    }
+
+    /// A number made of its first, middle and last bytes. Equal strings have one hash, and so can different ones.
+    pub fn hash(&self) -> u64 {
         let text = self.text;
         let last = text.len().saturating_sub(8);
         if last == 0 {
@@ -94,21 +120,21 @@ impl<'t> KeyedStr<'t> {
         }
         let middle = head_of(&text[last / 2..]);
         let end = head_of(&text[last..]);
-        let number = self.head.wrapping_mul(FACTOR).rotate_left(25) ^ middle;
-        let number = number.wrapping_mul(FACTOR).rotate_left(25) ^ end;
-        number.wrapping_mul(FACTOR)
+        let hash = self.head.wrapping_mul(FACTOR).rotate_left(25) ^ middle;
+        let hash = hash.wrapping_mul(FACTOR).rotate_left(25) ^ end;
+        hash.wrapping_mul(FACTOR)
     }
 
     /// Its length in bytes, or the greatest number if it is longer.
     pub fn len(&self) -> usize
-        ensures { result ≡ min (length self.now) (2 ^ 64 - 1) }
+        ensures { result ≡ min (length self.now.word) (2 ^ 64 - 1) }
     {
         self.text.len().saturating_add(self.is_spaced as usize)
     }
 
     /// Appends it.
     pub fn push_on(&self, out: &mut Vec<u8>) -> Result<(), AllocError>
-        ensures { OnOk result (out.new.items ≡ out.old.items ++ self.now) }
+        ensures { OnOk result (out.new.items ≡ out.old.items ++ self.now.word) }
     {
         if self.is_spaced {
             out.push(b' ')?;
@@ -132,7 +158,7 @@ fn cmp_spaced(spaced: &[u8], text: &[u8]) -> Ordering
 
 /// The order of strings.
 fn cmp_texts(a: &KeyedStr<'_>, b: &KeyedStr<'_>) -> Ordering
-    ensures { result ≡ slice_cmp nat_cmp a.now b.now }
+    ensures { result ≡ slice_cmp nat_cmp a.now.word b.now.word }
 {
     if a.is_spaced == b.is_spaced {
         return a.text.cmp(b.text);
@@ -143,10 +169,11 @@ fn cmp_texts(a: &KeyedStr<'_>, b: &KeyedStr<'_>) -> Ordering
     cmp_spaced(b.text, a.text).reverse()
 }
 
+/// Numbers don't count.
 impl<'t> PartialEq for KeyedStr<'t> {
-    ghost eq = { pointwise nat_eq };
+    ghost eq = { on word_of (pointwise nat_eq) };
 
-    ghost laws = { partial_equiv_from_equiv nat_list_eq_equiv };
+    ghost laws = { partial_equiv_from_equiv (on_equiv word_of nat_list_eq_equiv) };
 
     fn eq(&self, other: &Self) -> bool {
         if self.head != other.head {
@@ -163,13 +190,13 @@ impl<'t> PartialEq for KeyedStr<'t> {
 }
 
 impl<'t> Eq for KeyedStr<'t> {
-    ghost laws = { nat_list_eq_equiv };
+    ghost laws = { on_equiv word_of nat_list_eq_equiv };
 }
 
 impl<'t> PartialOrd for KeyedStr<'t> {
-    ghost partial_cmp = { λ x y. Some (slice_cmp nat_cmp x y) };
+    ghost partial_cmp = { on word_of (λ (x y : List ℕ). Some (slice_cmp nat_cmp x y)) };
 
-    ghost laws = { texts_po };
+    ghost laws = { on_po word_of texts_po };
 
     fn partial_cmp(&self, other: &Self) -> Option<Ordering> {
         Some(self.cmp(other))
@@ -177,13 +204,13 @@ impl<'t> PartialOrd for KeyedStr<'t> {
 }
 
 impl<'t> Ord for KeyedStr<'t> {
-    ghost cmp = { slice_cmp nat_cmp };
+    ghost cmp = { on word_of (slice_cmp nat_cmp) };
 
-    ghost total = { nat_list_cmp_total };
+    ghost total = { on_total word_of nat_list_cmp_total };
 
     ghost matches_partial_cmp = { λ x y. refl };
 
-    ghost matches_eq = { texts_ties };
+    ghost matches_eq = { λ x y. texts_ties (word_of x) (word_of y) };
 
     fn cmp(&self, other: &Self) -> Ordering {
         if self.head < other.head {

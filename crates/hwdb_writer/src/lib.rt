@@ -16,7 +16,6 @@ mod keyed;
 mod laws;
 mod memory;
 mod nodes;
-mod numbered;
 mod output;
 mod records;
 mod registry;

@@ -97,7 +97,7 @@ fn database_within(
 {
     let nodes = stored.nodes;
     let values = stored.values;
-    let size = text_length(&nodes);
+    let size = stored.size;
     let first = size.saturating_add(HEADER_SIZE);
     let table = table_of(alloc, stored.interner, first)?;
     if table.end > max_bytes as usize {
@@ -111,24 +111,45 @@ fn database_within(
 
 /// The nodes of the tight tree of what was set, and their values with strings by number. It consumes what was set, so that
 /// its memory is free for the nodes with strings by number.
-fn stored_values<'t>(alloc: Global, all: Vec<Setting<'t>>) -> Result<StoredValues<'t>, AllocError>
+///
+/// If the records alone are longer than `max_bytes`, that is the error. Else there are so few strings that their numbers
+/// have 4 bytes.
+fn stored_values<'t>(
+    alloc: Global,
+    all: Vec<Setting<'t>>,
+    max_bytes: u32,
+) -> Result<StoredValues<'t>, StoreError>
     requires { AllByRecursion IsStorableEntry all.items }
-    ensures { IfOk result (λ s. (es : List EntryRecord) × IsValued es s
+    ensures valued { IfOk result (λ s. (es : List EntryRecord) × IsValued es s
         × IsMade (surviving (map assignment_of all.entry.items)) (tree_of es s.nodes.items)) }
+    ensures too_large { IsErrOf result StoreError.TooLarge
+        → IsLonger (surviving (map assignment_of all.entry.items)) max_bytes }
 {
     let entries = last_of_each(alloc, &all)?;
     let nodes = post_order(alloc, &entries)?;
-    with_values(alloc, &entries, nodes)
+    let size = text_length(&nodes);
+    if size > max_bytes as usize {
+        return Err(StoreError::TooLarge);
+    }
+    let half = with_values(alloc, &entries, nodes, size)?;
+    Ok(half)
 }
 
-/// The nodes of the tight tree of what was set, with strings by number. It consumes the tree, and frees what was set.
-fn stored_nodes<'t>(alloc: Global, tree: Assignments<'t>) -> Result<Stored<'t>, AllocError>
-    ensures { IfOk result (λ s. (es : List EntryRecord) × (ns : List BuiltNode) × IsStored es ns s
-        × IsMade tree.entry (tree_of es ns)) }
+/// The nodes of the tight tree of what was set, with strings by number. It consumes the tree, and frees what was set. The
+/// records have at most so many bytes.
+fn stored_nodes<'t>(
+    alloc: Global,
+    tree: Assignments<'t>,
+    max_bytes: u32,
+) -> Result<Stored<'t>, StoreError>
+    ensures stored { IfOk result (λ s. (es : List EntryRecord) × (ns : List BuiltNode)
+        × IsStored es ns s × IsMade tree.entry (tree_of es ns)) }
+    ensures too_large { IsErrOf result StoreError.TooLarge → IsLonger tree.entry max_bytes }
 {
     keep_pages(alloc);
-    let half = stored_values(alloc, tree.entries)?;
-    store(alloc, half)
+    let half = stored_values(alloc, tree.entries, max_bytes)?;
+    let stored = store(alloc, half)?;
+    Ok(stored)
 }
 
 /// The database of the tree's map, of at most `max_bytes` bytes. It consumes the tree, so that it takes less memory
@@ -151,7 +172,7 @@ pub fn into_database(
     ensures within { IfOk result (λ v. length v.items ≤ max_bytes) }
     ensures too_large { IsErrOf result StoreError.TooLarge → IsLonger tree.entry max_bytes }
 {
-    let stored = stored_nodes(alloc, tree)?;
+    let stored = stored_nodes(alloc, tree, max_bytes)?;
     match database_within(alloc, stored, max_bytes)? {
         Some(bytes) => Ok(bytes),
         None => Err(StoreError::TooLarge),

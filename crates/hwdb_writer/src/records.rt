@@ -4,10 +4,11 @@ ghost use Rattle.byteorder.specs.Endian.{little_bytes};
 ghost use Rattle.hwdb_spec.specs.Tree.{Value};
 ghost use Rattle.hwdb_spec.specs.Written.{padding, text_size, node_text, value_text};
 ghost use Rattle.hwdb_writer.specs.declared.entries.Setting.{Setting};
-ghost use Rattle.hwdb_writer.specs.declared.nodes.BuiltNode.{BuiltNode};
+ghost use Rattle.hwdb_writer.specs.declared.nodes.BuiltNode.{BuiltNode as NodeRecord};
 ghost use Rattle.hwdb_writer.specs.Internal.PostOrder.{IsPostOrder, tree_of};
-ghost use Rattle.hwdb_writer.specs.Internal.Stored.{IsUnder, IsAt, AreNodes, AreValues, AreRecords, record_text};
+ghost use Rattle.hwdb_writer.specs.Internal.Stored.{IsAt, AreNodes, AreValues, AreRecords, record_text};
 
+use crate::nodes::BuiltNode;
 use crate::stored::{StoredNode, StoredValue};
 use byteorder::{ByteOrder, LittleEndian};
 use std::alloc::{AllocError, Global};
@@ -110,10 +111,9 @@ pub fn record_length(children: usize, values: usize) -> usize
 }
 
 /// The length in bytes of the records of the nodes, or the greatest number if they are longer.
-pub fn text_length(nodes: &[StoredNode]) -> usize
-    ensures { (words : List (List ℕ)) (es : List Setting) (ns : List BuiltNode) → IsPostOrder es ns
-        → AreNodes (IsUnder words) nodes.now ns
-        → result ≡ min (text_size (tree_of es ns)) (2 ^ 64 - 1) }
+pub fn text_length(nodes: &[BuiltNode<'_>]) -> usize
+    ensures { (es : List Setting) → IsPostOrder es nodes.now
+        → result ≡ min (text_size (tree_of es nodes.now)) (2 ^ 64 - 1) }
 {
     let mut total = 0usize;
     for node in nodes {
@@ -139,9 +139,9 @@ fn push_value(value: &StoredValue, places: &[usize], out: &mut Vec<u8>) -> Resul
     let origin = value.line as u64 + AFTER_LINE * value.priority as u64;
     push_four(
         out,
-        places[value.key] as u64,
-        places[value.value] as u64,
-        places[value.path] as u64,
+        places[value.key as usize] as u64,
+        places[value.value as usize] as u64,
+        places[value.path as usize] as u64,
         origin,
     )
 }
@@ -190,7 +190,12 @@ fn push_record(
 {
     let first = children.as_slice().len() - CHILD_SIZE * node.children as usize;
     let at = out.as_slice().len();
-    push_node(out, places[node.prefix], node.children as u8, values.len())?;
+    push_node(
+        out,
+        places[node.prefix as usize],
+        node.children as u8,
+        values.len(),
+    )?;
     push_rest(out, children, first)?;
     push_values(values, places, out)?;
     children.truncate(first);
@@ -205,9 +210,9 @@ pub fn push_records(
     places: &[usize],
     out: &mut Vec<u8>,
 ) -> Result<(), AllocError>
-    requires { (place : List ℕ → ℕ) × (es : List Setting) × (ns : List BuiltNode)
+    requires { (place : List ℕ → ℕ) × (es : List Setting) × (ns : List NodeRecord)
         × AreRecords place places.now es ns nodes.now values.now }
-    ensures { OnOk result ((place : List ℕ → ℕ) (es : List Setting) (ns : List BuiltNode)
+    ensures { OnOk result ((place : List ℕ → ℕ) (es : List Setting) (ns : List NodeRecord)
         → AreRecords place places.now es ns nodes.now values.now
         → out.new.items ≡ out.old.items
         ++ node_text place (length out.old.items) (tree_of es ns)) }

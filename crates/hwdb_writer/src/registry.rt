@@ -22,21 +22,21 @@ impl Registry {
     /// Which entry a string has.
     fn entry_of(&self, word: &KeyedStr<'_>) -> usize {
         let entries = self.places.len() as u64;
-        ((word.number() >> 32).wrapping_mul(entries) >> 32) as usize
+        ((word.hash() >> 32).wrapping_mul(entries) >> 32) as usize
     }
 
     /// The place at which the string may be.
-    pub fn lookup(&self, word: &KeyedStr<'_>) -> usize {
+    pub fn lookup(&self, word: &KeyedStr<'_>) -> u32 {
         match self.places.get(self.entry_of(word)) {
-            Some(place) => *place as usize,
+            Some(place) => *place,
             None => 0,
         }
     }
 
-    /// Remembers the place of the string. Does nothing if the place is greater than 4,294,967,295.
-    pub fn remember(&mut self, word: &KeyedStr<'_>, place: usize) {
+    /// Remembers the place of the string.
+    pub fn remember(&mut self, word: &KeyedStr<'_>, place: u32) {
         let entry = self.entry_of(word);
-        if let (Some(remembered), Ok(place)) = (self.places.get_mut(entry), u32::try_from(place)) {
+        if let Some(remembered) = self.places.get_mut(entry) {
             *remembered = place;
         }
     }

@@ -1,10 +1,10 @@
 //! Nodes and their values as a database has them, but for offsets: strings have numbers, and records have none yet.
-ghost use Rattle.std.specs.Prelude.{◌≡◌, ◌++◌, ◌∷◌, [], List, OnOk, IfOk, map, flat_map};
+ghost use Rattle.std.specs.Prelude.{◌≡◌, ◌++◌, ◌∷◌, [], ◌+◌, ◌*◌, ◌^◌, ◌≤◌, ◌<◌, List, OnOk, IfOk, length, map, flat_map};
 ghost use Rattle.hwdb_spec.specs.Tree.{Value};
-ghost use Rattle.hwdb_spec.specs.Written.{strings_of_value};
+ghost use Rattle.hwdb_spec.specs.Written.{strings_of_value, text_size};
 ghost use Rattle.hwdb_writer.specs.declared.entries.Setting.{Setting as EntryRecord};
 ghost use Rattle.hwdb_writer.specs.Internal.Entries.{value_of, now_of};
-ghost use Rattle.hwdb_writer.specs.Internal.PostOrder.{IsPostOrder};
+ghost use Rattle.hwdb_writer.specs.Internal.PostOrder.{IsPostOrder, tree_of};
 ghost use Rattle.hwdb_writer.specs.Internal.Membership.{SameMembers};
 ghost use Rattle.hwdb_writer.specs.Internal.Stored.{Grows, AreNodes, AreValues, IsUnder, IsValued, IsStored, all_values, prefixes};
 
@@ -17,9 +17,9 @@ use std::alloc::{AllocError, Global};
 /// A value of a node, with its strings by number.
 #[derive(Clone, Copy)]
 pub struct StoredValue {
-    pub key: usize,
-    pub value: usize,
-    pub path: usize,
+    pub key: u32,
+    pub value: u32,
+    pub path: u32,
     pub line: u32,
     pub priority: u16,
 }
@@ -30,29 +30,32 @@ pub struct StoredValue {
 pub struct StoredNode {
     pub byte: u8,
     pub children: u16,
-    pub prefix: usize,
+    pub prefix: u32,
     pub count: usize,
 }
 
-/// The nodes of a tree, with their strings. The values of all of them one after another, and the strings of the values.
+/// The nodes of a tree, with their strings. The values of all of them one after another, and the strings of the values. The
+/// records have `size` bytes.
 #[derive(Drop)]
 pub struct StoredValues<'t> {
     pub nodes: Vec<BuiltNode<'t>>,
     pub values: Vec<StoredValue>,
     pub interner: Interner<'t>,
+    pub size: usize,
 }
 
-/// The nodes of a tree, the values of all of them one after another, and their strings.
+/// The nodes of a tree, the values of all of them one after another, and their strings. The records have `size` bytes.
 #[derive(Drop)]
 pub struct Stored<'t> {
     pub nodes: Vec<StoredNode>,
     pub values: Vec<StoredValue>,
     pub interner: Interner<'t>,
+    pub size: usize,
 }
 
 /// The numbers of the last value's key and path, or 0 if there is none. Most values have the key and path of the value
 /// before them.
-fn last_key_and_path(values: &[StoredValue]) -> (usize, usize) {
+fn last_key_and_path(values: &[StoredValue]) -> (u32, u32) {
     match values.last() {
         Some(last) => (last.key, last.path),
         None => (0, 0),
@@ -65,6 +68,8 @@ fn push_value<'t>(
     interner: &mut Interner<'t>,
     out: &mut Vec<StoredValue>,
 ) -> Result<(), AllocError>
+    requires few { length interner.old + 3 ≤ 2 ^ 32 }
+    ensures few { OnOk result (length interner.new ≤ length interner.old + 3) }
     ensures grows { OnOk result (Grows interner.old interner.new) }
     ensures members { OnOk result (SameMembers interner.new
         (interner.old ++ strings_of_value (value_of entry.now))) }
@@ -93,6 +98,9 @@ fn push_values<'t>(
     interner: &mut Interner<'t>,
     out: &mut Vec<StoredValue>,
 ) -> Result<(), AllocError>
+    requires few { length interner.old + 3 * length entries.now ≤ 2 ^ 32 }
+    ensures few { OnOk result
+        (length interner.new ≤ length interner.old + 3 * length entries.now) }
     ensures grows { OnOk result (Grows interner.old interner.new) }
     ensures members { OnOk result (SameMembers interner.new
         (interner.old ++ flat_map strings_of_value (map value_of (map now_of entries.now)))) }
@@ -114,7 +122,11 @@ fn store_values<'t>(
     nodes: &[BuiltNode<'t>],
     interner: &mut Interner<'t>,
 ) -> Result<Vec<StoredValue>, AllocError>
-    requires { IsPostOrder (map now_of entries.now) nodes.now }
+    requires order { IsPostOrder (map now_of entries.now) nodes.now }
+    requires few { length interner.old
+        + 3 * length (all_values (map now_of entries.now) nodes.now) ≤ 2 ^ 32 }
+    ensures few { OnOk result (length interner.new ≤ length interner.old
+        + 3 * length (all_values (map now_of entries.now) nodes.now)) }
     ensures members { OnOk result (SameMembers interner.new
         (interner.old
         ++ flat_map strings_of_value (all_values (map now_of entries.now) nodes.now))) }
@@ -130,7 +142,7 @@ fn store_values<'t>(
 }
 
 /// The number of the last node's string, or 0 if there is none. Many nodes have the string of the node before them.
-fn last_prefix(nodes: &[StoredNode]) -> usize {
+fn last_prefix(nodes: &[StoredNode]) -> u32 {
     match nodes.last() {
         Some(last) => last.prefix,
         None => 0,
@@ -143,6 +155,7 @@ fn store_nodes<'t>(
     nodes: &[BuiltNode<'t>],
     interner: &mut Interner<'t>,
 ) -> Result<Vec<StoredNode>, AllocError>
+    requires few { length interner.old + length nodes.now ≤ 2 ^ 32 }
     ensures grows { OnOk result (Grows interner.old interner.new) }
     ensures members { OnOk result (SameMembers interner.new
         (interner.old ++ prefixes nodes.now)) }
@@ -164,13 +177,16 @@ fn store_nodes<'t>(
 }
 
 /// The nodes, each after its children, and the values that they have among the entries. Each string of these is looked
-/// up once.
+/// up once. The records have `size` bytes, which bounds how many strings there are.
 pub fn with_values<'t>(
     alloc: Global,
     entries: &[&Setting<'t>],
     nodes: Vec<BuiltNode<'t>>,
+    size: usize,
 ) -> Result<StoredValues<'t>, AllocError>
-    requires { IsPostOrder (map now_of entries.now) nodes.items }
+    requires order { IsPostOrder (map now_of entries.now) nodes.items }
+    requires sized { size ≡ text_size (tree_of (map now_of entries.now) nodes.items) }
+    requires within { size < 2 ^ 32 }
     ensures { IfOk result (λ s. (s.nodes.items ≡ nodes.entry.items)
         × IsValued (map now_of entries.now) s) }
 {
@@ -182,11 +198,13 @@ pub fn with_values<'t>(
         nodes,
         values,
         interner,
+        size,
     })
 }
 
 /// The nodes, with their strings by number too. Each of these is looked up once.
 pub fn store(alloc: Global, half: StoredValues<'_>) -> Result<Stored<'_>, AllocError>
+    requires { (es : List EntryRecord) × IsValued es half }
     ensures { IfOk result (λ s. (es : List EntryRecord) → IsValued es half.entry
         → IsStored es half.entry.nodes.items s) }
 {
@@ -196,5 +214,6 @@ pub fn store(alloc: Global, half: StoredValues<'_>) -> Result<Stored<'_>, AllocE
         nodes,
         values: half.values,
         interner,
+        size: half.size,
     })
 }

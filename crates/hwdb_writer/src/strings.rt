@@ -5,12 +5,11 @@ ghost use Rattle.std.specs.Ordering.{nat_cmp, on};
 ghost use Rattle.std.specs.Cmp.Lexicographic.{slice_cmp};
 ghost use Rattle.std.specs.List.Sorted.{IsPermutation, IsSorted};
 ghost use Rattle.hwdb_spec.specs.Written.{ended, section_of};
-ghost use Rattle.hwdb_writer.specs.declared.numbered.NumberedStr.{NumberedStr as Word};
-ghost use Rattle.hwdb_writer.specs.Internal.Numbered.{word_of, texts, distinct, IsNumbered, IsNew, IsOld, IsFilled, IsTable};
+ghost use Rattle.hwdb_writer.specs.Internal.Word.{Word, word_of};
+ghost use Rattle.hwdb_writer.specs.Internal.Numbered.{texts, distinct, IsNumbered, IsNew, IsOld, IsFilled, IsTable};
 
 use crate::interner::Interner;
 use crate::keyed::KeyedStr;
-use crate::numbered::NumberedStr;
 use std::alloc::{AllocError, Global};
 
 /// The bytes of the section: the strings in order, each once, and each with the byte 0 after it. Beside it are the offset of
@@ -24,7 +23,7 @@ pub struct StringTable {
 
 /// Whether no string like this one is before it. The strings are in order.
 #[inline(always)]
-fn is_new(ordered: &[NumberedStr<'_>], i: usize) -> bool
+fn is_new(ordered: &[KeyedStr<'_>], i: usize) -> bool
     requires { i < length ordered.now }
     ensures yes { OnTrue result (IsNew (texts ordered.now) i) }
     ensures no { OnFalse result (IsOld (texts ordered.now) i) }
@@ -32,7 +31,7 @@ fn is_new(ordered: &[NumberedStr<'_>], i: usize) -> bool
     if i == 0 {
         return true;
     }
-    if ordered[i - 1].word == ordered[i].word {
+    if ordered[i - 1] == ordered[i] {
         return false;
     }
     true
@@ -50,7 +49,7 @@ fn put(places: &mut [usize], at: usize, value: usize)
 /// Appends a string, and the byte 0 after it.
 #[inline(always)]
 fn push_ended(out: &mut Vec<u8>, word: &KeyedStr<'_>) -> Result<(), AllocError>
-    ensures { OnOk result (out.new.items ≡ out.old.items ++ ended word.now) }
+    ensures { OnOk result (out.new.items ≡ out.old.items ++ ended word.now.word) }
 {
     word.push_on(out)?;
     out.push(0)?;
@@ -62,7 +61,7 @@ fn push_ended(out: &mut Vec<u8>, word: &KeyedStr<'_>) -> Result<(), AllocError>
 ///
 /// A string is compared with the one before it and copied at once, as its text is in the cache then.
 fn fill(
-    ordered: &[NumberedStr<'_>],
+    ordered: &[KeyedStr<'_>],
     first: usize,
     places: &mut [usize],
     section: &mut Vec<u8>,
@@ -77,22 +76,22 @@ fn fill(
 {
     let mut start = first;
     let mut end = first;
-    for (i, numbered) in ordered.iter().enumerate() {
+    for (i, word) in ordered.iter().enumerate() {
         if is_new(ordered, i) {
             start = end;
-            end = end.saturating_add(numbered.word.len()).saturating_add(1);
-            push_ended(section, &numbered.word)?;
+            end = end.saturating_add(word.len()).saturating_add(1);
+            push_ended(section, word)?;
         }
-        put(places, numbered.number, start);
+        put(places, word.number() as usize, start);
     }
     Ok(end)
 }
 
 /// How many bytes the strings have with a byte after each, or the greatest number if they have more.
-fn room_for(words: &[NumberedStr<'_>]) -> usize {
+fn room_for(words: &[KeyedStr<'_>]) -> usize {
     let mut room = 0usize;
-    for numbered in words {
-        room = room.saturating_add(numbered.word.len()).saturating_add(1);
+    for word in words {
+        room = room.saturating_add(word.len()).saturating_add(1);
     }
     room
 }

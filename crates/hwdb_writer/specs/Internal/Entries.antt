@@ -1,5 +1,7 @@
 -- What an entry sets: a value at a pattern and a key.
-use Rattle.std.specs.Prelude.{List, ℕ, ◌∷◌, ◌≤◌, length}
+use Rattle.std.specs.Prelude.{List, ℕ, ◌∷◌, ◌≤◌, length, refl}
+use Rattle.std.specs.Coded.{Coded, coded_ℕ, code_by, coded×}
+use Rattle.hwdb_writer.specs.Internal.Codes.{coded_bytes}
 use Rattle.std.specs.Borrow.{Bor}
 use Rattle.std.specs.Cmp.{IsTotalOrder, on_total, then_total}
 use Rattle.std.specs.Cmp.Lexicographic.{nat_list_cmp_total}
@@ -35,6 +37,15 @@ by_place a b = place_cmp (place_of a) (place_of b)
 pub by_place_total : IsTotalOrder by_place
 by_place_total =
     then_total (on_total (λ (e : Setting). e.pattern.now) nat_list_cmp_total) (on_total (λ (e : Setting). e.key.now) nat_list_cmp_total)
+
+-- the code of an entry
+abbrev pub coded_ref : Coded (Bor (List ℕ))
+coded_ref = code_by ((ℕ × ℕ) × List ℕ) (coded× (coded× coded_ℕ coded_ℕ) coded_bytes) (λ r. (r.ref_ptr, r.now)) (λ p. record { ref_ptr = p.0; now = p.1 }) (λ _. refl)
+
+abbrev pub coded_entry : Coded Setting
+coded_entry =
+    code_by (((Bor (List ℕ) × Bor (List ℕ)) × (Bor (List ℕ) × Bor (List ℕ))) × (ℕ × ℕ)) (coded× (coded× (coded× coded_ref coded_ref) (coded× coded_ref coded_ref)) (coded× coded_ℕ coded_ℕ))
+    (λ e. (((e.pattern, e.key), (e.value, e.path)), (e.line, e.priority))) (λ p. record { pattern = p.0.0.0; key = p.0.0.1; value = p.0.1.0; path = p.0.1.1; line = p.1.0; priority = p.1.1 }) (λ _. refl)
 
 -- the entry that a reference is to
 abbrev pub now_of : Bor Setting → Setting

@@ -4,19 +4,16 @@ use Rattle.std.specs.List.{dedup}
 use Rattle.std.specs.Cmp.Lexicographic.{pointwise}
 use Rattle.hwdb_spec.specs.Assignment.{ascending}
 use Rattle.hwdb_spec.specs.Written.{section_of, place_of}
-use Rattle.hwdb_writer.specs.declared.numbered.NumberedStr.{NumberedStr}
+use Rattle.hwdb_writer.specs.Internal.Word.{Word, word_of}
 use Rattle.hwdb_writer.specs.declared.strings.StringTable.{StringTable}
 
-abbrev pub word_of : NumberedStr → List ℕ
-word_of w = w.word
-
 -- the strings without their numbers
-abbrev pub texts : List NumberedStr → List (List ℕ)
+abbrev pub texts : List Word → List (List ℕ)
 texts = map word_of
 
 -- each has its place in the list as its number
-abbrev pub IsNumbered : List NumberedStr → Type 0
-IsNumbered ws = (i : ℕ) (d : NumberedStr) → i < length ws → (get_or ws i d).number ≡ i
+abbrev pub IsNumbered : List Word → Type 0
+IsNumbered ws = (i : ℕ) (d : Word) → i < length ws → (get_or ws i d).number ≡ i
 
 -- the string at i isn't the one before it
 abbrev pub IsNew : List (List ℕ) → ℕ → Type 0
@@ -41,7 +38,7 @@ abbrev pub bounded_end : ℕ → List (List ℕ) → ℕ
 bounded_end first table = min (first + length (section_of table)) (2 ^ 64 - 1)
 
 -- the offset of each string by its number, and the offset at which they end; the strings are in order
-pub record IsFilled (first : ℕ) (words ordered : List NumberedStr) (places : List ℕ) (end : ℕ) : Type 0 where
+pub record IsFilled (first : ℕ) (words ordered : List Word) (places : List ℕ) (end : ℕ) : Type 0 where
   pub placed : places ≡ map (bounded_place first (distinct (texts ordered))) (texts words)
   pub ended : end ≡ bounded_end first (distinct (texts ordered))
 
@@ -58,9 +55,9 @@ pub record IsReached (first : ℕ) (ts : List (List ℕ)) (i start end : ℕ) : 
   pub ended : (k : ℕ) → i ≡ k + 1 → end ≡ min (place_of first (distinct ts) (get_or ts k []) + length (get_or ts k []) + 1) (2 ^ 64 - 1)
 
 -- the offsets of the first i are filled in
-abbrev pub IsFilledTo : ℕ → List NumberedStr → List ℕ → ℕ → Type 0
+abbrev pub IsFilledTo : ℕ → List Word → List ℕ → ℕ → Type 0
 IsFilledTo first ordered places i =
-    (j : ℕ) (d : NumberedStr) → j < i → get_or places (get_or ordered j d).number 0 ≡ bounded_place first (distinct (texts ordered)) (get_or ordered j d).word
+    (j : ℕ) (d : Word) → j < i → get_or places (get_or ordered j d).number 0 ≡ bounded_place first (distinct (texts ordered)) (get_or ordered j d).word
 
 -- what comes after the string that was kept last, each once
 unfoldable pub left_after : List ℕ → List (List ℕ) → List (List ℕ)

@@ -1,5 +1,5 @@
 -- Nodes and values with strings by number, and which nodes and values these are.
-use Rattle.std.specs.Prelude.{List, [], ℕ, ◌+◌, ◌++◌, ◌∷◌, ◌^◌, ◌<◌, ◌≡◌, length, map, flat_map, slice_index_or}
+use Rattle.std.specs.Prelude.{List, [], ℕ, ◌+◌, ◌++◌, ◌∷◌, ◌^◌, ◌<◌, ◌≤◌, ◌≡◌, length, map, flat_map, slice_index_or}
 use Rattle.byteorder.specs.Endian.{little_bytes}
 use Rattle.std.specs.List.{AllZip}
 use Rattle.hwdb_spec.specs.Assignment.{ascending}
@@ -64,6 +64,8 @@ pub record IsValued (es : List Setting) (s : StoredValues) : Type 0 where
   pub order : IsPostOrder es s.nodes.items
   pub values : AreValues (IsUnder s.interner) s.values.items (all_values es s.nodes.items)
   pub members : SameMembers s.interner (([] ∷ []) ++ flat_map strings_of_value (all_values es s.nodes.items))
+  pub sized : s.size ≡ text_size (tree_of es s.nodes.items)
+  pub few : length s.interner + length s.nodes.items ≤ 2 ^ 32
 
 -- the nodes and values of entries, and their strings
 pub record IsStored (es : List Setting) (ns : List BuiltNode) (s : Stored) : Type 0 where
@@ -71,6 +73,7 @@ pub record IsStored (es : List Setting) (ns : List BuiltNode) (s : Stored) : Typ
   pub nodes : AreNodes (IsUnder s.interner) s.nodes.items ns
   pub values : AreValues (IsUnder s.interner) s.values.items (all_values es ns)
   pub strings : ascending s.interner ≡ table_of (tree_of es ns)
+  pub sized : s.size ≡ text_size (tree_of es ns)
 
 -- what the records of entries are made of
 pub record AreRecords (place : List ℕ → ℕ) (places : List ℕ) (es : List Setting) (ns : List BuiltNode) (ss : List StoredNode) (vs : List StoredValue) : Type 0 where

@@ -1,18 +1,19 @@
+use Rattle.std.proofs.Common.{◌∙◌}
 use Rattle.std.proofs.lemmas.List.Filters.{dedup_is}
-use Rattle.hwdb_writer.proofs.LastLemmas.{refs_ascend, refs_same, refs_storable}
+use Rattle.hwdb_writer.proofs.LastLemmas.{last_ascend, last_same, last_storable}
 use Rattle.hwdb_writer.proofs.entries.last_of_each.Goals as goal
 
 pub returns-clause-ascending : goal.returns-clause-ascending
 returns-clause-ascending c =
-    refs_ascend c.args.all.now c.in_ok-order.order.items c.sort.new.self.items c.dedup.new.self.items c.in_ok-order.ensures
-    c.in_ok-sort.ensures.permutation c.in_ok-sort.ensures.sorted c.in_ok-sort.ensures.stable (dedup_is _ _ _ c.dedup.ensures.filtered)
+    last_ascend c.args.all.now c.in_ok-order.order.items c.sort.new.self.items _ c.in_ok-order.ensures c.in_ok-sort.ensures.permutation c.in_ok-sort.ensures.sorted c.in_ok-sort.ensures.stable
+    (c.in_ok-entries.ensures ∙ c.deref.ensures.value ∙ dedup_is _ _ _ c.dedup.ensures.filtered)
 
 pub returns-clause-same : goal.returns-clause-same
 returns-clause-same c =
-    refs_same c.args.all.now c.in_ok-order.order.items c.sort.new.self.items c.dedup.new.self.items c.in_ok-order.ensures
-    c.in_ok-sort.ensures.permutation c.in_ok-sort.ensures.sorted c.in_ok-sort.ensures.stable (dedup_is _ _ _ c.dedup.ensures.filtered)
+    last_same c.args.all.now c.in_ok-order.order.items c.sort.new.self.items _ c.in_ok-order.ensures c.in_ok-sort.ensures.permutation c.in_ok-sort.ensures.sorted c.in_ok-sort.ensures.stable
+    (c.in_ok-entries.ensures ∙ c.deref.ensures.value ∙ dedup_is _ _ _ c.dedup.ensures.filtered)
 
 pub returns-clause-storable : goal.returns-clause-storable
 returns-clause-storable c =
-    refs_storable c.args.all.now c.in_ok-order.order.items c.sort.new.self.items c.dedup.new.self.items c.in_ok-order.ensures
-    c.in_ok-sort.ensures.permutation c.in_ok-sort.ensures.sorted c.in_ok-sort.ensures.stable (dedup_is _ _ _ c.dedup.ensures.filtered)
+    last_storable c.args.all.now c.in_ok-order.order.items c.sort.new.self.items _ c.in_ok-order.ensures c.in_ok-sort.ensures.permutation c.in_ok-sort.ensures.sorted c.in_ok-sort.ensures.stable
+    (c.in_ok-entries.ensures ∙ c.deref.ensures.value ∙ dedup_is _ _ _ c.dedup.ensures.filtered)

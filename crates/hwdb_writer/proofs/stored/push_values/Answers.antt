@@ -11,6 +11,8 @@ use Rattle.hwdb_writer.proofs.stored.push_values.Goals as goal
 
 pub loop-entry-init : goal.loop-entry-init
 loop-entry-init c = record {
+  few = omega arith;
+  within = omega arith;
   grows = grows_itself _;
   members = same_refl _;
   values = λ xs p. subst (AreValues (IsUnder c.args.interner.now) c.args.out.now.items) (sym (none_behind xs)) p;
@@ -26,6 +28,8 @@ loop-entry-preserved c =
     let long = length-map rs now_of in
     let lt : i < length es = omega (arith, c.loop-entry-test.true, long) in
     record {
+      few = omega (arith, c.in_ok-push_value.ensures.few, c.loop-entry.invariant.few);
+      within = omega (arith, c.loop-entry-test.true);
       grows = λ n s u. c.in_ok-push_value.ensures.grows n s (c.loop-entry.invariant.grows n s u);
       members = same_step _ _ (strings_of_value (value_of e)) _ _ _ c.in_ok-push_value.ensures.members
           (one_left value_strings (λ (s : Setting). strings_of_value (value_of s)) value_strings-cons es i e is lt) c.loop-entry.invariant.members;
@@ -34,6 +38,12 @@ loop-entry-preserved c =
           (append_assoc xs (map value_of (take i es)) (value_of e ∷ []) ∙ ap (λ l. xs ++ l) (ap (λ (s : Setting). map value_of (take i es) ++ value_of s ∷ []) is ∙ sym (map_more value_of es i e lt)))
           (c.in_ok-push_value.ensures.values (xs ++ map value_of (take i es)) (c.loop-entry.invariant.values xs p));
     }
+
+pub push_value-requires : goal.push_value-requires
+push_value-requires c = omega (arith, c.requires, c.loop-entry.invariant.few, c.loop-entry-test.true)
+
+pub returns-clause-few : goal.returns-clause-few
+returns-clause-few c = omega (arith, c.loop-entry.invariant.few, c.loop-entry.invariant.within)
 
 pub returns-clause-grows : goal.returns-clause-grows
 returns-clause-grows c = c.loop-entry.invariant.grows

@@ -2,8 +2,8 @@ use Rattle.std.proofs.Common.{◌≡◌, ◌+◌, ◌-◌, ◌^◌, ◌++◌, Li
 use Rattle.hwdb_spec.specs.Written.{ended}
 use Rattle.hwdb_writer.proofs.SectionLemmas.{none_sectioned, new_sectioned, old_sectioned, all_sectioned}
 use Rattle.std.proofs.lemmas.List.{length-map, length-set}
-use Rattle.hwdb_writer.specs.declared.numbered.NumberedStr.{NumberedStr}
-use Rattle.hwdb_writer.specs.Internal.Numbered.{texts, word_of, bounded_place, distinct, IsReached, IsSectioned}
+use Rattle.hwdb_writer.specs.Internal.Word.{Word, word_of}
+use Rattle.hwdb_writer.specs.Internal.Numbered.{texts, bounded_place, distinct, IsReached, IsSectioned}
 use Rattle.hwdb_writer.proofs.PlaceLemmas.{rises, nothing_reached, new_reached, old_reached, all_reached, text_in}
 use Rattle.hwdb_writer.proofs.TableLemmas.{number_within, texts_sorted, text_at, filled_more, all_filled, reached_as}
 use Rattle.hwdb_writer.proofs.strings.fill.Goals as goal
@@ -22,8 +22,8 @@ pub put-requires : goal.put-requires
 put-requires c =
     let w = c.index-ordered-i.result in
     let within = number_within c.requires.numbered.0 c.args.ordered.now c.requires.numbered.1 c.requires.numbered.2 c.loop-i.i w c.loop-i-test.true in
-    let e = ap (λ (v : NumberedStr). v.number) c.index-ordered-i.is in
-    omega (arith, within, e, c.loop-i.invariant.long)
+    let e = ap (λ (v : Word). v.number) c.index-ordered-i.is in
+    omega (arith, within, e, c.number.ensures, c.loop-i.invariant.long)
 
 pub loop-i-preserved : goal.loop-i-preserved
 loop-i-preserved c =
@@ -40,13 +40,13 @@ loop-i-preserved c =
           c.loop-i.invariant.reached (b.len.ensures ∙ ap (λ t. min (length t) (2 ^ 64 - 1)) (sym at)) b.saturating_add.ensures b.saturating_add-end.ensures)
       | else-is_new b ↦ reached_as c.args.first ts (i + 1) _ _ _ _ b.start-is b.end-is (old_reached c.args.first ts i c.loop-i.start c.loop-i.end b.if-is_new.ensures.no c.loop-i.invariant.reached)
     ] in
-    let e = ap (λ (v : NumberedStr). v.number) c.index-ordered-i.is in
+    let e = ap (λ (v : Word). v.number) c.index-ordered-i.is in
     record {
       long = ap length c.put.ensures ∙ length-set c.loop-i.places _ _ ∙ c.loop-i.invariant.long;
       within = omega (arith, lt);
       reached = r;
       filled = filled_more c.requires.numbered.0 os c.requires.numbered.1 c.requires.numbered.2 c.args.first c.loop-i.places c.put.new.places i c.if-is_new.start w lt c.loop-i.invariant.long
-          (c.put.ensures ∙ ap (λ k. set c.loop-i.places k c.if-is_new.start) e)
+          (c.put.ensures ∙ ap (λ k. set c.loop-i.places k c.if-is_new.start) (c.number.ensures ∙ e))
           (r.started i refl ∙ ap (bounded_place c.args.first (distinct ts)) (text_at os i w lt)) c.loop-i.invariant.filled;
       sectioned = elim c.if-is_new.branch [
         | then-is_new+in_ok-push_ended b ↦ subst (λ (l : List ℕ). IsSectioned c.args.section.now.items ts (i + 1) l) (sym (ap (λ (v : Vec ℕ Global). v.items) b.section-is))

@@ -3,7 +3,8 @@ use Rattle.std.specs.List.Sorted.{IsPermutation}
 use Rattle.std.proofs.lemmas.List.{length-map, with_items_is}
 use Rattle.std.proofs.lemmas.List.Sorted.{length_permutation}
 use Rattle.hwdb_spec.specs.Assignment.{ascending}
-use Rattle.hwdb_writer.specs.Internal.Numbered.{texts, word_of, distinct, bounded_place, bounded_end}
+use Rattle.hwdb_writer.specs.Internal.Word.{word_of}
+use Rattle.hwdb_writer.specs.Internal.Numbered.{texts, distinct, bounded_place, bounded_end}
 use Rattle.hwdb_spec.specs.Written.{section_of}
 use Rattle.hwdb_writer.proofs.TableLemmas.{distinct_is}
 use Rattle.hwdb_writer.proofs.strings.table_of.Goals as goal

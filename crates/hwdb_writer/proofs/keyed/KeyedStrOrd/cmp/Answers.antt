@@ -1,4 +1,5 @@
-use Rattle.std.proofs.Common.{arith, ◌∙◌}
+use Rattle.std.proofs.Common.{arith, ap, length, ◌∙◌}
+use Rattle.hwdb_writer.specs.Internal.Word.{Word}
 use Rattle.hwdb_writer.proofs.HeadLemmas.{less_head, greater_head, same_head}
 use Rattle.hwdb_writer.proofs.SpacedLemmas.{is_short, short_lengths}
 use Rattle.hwdb_writer.proofs.keyed.KeyedStrOrd.cmp.Goals as goal
@@ -15,4 +16,4 @@ returns-then-len-le-HEAD-2 c =
     let short_other = is_short _ _ c.len-then-len-le-HEAD.ensures c.if-len-le-HEAD-2.true in
     short_lengths _ _ _ _ _ c.len-then-len-le-HEAD-2.ensures (omega (arith, short_self, c.len-then-len-le-HEAD-2.ensures)) c.len-then-len-le-HEAD-2-2.ensures (omega (arith, short_other, c.len-then-len-le-HEAD-2-2.ensures)) c.cmp.ensures
     ∙ rw (← c.self.view_is, ← c.other.view_is) (same_head _ _ _ _ c.self.invariant.is c.other.invariant.is c.self.invariant.bytes c.other.invariant.bytes (omega (arith, c.if-self-other.false, c.if-self-other-2.false))
-    (rw c.self.view_is short_self) (rw c.other.view_is short_other))
+    (omega (arith, short_self, ap (λ (w : Word). length w.word) c.self.view_is)) (omega (arith, short_other, ap (λ (w : Word). length w.word) c.other.view_is)))
