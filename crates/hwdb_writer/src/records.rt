@@ -126,6 +126,14 @@ pub fn text_length(nodes: &[BuiltNode<'_>]) -> usize
 /// How much a priority counts in the number of 8 bytes that a line of 4 bytes and a priority of 2 are together.
 const AFTER_LINE: u64 = 0x1_0000_0000;
 
+/// The line and the priority of a value, as one number of 8 bytes.
+#[inline(always)]
+fn origin_of(value: &StoredValue) -> u64
+    ensures { result ≡ value.now.line + 2 ^ 32 * value.now.priority }
+{
+    value.line as u64 + AFTER_LINE * value.priority as u64
+}
+
 /// Appends a value entry, with these offsets of strings by number.
 fn push_value(value: &StoredValue, places: &[usize], out: &mut Vec<u8>) -> Result<(), AllocError>
     requires key { value.now.key < length places.now }
@@ -137,7 +145,7 @@ fn push_value(value: &StoredValue, places: &[usize], out: &mut Vec<u8>) -> Resul
         ++ little_bytes 8 (slice_index_or places.now value.now.path 0)
         ++ little_bytes 4 value.now.line ++ little_bytes 2 value.now.priority ++ padding 2)) }
 {
-    let origin = value.line as u64 + AFTER_LINE * value.priority as u64;
+    let origin = origin_of(value);
     push_four(
         out,
         places[value.key as usize] as u64,
@@ -184,7 +192,7 @@ fn push_leaf(
         ++ little_bytes 8 (slice_index_or places.now value.now.path 0)
         ++ little_bytes 4 value.now.line ++ little_bytes 2 value.now.priority ++ padding 2)) }
 {
-    let origin = value.line as u64 + AFTER_LINE * value.priority as u64;
+    let origin = origin_of(value);
     let key = places[value.key as usize] as u64;
     let text = places[value.value as usize] as u64;
     let path = places[value.path as usize] as u64;
