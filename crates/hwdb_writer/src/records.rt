@@ -71,6 +71,15 @@ fn push_four(
     out.extend_from_slice(&bytes)
 }
 
+/// As `push_two`, of seven numbers.
+fn push_seven(out: &mut Vec<u8>, numbers: &[u64; 7]) -> Result<(), AllocError>
+    ensures { OnOk result (out.new.items ≡ out.old.items ++ flat_map (little_bytes 8) numbers.now) }
+{
+    let mut bytes = [0; 56];
+    LittleEndian::write_u64_into(numbers, &mut bytes);
+    out.extend_from_slice(&bytes)
+}
+
 /// Appends the fixed fields of a node: the offset of its prefix, and how many entries follow.
 pub fn push_node(
     out: &mut Vec<u8>,
@@ -91,14 +100,6 @@ pub fn push_child(entries: &mut Vec<u8>, byte: u8, place: usize) -> Result<(), A
         (entries.new.items ≡ entries.old.items ++ (byte ∷ padding 7 ++ little_bytes 8 place)) }
 {
     push_two(entries, byte as u64, place as u64)
-}
-
-/// Appends the bytes from a place on.
-pub fn push_rest(out: &mut Vec<u8>, bytes: &[u8], from: usize) -> Result<(), AllocError>
-    requires { from ≤ length bytes.now }
-    ensures { OnOk result (out.new.items ≡ out.old.items ++ drop from bytes.now) }
-{
-    out.extend_from_slice(&bytes[from..])
 }
 
 /// The length in bytes of a record with so many entries, or the greatest number if it is longer.
@@ -125,6 +126,14 @@ pub fn text_length(nodes: &[BuiltNode<'_>]) -> usize
 /// How much a priority counts in the number of 8 bytes that a line of 4 bytes and a priority of 2 are together.
 const AFTER_LINE: u64 = 0x1_0000_0000;
 
+/// The line and the priority of a value, as one number of 8 bytes.
+#[inline(always)]
+fn origin_of(value: &StoredValue) -> u64
+    ensures { result ≡ value.now.line + 2 ^ 32 * value.now.priority }
+{
+    value.line as u64 + AFTER_LINE * value.priority as u64
+}
+
 /// Appends a value entry, with these offsets of strings by number.
 fn push_value(value: &StoredValue, places: &[usize], out: &mut Vec<u8>) -> Result<(), AllocError>
     requires key { value.now.key < length places.now }
@@ -136,7 +145,7 @@ fn push_value(value: &StoredValue, places: &[usize], out: &mut Vec<u8>) -> Resul
         ++ little_bytes 8 (slice_index_or places.now value.now.path 0)
         ++ little_bytes 4 value.now.line ++ little_bytes 2 value.now.priority ++ padding 2)) }
 {
-    let origin = value.line as u64 + AFTER_LINE * value.priority as u64;
+    let origin = origin_of(value);
     push_four(
         out,
         places[value.key as usize] as u64,
@@ -162,6 +171,63 @@ fn push_values(
         push_value(value, places, out)?;
     }
     Ok(())
+}
+
+/// Appends the record of a node with one value and without children. Most nodes are of that kind, and one append takes less than
+/// three.
+fn push_leaf(
+    out: &mut Vec<u8>,
+    prefix: usize,
+    children: u8,
+    value: &StoredValue,
+    places: &[usize],
+) -> Result<(), AllocError>
+    requires key { value.now.key < length places.now }
+    requires value { value.now.value < length places.now }
+    requires path { value.now.path < length places.now }
+    ensures { OnOk result (out.new.items ≡ out.old.items
+        ++ (little_bytes 8 prefix ++ children ∷ padding 7 ++ little_bytes 8 1
+        ++ little_bytes 8 (slice_index_or places.now value.now.key 0)
+        ++ little_bytes 8 (slice_index_or places.now value.now.value 0)
+        ++ little_bytes 8 (slice_index_or places.now value.now.path 0)
+        ++ little_bytes 4 value.now.line ++ little_bytes 2 value.now.priority ++ padding 2)) }
+{
+    let origin = origin_of(value);
+    let key = places[value.key as usize] as u64;
+    let text = places[value.value as usize] as u64;
+    let path = places[value.path as usize] as u64;
+    push_seven(
+        out,
+        &[prefix as u64, children as u64, 1, key, text, path, origin],
+    )
+}
+
+/// Appends the record of a node with these values and child entries.
+fn push_fields(
+    node: &StoredNode,
+    values: &[StoredValue],
+    places: &[usize],
+    entries: &[u8],
+    out: &mut Vec<u8>,
+) -> Result<(), AllocError>
+    requires known { node.now.prefix < length places.now }
+    requires values { (place : List ℕ → ℕ) × (xs : List Value)
+        × AreValues (IsAt place places.now) values.now xs }
+    requires few { node.now.children < 256 }
+    ensures { OnOk result ((place : List ℕ → ℕ) (xs : List Value)
+        → AreValues (IsAt place places.now) values.now xs
+        → out.new.items ≡ out.old.items
+        ++ record_text place (slice_index_or places.now node.now.prefix 0) node.now.children
+        (length values.now) entries.now xs) }
+{
+    let prefix = places[node.prefix as usize];
+    let count = node.children as u8;
+    if entries.len() == 0 && values.len() == 1 {
+        return push_leaf(out, prefix, count, &values[0], places);
+    }
+    push_node(out, prefix, count, values.len())?;
+    out.extend_from_slice(entries)?;
+    push_values(values, places, out)
 }
 
 /// Appends the record of a node with these values to the records before it. The last of the child entries are those of
@@ -190,14 +256,7 @@ fn push_record(
 {
     let first = children.as_slice().len() - CHILD_SIZE * node.children as usize;
     let at = out.as_slice().len();
-    push_node(
-        out,
-        places[node.prefix as usize],
-        node.children as u8,
-        values.len(),
-    )?;
-    push_rest(out, children, first)?;
-    push_values(values, places, out)?;
+    push_fields(node, values, places, &children[first..], out)?;
     children.truncate(first);
     push_child(children, node.byte, at)
 }

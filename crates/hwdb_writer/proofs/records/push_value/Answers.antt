@@ -13,5 +13,5 @@ returns c =
     ++ (little_bytes 8 (slice_index_or c.args.places.now c.args.value.now.key 0)
     ++ little_bytes 8 (slice_index_or c.args.places.now c.args.value.now.value 0)
     ++ little_bytes 8 (slice_index_or c.args.places.now c.args.value.now.path 0) ++ t))
-    (line_and_priority c.args.value.now.line c.args.value.now.priority _ (omega arith) (omega arith) (omega arith)))
+    (line_and_priority c.args.value.now.line c.args.value.now.priority _ (omega arith) (omega arith) c.origin_of-origin.ensures))
     c.push_four.ensures
