@@ -1,4 +1,5 @@
 -- What the proofs of this crate speak of.
+pub mod Trails
 pub mod Walks
 pub mod Merging
 pub mod Pairing

@@ -27,6 +27,7 @@
 //! | `laws` | laws of the map of a database, and of its dump |
 #![tactic(auto)]
 
+mod abreast;
 mod amounts;
 mod counting;
 mod counts_text;
@@ -50,6 +51,7 @@ mod records;
 mod reports;
 mod summary;
 mod texts;
+mod trail;
 mod verification;
 mod walk;
 
