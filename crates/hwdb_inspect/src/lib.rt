@@ -49,6 +49,7 @@ mod pairs;
 mod plain;
 mod records;
 mod reports;
+mod spelling;
 mod summary;
 mod texts;
 mod trail;

@@ -1,5 +1,5 @@
 //! What changed from one database to another: both are walked side by side, and neither's assignments are held.
-ghost use Rattle.std.specs.Prelude.{◌≡◌, ◌<◌, ◌+◌, ◌++◌, ◌∷◌, [], ℕ, List, true, None, Some, drop, flat_map, length, min, IfNone, IfOk, IfSome, OnOk};
+ghost use Rattle.std.specs.Prelude.{◌≡◌, ◌<◌, ◌+◌, ◌++◌, ◌∷◌, [], ℕ, List, true, None, Some, drop, flat_map, length, IfNone, IfOk, IfSome, OnOk};
 ghost use Rattle.hwdb_spec.specs.Assignment.{text_cmp};
 ghost use Rattle.hwdb_spec.specs.Differences.{are_some, change_between};
 ghost use Rattle.hwdb_spec.specs.Differences.Change.{Came, Went};
@@ -8,7 +8,8 @@ ghost use Rattle.hwdb_reader.specs.Unread.{IsFrom, new_file, old_file, text_of};
 ghost use Rattle.hwdb_reader.specs.Views.{tree_of};
 ghost use Rattle.hwdb_inspect.specs.Internal.Forms.{change_form};
 ghost use Rattle.hwdb_inspect.specs.Internal.Merging.{by_place, merged};
-ghost use Rattle.hwdb_inspect.specs.Internal.Trails.{AreAlike, path_of};
+ghost use Rattle.hwdb_inspect.specs.Internal.Spellings.{AreKeptOf};
+ghost use Rattle.hwdb_inspect.specs.Internal.Trails.{path_of};
 ghost use Rattle.hwdb_inspect.specs.Internal.Meeting.{AreFrom, AreOf, IsMet, IsNext, IsUnderWay, changes_at, changes_by, left_of, unread_of, new_at, old_at, to_meet};
 
 use crate::abreast::Abreast;
@@ -260,10 +261,10 @@ pub(crate) fn pass_over<'a, 'b>(
         → IfNone new.new.next (new.new.walk.at ≡ None)) }
     ensures old_file { OnOk result ((f : List ℕ) → AreOf f old.old → AreOf f old.new) }
     ensures new_file { OnOk result ((f : List ℕ) → AreOf f new.old → AreOf f new.new) }
-    ensures alike { OnOk result
-        ((n : ℕ) → AreAlike n old.old.walk.trail.segments.items new.old.walk.trail.segments.items
-        → AreAlike (min n (min old.new.walk.trail.kept new.new.walk.trail.kept))
-        old.new.walk.trail.segments.items new.new.walk.trail.segments.items) }
+    ensures old_kept { OnOk result
+        (AreKeptOf old.old.walk.trail.segments.items old.new.walk.trail) }
+    ensures new_kept { OnOk result
+        (AreKeptOf new.old.walk.trail.segments.items new.new.walk.trail) }
 {
     match side {
         Side::Old(_) => {

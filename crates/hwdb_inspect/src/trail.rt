@@ -43,7 +43,7 @@ fn push_byte(text: &mut Vec<u8>, byte: Option<u8>) -> Result<(), AllocError>
 }
 
 /// Adds the bytes of a segment.
-fn push_segment(text: &mut Vec<u8>, segment: &Segment<'_>) -> Result<(), AllocError>
+pub(crate) fn push_segment(text: &mut Vec<u8>, segment: &Segment<'_>) -> Result<(), AllocError>
     ensures { OnOk result (text.new.items ≡ text.old.items ++ bytes_of segment.now) }
 {
     push_byte(text, segment.byte)?;

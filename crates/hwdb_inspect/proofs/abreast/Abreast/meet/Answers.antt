@@ -1,4 +1,4 @@
-use Rattle.std.proofs.Common.{◌≡◌, ◌∙◌, List, ap, arith, length, min, subst, sym}
+use Rattle.std.proofs.Common.{◌≡◌, ◌∙◌, List, ap, arith, length, subst, sym}
 use Rattle.std.proofs.lemmas.Cmp.{nat_list_cmp_total, tied_itself}
 use Rattle.hwdb_spec.specs.Assignment.{text_cmp}
 use Rattle.hwdb_inspect.specs.Internal.Trails.{AreAlike, path_of}
@@ -8,10 +8,7 @@ use Rattle.hwdb_inspect.proofs.abreast.Abreast.meet.Goals as goal
 
 pub alike-self-requires-clause-alike : goal.alike-self-requires-clause-alike
 alike-self-requires-clause-alike c =
-    let few = min c.args.self.now.common (min c.args.old.now.kept c.args.new.now.kept) in
-    let from : c.min-from.result ≡ few = c.min-from.ensures ∙ ap (min c.args.self.now.common) c.min.ensures in
-    subst (λ n. AreAlike n c.deref.result.now c.deref-2.result.now) (sym from)
-    (subst (λ (g : List Segment × List Segment). AreAlike few g.0 g.1) (λ i. (sym c.deref.ensures.value i, sym c.deref-2.ensures.value i)) c.requires.alike)
+    subst (λ (g : List Segment × List Segment). AreAlike c.keep.new.self.common g.0 g.1) (λ i. (sym c.deref.ensures.value i, sym c.deref-2.ensures.value i)) c.keep.ensures.alike
 
 pub returns-then-self-len-2-clause-order : goal.returns-then-self-len-2-clause-order
 returns-then-self-len-2-clause-order c =
