@@ -29,7 +29,8 @@ impl Spelling {
     /// Keeps no more than the bytes of so many segments.
     pub(crate) fn cut(&mut self, count: usize)
         ensures few { length self.new.froms.items ≤ count }
-        ensures spelling { (way : List Segment) → IsSpelling way self.old → IsSpelling way self.new }
+        ensures spelling { (way : List Segment)
+            → IsSpelling way self.old → IsSpelling way self.new }
     {
         if count >= self.froms.len() {
             return;
