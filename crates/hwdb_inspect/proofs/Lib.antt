@@ -1,6 +1,8 @@
 pub mod ComputedRows
 pub mod NamedCountLemmas
 pub mod PartLemmas
+pub mod TrailLemmas
+pub mod SpellingLemmas
 pub mod WalkLemmas
 pub mod OrderLemmas
 pub mod MergeLemmas

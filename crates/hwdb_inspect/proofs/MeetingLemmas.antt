@@ -14,6 +14,7 @@ use Rattle.hwdb_query.specs.Internal.Members.{own_members}
 use Rattle.hwdb_query.specs.Lemmas.Parts.{own_next, shown_some}
 use Rattle.hwdb_inspect.specs.Internal.Merging.{by_place, merged, merged_from}
 use Rattle.hwdb_inspect.specs.Internal.Meeting.{IsMet, IsNext, IsUnderWay, after_next, head_of, left_of, unread_of, old_by, unlooked}
+use Rattle.hwdb_inspect.specs.Internal.Trails.{path_of}
 use Rattle.hwdb_inspect.specs.Internal.Walks.{own_of, rest_of, to_come}
 use Rattle.hwdb_inspect.specs.declared.meeting.Side.{Side}
 use Rattle.hwdb_inspect.specs.declared.meeting.Side.TheVariants.{Old, New, Both}
@@ -54,47 +55,47 @@ no_key (c ∷ k) h = unkeyed k (c == 32) h
 -- a value of the node is the next one
 pub found_here : (walk mine : Walk) (e : UnreadEntry) (values : List Value) (i looked : ℕ) → walk ≡ mine → true ≡ is_some (key_of (text_of e.key))
     → slice_get values i ≡ Some (value_in e)
-    → own_members mine.path.items (drop i values) ≡ own_members mine.path.items (drop looked values)
-    → unread_of walk.path.items e ∷ own_members walk.path.items (drop (i + 1) values) ≡ own_members mine.path.items (drop looked values)
+    → own_members (path_of mine.trail) (drop i values) ≡ own_members (path_of mine.trail) (drop looked values)
+    → unread_of (path_of walk.trail) e ∷ own_members (path_of walk.trail) (drop (i + 1) values) ≡ own_members (path_of mine.trail) (drop looked values)
 found_here walk mine e values i looked same key at rest =
-    let p = mine.path.items in
+    let p = (path_of mine.trail) in
     let s = shown (value_in e) in
-    ap (λ (w : Walk). unread_of w.path.items e ∷ own_members w.path.items (drop (i + 1) values)) same
+    ap (λ (w : Walk). unread_of (path_of w.trail) e ∷ own_members (path_of w.trail) (drop (i + 1) values)) same
     ∙ ap (λ n. unread_of p e ∷ own_members p (drop n values)) (add-one i)
     ∙ ap (λ r. r ++ own_members p (drop (suc i) values)) (sym (shown_some p (drop 1 (text_of e.key)) s (has_key (text_of e.key) key)))
     ∙ sym (own_next p values i s (ap (option_map shown) at)) ∙ rest
 
 -- the next one was found at the node that the walk is at
 pub found_next : (old now : Members) (inside : Inside) → now.walk ≡ old.walk → old.walk.at ≡ Some inside
-    → head_of now.walk.path.items now.next ++ own_members now.walk.path.items (drop now.looked (values_of (entered_tree inside)))
-    ≡ own_members old.walk.path.items (drop old.looked (values_of (entered_tree inside)))
+    → head_of (path_of now.walk.trail) now.next ++ own_members (path_of now.walk.trail) (drop now.looked (values_of (entered_tree inside)))
+    ≡ own_members (path_of old.walk.trail) (drop old.looked (values_of (entered_tree inside)))
     → left_of now ≡ after_next old
 found_next old now inside same at found =
     let here : now.walk.at ≡ Some inside = ap (λ (w : Walk). w.at) same ∙ at in
-    let path = now.walk.path.items in
+    let path = (path_of now.walk.trail) in
     ap (λ (o : Option Inside). head_of path now.next ++ (unlooked now.looked path o ++ rest_of now.walk)) here
     ∙ sym (append_assoc (head_of path now.next) (own_members path (drop now.looked (values_of (entered_tree inside)))) (rest_of now.walk))
     ∙ ap (λ l. l ++ rest_of now.walk) found
-    ∙ ap (λ (w : Walk). own_members old.walk.path.items (drop old.looked (values_of (entered_tree inside))) ++ rest_of w) same
-    ∙ ap (λ (o : Option Inside). unlooked old.looked old.walk.path.items o ++ rest_of old.walk) (sym at)
+    ∙ ap (λ (w : Walk). own_members (path_of old.walk.trail) (drop old.looked (values_of (entered_tree inside))) ++ rest_of w) same
+    ∙ ap (λ (o : Option Inside). unlooked old.looked (path_of old.walk.trail) o ++ rest_of old.walk) (sym at)
 
 -- the node that the walk is at has none that is left
 pub next_node : (old : Members) (walk now : Walk) (inside : Inside) → walk ≡ old.walk → old.walk.at ≡ Some inside
-    → own_members old.walk.path.items (drop old.looked (values_of (entered_tree inside))) ≡ []
-    → own_of now.path.items now.at ++ rest_of now ≡ rest_of walk
-    → unlooked 0 now.path.items now.at ++ rest_of now ≡ after_next old
+    → own_members (path_of old.walk.trail) (drop old.looked (values_of (entered_tree inside))) ≡ []
+    → own_of (path_of now.trail) now.at ++ rest_of now ≡ rest_of walk
+    → unlooked 0 (path_of now.trail) now.at ++ rest_of now ≡ after_next old
 next_node old walk now inside same at none rest =
-    ap (λ l. l ++ rest_of now) (none_looked now.path.items now.at) ∙ rest ∙ ap rest_of same
+    ap (λ l. l ++ rest_of now) (none_looked (path_of now.trail) now.at) ∙ rest ∙ ap rest_of same
     ∙ ap (λ l. l ++ rest_of old.walk) (sym none)
-    ∙ ap (λ (o : Option Inside). unlooked old.looked old.walk.path.items o ++ rest_of old.walk) (sym at)
+    ∙ ap (λ (o : Option Inside). unlooked old.looked (path_of old.walk.trail) o ++ rest_of old.walk) (sym at)
 
-pub next_is : (m : Members) (x : UnreadEntry) → m.next ≡ Some x → left_of m ≡ unread_of m.walk.path.items x ∷ after_next m
-next_is m x is = ap (λ (n : Option UnreadEntry). head_of m.walk.path.items n ++ after_next m) is
+pub next_is : (m : Members) (x : UnreadEntry) → m.next ≡ Some x → left_of m ≡ unread_of (path_of m.walk.trail) x ∷ after_next m
+next_is m x is = ap (λ (n : Option UnreadEntry). head_of (path_of m.walk.trail) n ++ after_next m) is
 
 -- the next one was passed over
-pub passed : (old now : Members) (x : UnreadEntry) → old.next ≡ Some x → left_of now ≡ after_next old → left_of old ≡ unread_of old.walk.path.items x ∷ left_of now
+pub passed : (old now : Members) (x : UnreadEntry) → old.next ≡ Some x → left_of now ≡ after_next old → left_of old ≡ unread_of (path_of old.walk.trail) x ∷ left_of now
 passed old now x is left =
-    next_is old x is ∙ ap (λ r. unread_of old.walk.path.items x ∷ r) (sym left)
+    next_is old x is ∙ ap (λ r. unread_of (path_of old.walk.trail) x ∷ r) (sym left)
 
 -- none is left
 pub none_left : (m : Members) (t : Tree) → IsUnderWay t m → IfNone m.next (m.walk.at ≡ None) → m.next ≡ None → left_of m ≡ []
@@ -102,7 +103,7 @@ none_left m t way end next =
     let at : m.walk.at ≡ None = subst (λ (o : Option UnreadEntry). IfNone o (m.walk.at ≡ None)) next end in
     let empty : m.walk.stack.items ≡ [] = subst (λ (o : Option Inside). IfNone o (m.walk.stack.items ≡ [])) at way.end in
     ap (λ (g : Option UnreadEntry × Option Inside × List OpenVisit).
-    head_of m.walk.path.items g.0 ++ (unlooked m.looked m.walk.path.items g.1 ++ to_come m.walk.path.items (reverse g.2)))
+    head_of (path_of m.walk.trail) g.0 ++ (unlooked m.looked (path_of m.walk.trail) g.1 ++ to_come m.walk.trail.segments.items (reverse g.2)))
     (λ i. (next i, at i, empty i))
 
 -- ---- the first of two lists
@@ -141,26 +142,26 @@ module _ (old new xs ys : List Assignment) (x y : Assignment) (o : old ≡ x ∷
 -- ---- the least of what is left of two databases
 
 module _ (old new : Members) (x y : UnreadEntry) where
-  pub met_old : new.next ≡ Some y → by_place (unread_of old.walk.path.items x) (unread_of new.walk.path.items y) ≡ Less → IsMet old new (Old x)
+  pub met_old : new.next ≡ Some y → by_place (unread_of (path_of old.walk.trail) x) (unread_of (path_of new.walk.trail) y) ≡ Less → IsMet old new (Old x)
   met_old is e xs ys o n =
-      less_met (left_of old) (left_of new) xs (after_next new) (unread_of old.walk.path.items x) (unread_of new.walk.path.items y) o (next_is new y is) e
-      ∙ ap (λ l. Went (unread_of old.walk.path.items x) ∷ merged xs l) n
+      less_met (left_of old) (left_of new) xs (after_next new) (unread_of (path_of old.walk.trail) x) (unread_of (path_of new.walk.trail) y) o (next_is new y is) e
+      ∙ ap (λ l. Went (unread_of (path_of old.walk.trail) x) ∷ merged xs l) n
 
-  pub met_both : by_place (unread_of old.walk.path.items x) (unread_of new.walk.path.items y) ≡ Equal → IsMet old new (Both x y)
-  met_both e xs ys o n = equal_met (left_of old) (left_of new) xs ys (unread_of old.walk.path.items x) (unread_of new.walk.path.items y) o n e
+  pub met_both : by_place (unread_of (path_of old.walk.trail) x) (unread_of (path_of new.walk.trail) y) ≡ Equal → IsMet old new (Both x y)
+  met_both e xs ys o n = equal_met (left_of old) (left_of new) xs ys (unread_of (path_of old.walk.trail) x) (unread_of (path_of new.walk.trail) y) o n e
 
-  pub met_new : old.next ≡ Some x → by_place (unread_of old.walk.path.items x) (unread_of new.walk.path.items y) ≡ Greater → IsMet old new (New y)
+  pub met_new : old.next ≡ Some x → by_place (unread_of (path_of old.walk.trail) x) (unread_of (path_of new.walk.trail) y) ≡ Greater → IsMet old new (New y)
   met_new is e xs ys o n =
-      greater_met (left_of old) (left_of new) (after_next old) ys (unread_of old.walk.path.items x) (unread_of new.walk.path.items y) (next_is old x is) n e
-      ∙ ap (λ l. Came (unread_of new.walk.path.items y) ∷ merged l ys) o
+      greater_met (left_of old) (left_of new) (after_next old) ys (unread_of (path_of old.walk.trail) x) (unread_of (path_of new.walk.trail) y) (next_is old x is) n e
+      ∙ ap (λ l. Came (unread_of (path_of new.walk.trail) y) ∷ merged l ys) o
 
 pub alone_old : (old new : Members) (x : UnreadEntry) → left_of new ≡ [] → IsMet old new (Old x)
 alone_old old new x none xs ys o n =
-    old_met (left_of old) (left_of new) xs (unread_of old.walk.path.items x) o none ∙ ap (λ l. Went (unread_of old.walk.path.items x) ∷ merged xs l) n
+    old_met (left_of old) (left_of new) xs (unread_of (path_of old.walk.trail) x) o none ∙ ap (λ l. Went (unread_of (path_of old.walk.trail) x) ∷ merged xs l) n
 
 pub alone_new : (old new : Members) (y : UnreadEntry) → left_of old ≡ [] → IsMet old new (New y)
 alone_new old new y none xs ys o n =
-    new_met (left_of old) (left_of new) ys (unread_of new.walk.path.items y) none n ∙ ap (λ l. Came (unread_of new.walk.path.items y) ∷ merged l ys) o
+    new_met (left_of old) (left_of new) ys (unread_of (path_of new.walk.trail) y) none n ∙ ap (λ l. Came (unread_of (path_of new.walk.trail) y) ∷ merged l ys) o
 
 -- ---- one of them is left at least
 

@@ -6,12 +6,15 @@ use Rattle.hwdb_spec.specs.Tree.{Tree, prefix_of, values_of, members_under}
 use Rattle.hwdb_reader.specs.Views.{children_of, entered_tree, node_count}
 use Rattle.hwdb_query.specs.Internal.Members.{members_in, own_members}
 use Rattle.hwdb_reader.specs.declared.view.Inside.{Inside}
+use Rattle.hwdb_inspect.proofs.TrailLemmas.{longer_front, longer_path, longer_size}
+use Rattle.hwdb_inspect.specs.Internal.Trails.{IsLonger, path_in, path_of}
+use Rattle.hwdb_inspect.specs.declared.trail.Segment.{Segment}
 use Rattle.hwdb_inspect.specs.Internal.Walks.{kids_of, to_come, StandsOn, left, steps, OnTop, Opened, own_of, rest_of, entered_one}
 use Rattle.hwdb_inspect.specs.declared.walk.OpenVisit.{OpenVisit}
 use Rattle.hwdb_inspect.specs.declared.walk.Walk.{Walk}
 use Rattle.hwdb_query.specs.Lemmas.Parts.{kid_behind, kid_next, members_split, node_and_below}
 use Rattle.hwdb_query.specs.Internal.Live.{nodes_in}
-use Rattle.hwdb_query.specs.Lemmas.Stacks.{on_top, take_front}
+use Rattle.hwdb_query.specs.Lemmas.Stacks.{on_top}
 
 pub no_kids : (kids : List (ℕ × Tree)) → length kids ≡ 0 → kids ≡ []
 no_kids [] h = refl
@@ -81,22 +84,23 @@ pub opened_size : (before now : List OpenVisit) (t : Tree) (size : ℕ) → Open
 opened_size before now t size (inl o) = let longer : length now ≡ length before + 1 = ap length o.stands ∙ length-append before (o.top ∷ []) in omega (arith, longer)
 opened_size before now t size (inr h) = let same : length now ≡ length before = ap length h.0 in omega (arith, same)
 
-pub opened_comes : (before now : List OpenVisit) (t : Tree) (path : List ℕ) → Opened before now t (length path) → to_come path (reverse now) ≡ members_in path (children_of t) ++ to_come path (reverse before)
-opened_comes before now t path (inl o) =
-    ap (to_come path) (top_is before now t (length path) o)
-    ∙ ap (λ n. members_in (take n path) (kids_of o.top) ++ to_come (take n path) (reverse before)) o.reach
-    ∙ ap (λ p. members_in p (kids_of o.top) ++ to_come p (reverse before)) (take-length path)
-    ∙ ap (λ ks. members_in path ks ++ to_come path (reverse before)) (top_kids before now t (length path) o)
-opened_comes before now t path (inr h) =
-    ap (λ l. to_come path (reverse l)) h.0 ∙ ap (λ ks. members_in path ks ++ to_come path (reverse before)) (sym h.1)
+pub opened_comes : (before now : List OpenVisit) (t : Tree) (way : List Segment) → Opened before now t (length way)
+    → to_come way (reverse now) ≡ members_in (path_in way) (children_of t) ++ to_come way (reverse before)
+opened_comes before now t way (inl o) =
+    ap (to_come way) (top_is before now t (length way) o)
+    ∙ ap (λ n. members_in (path_in (take n way)) (kids_of o.top) ++ to_come (take n way) (reverse before)) o.reach
+    ∙ ap (λ p. members_in (path_in p) (kids_of o.top) ++ to_come p (reverse before)) (take-length way)
+    ∙ ap (λ ks. members_in (path_in way) ks ++ to_come way (reverse before)) (top_kids before now t (length way) o)
+opened_comes before now t way (inr h) =
+    ap (λ l. to_come way (reverse l)) h.0 ∙ ap (λ ks. members_in (path_in way) ks ++ to_come way (reverse before)) (sym h.1)
 
-pub opened_stands : (before now : List OpenVisit) (t : Tree) (path : List ℕ) → Opened before now t (length path) → StandsOn path (reverse before) → StandsOn path (reverse now)
-opened_stands before now t path (inl o) stands =
+pub opened_stands : (before now : List OpenVisit) (t : Tree) (way : List Segment) → Opened before now t (length way) → StandsOn way (reverse before) → StandsOn way (reverse now)
+opened_stands before now t way (inl o) stands =
     let reach = o.reach in
     let done = o.none_done in
-    let same : path ≡ take o.top.length path = sym (ap (λ n. take n path) o.reach ∙ take-length path) in
-    subst (StandsOn path) (sym (top_is before now t (length path) o)) (omega (arith, reach), omega (arith, done), subst (λ p. StandsOn p (reverse before)) same stands)
-opened_stands before now t path (inr h) stands = subst (λ l. StandsOn path (reverse l)) (sym h.0) stands
+    let same : way ≡ take o.top.length way = sym (ap (λ n. take n way) o.reach ∙ take-length way) in
+    subst (StandsOn way) (sym (top_is before now t (length way) o)) (omega (arith, reach), omega (arith, done), subst (λ p. StandsOn p (reverse before)) same stands)
+opened_stands before now t way (inr h) stands = subst (λ l. StandsOn way (reverse l)) (sym h.0) stands
 
 pub opened_left : (before now : List OpenVisit) (t : Tree) (size : ℕ) → Opened before now t size → left (reverse now) ≡ nodes_in (children_of t) + left (reverse before)
 opened_left before now t size (inl o) = ap left (top_is before now t size o) ∙ ap (λ ks. nodes_in ks + left (reverse before)) (top_kids before now t size o)
@@ -116,9 +120,9 @@ opened_steps before now t size (inr h) =
 
 -- ---- a node whose children are done
 
-pub done_comes : (path : List ℕ) (top : OpenVisit) (below : List OpenVisit) → length (children_of (entered_tree top.inside)) ≤ top.done → to_come path (top ∷ below) ≡ to_come (take top.length path) below
-done_comes path top below h =
-    ap (λ ks. members_in (take top.length path) ks ++ to_come (take top.length path) below) (kid_behind (children_of (entered_tree top.inside)) top.done h)
+pub done_comes : (way : List Segment) (top : OpenVisit) (below : List OpenVisit) → length (children_of (entered_tree top.inside)) ≤ top.done → to_come way (top ∷ below) ≡ to_come (take top.length way) below
+done_comes way top below h =
+    ap (λ ks. members_in (path_in (take top.length way)) ks ++ to_come (take top.length way) below) (kid_behind (children_of (entered_tree top.inside)) top.done h)
 
 pub done_left : (top : OpenVisit) (below : List OpenVisit) → length (children_of (entered_tree top.inside)) ≤ top.done → left (top ∷ below) ≡ left below
 done_left top below h = let none : nodes_in (kids_of top) ≡ 0 = ap nodes_in (kid_behind (children_of (entered_tree top.inside)) top.done h) in omega (arith, none)
@@ -141,24 +145,31 @@ some_left top below k at =
     let nodes = node_and_below k.1 in
     omega (arith, next, nodes)
 
-module _ (path long : List ℕ) (top : OpenVisit) (before now : List OpenVisit) (k : ℕ × Tree)
-    (at : slice_get (children_of (entered_tree top.inside)) top.done ≡ Some k) (within : top.length ≤ length path)
-    (whole : long ≡ (take top.length path ++ k.0 ∷ []) ++ prefix_of k.1) (o : Opened (before ++ gone_on top ∷ []) now k.1 (length long)) where
-  cut : take top.length long ≡ take top.length path
-  cut = ap (take top.length) (whole ∙ append_assoc (take top.length path) (k.0 ∷ []) (prefix_of k.1))
-      ∙ take_front top.length (take top.length path) (k.0 ∷ prefix_of k.1) (length-take-le top.length path within)
+module _ (way long : List Segment) (top : OpenVisit) (before now : List OpenVisit) (k : ℕ × Tree)
+    (at : slice_get (children_of (entered_tree top.inside)) top.done ≡ Some k) (within : top.length ≤ length way)
+    (whole : IsLonger (take top.length way) long (Some k.0) (prefix_of k.1)) (o : Opened (before ++ gone_on top ∷ []) now k.1 (length long)) where
+  size : length (take top.length way) ≡ top.length
+  size = length-take-le top.length way within
 
-  pub child_comes : own_members long (values_of k.1) ++ to_come long (reverse now) ≡ to_come path (top ∷ reverse before)
+  cut : take top.length long ≡ take top.length way
+  cut =
+      let reach = size in
+      longer_front top.length (take top.length way) long (Some k.0) (prefix_of k.1) whole (omega (arith, reach))
+      ∙ ap (λ n. take n (take top.length way)) (sym size) ∙ take-length (take top.length way)
+
+  pub child_comes : own_members (path_in long) (values_of k.1) ++ to_come long (reverse now) ≡ to_come way (top ∷ reverse before)
   child_comes =
-      let base = take top.length path in
+      let base = path_in (take top.length way) in
       let rest = members_in base (kids_of (gone_on top)) in
-      let deep = to_come base (reverse before) in
+      let deep = to_come (take top.length way) (reverse before) in
+      let spelled : path_in long ≡ (base ++ k.0 ∷ []) ++ prefix_of k.1 =
+      longer_path (take top.length way) long (Some k.0) (prefix_of k.1) whole ∙ sym (append_assoc base (k.0 ∷ []) (prefix_of k.1)) in
       let behind : to_come long (reverse (before ++ gone_on top ∷ [])) ≡ rest ++ deep =
-      ap (to_come long) (on_top before (gone_on top)) ∙ ap (λ p. members_in p (kids_of (gone_on top)) ++ to_come p (reverse before)) cut in
-      let here : own_members long (values_of k.1) ++ members_in long (children_of k.1) ≡ members_under (base ++ k.0 ∷ []) k.1 =
-      ap (λ p. own_members p (values_of k.1) ++ members_in p (children_of k.1)) whole ∙ sym (members_split (base ++ k.0 ∷ []) k.1) in
-      ap (λ r. own_members long (values_of k.1) ++ r) (opened_comes (before ++ gone_on top ∷ []) now k.1 long o)
-      ∙ sym (append_assoc (own_members long (values_of k.1)) (members_in long (children_of k.1)) (to_come long (reverse (before ++ gone_on top ∷ []))))
+      ap (to_come long) (on_top before (gone_on top)) ∙ ap (λ p. members_in (path_in p) (kids_of (gone_on top)) ++ to_come p (reverse before)) cut in
+      let here : own_members (path_in long) (values_of k.1) ++ members_in (path_in long) (children_of k.1) ≡ members_under (base ++ k.0 ∷ []) k.1 =
+      ap (λ p. own_members p (values_of k.1) ++ members_in p (children_of k.1)) spelled ∙ sym (members_split (base ++ k.0 ∷ []) k.1) in
+      ap (λ r. own_members (path_in long) (values_of k.1) ++ r) (opened_comes (before ++ gone_on top ∷ []) now k.1 long o)
+      ∙ sym (append_assoc (own_members (path_in long) (values_of k.1)) (members_in (path_in long) (children_of k.1)) (to_come long (reverse (before ++ gone_on top ∷ []))))
       ∙ ap (λ r. r ++ to_come long (reverse (before ++ gone_on top ∷ []))) here
       ∙ ap (λ r. members_under (base ++ k.0 ∷ []) k.1 ++ r) behind
       ∙ sym (append_assoc (members_under (base ++ k.0 ∷ []) k.1) rest deep)
@@ -185,18 +196,16 @@ module _ (path long : List ℕ) (top : OpenVisit) (before now : List OpenVisit) 
       let next : nodes_in (kids_of top) ≡ node_count k.1 + nodes_in (kids_of (gone_on top)) = ap nodes_in (kids_next top k at) in
       omega (arith, opened, nodes, on, next)
 
-  pub child_stands : top.done < length (children_of (entered_tree top.inside)) → StandsOn path (top ∷ reverse before) → StandsOn long (reverse now)
+  pub child_stands : top.done < length (children_of (entered_tree top.inside)) → StandsOn way (top ∷ reverse before) → StandsOn long (reverse now)
   child_stands more stands =
-      let base = take top.length path in
       let rest : StandsOn (take top.length long) (reverse before) = subst (λ p. StandsOn p (reverse before)) (sym cut) stands.2 in
-      let size : length base ≡ top.length = length-take-le top.length path within in
-      let parts : length long ≡ length (base ++ k.0 ∷ []) + length (prefix_of k.1) = ap length whole ∙ length-append (base ++ k.0 ∷ []) (prefix_of k.1) in
-      let front : length (base ++ k.0 ∷ []) ≡ length base + 1 = length-append base (k.0 ∷ []) in
+      let reach = size in
+      let longer = longer_size (take top.length way) long (Some k.0) (prefix_of k.1) whole in
       opened_stands (before ++ gone_on top ∷ []) now k.1 long o
-      (subst (StandsOn long) (sym (on_top before (gone_on top))) (omega (arith, size, parts, front), omega (arith, more), rest))
+      (subst (StandsOn long) (sym (on_top before (gone_on top))) (omega (arith, reach, longer), omega (arith, more), rest))
 
 -- ---- the end of a walk
 
-pub walk_ended : (w : Walk) → w.at ≡ None → w.stack.items ≡ [] → own_of w.path.items w.at ++ rest_of w ≡ []
+pub walk_ended : (w : Walk) → w.at ≡ None → w.stack.items ≡ [] → own_of (path_of w.trail) w.at ++ rest_of w ≡ []
 walk_ended w none empty =
-    ap (λ (g : Option Inside × List OpenVisit). own_of w.path.items g.0 ++ to_come w.path.items (reverse g.1)) (λ i. (none i, empty i))
+    ap (λ (g : Option Inside × List OpenVisit). own_of (path_of w.trail) g.0 ++ to_come w.trail.segments.items (reverse g.1)) (λ i. (none i, empty i))

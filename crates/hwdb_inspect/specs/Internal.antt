@@ -1,4 +1,6 @@
 -- What the proofs of this crate speak of.
+pub mod Trails
+pub mod Spellings
 pub mod Walks
 pub mod Merging
 pub mod Pairing

@@ -43,7 +43,7 @@ pub(crate) fn amount_in(alloc: Global, bytes: usize, db: &Db<'_>) -> Result<Amou
     ensures { IfOk result
         (λ amount. amount_shown amount ≡ Status.amount_of (summary_of bytes db.now)) }
 {
-    let mut members = Members::start(alloc, db)?;
+    let mut members = Members::start(alloc, false, db)?;
     let mut held = Inventory::new(alloc);
     'members: while let Some(entry) = members.next {
         held.add(entry.path)?;

@@ -14,6 +14,7 @@ ghost use Rattle.hwdb_inspect.specs.Views.{amount_shown, state_shown};
 ghost use Rattle.hwdb_inspect.specs.Internal.Counting.{IsHeldFrom, files_in, first_kept};
 ghost use Rattle.hwdb_inspect.specs.Internal.Meeting.{AreFrom, changes_at, old_by};
 
+use crate::abreast::Abreast;
 use crate::amounts::{Amount, amount_of};
 use crate::inventory::Inventory;
 use crate::meeting::{Side, is_change, least, pass_over, tell};
@@ -115,17 +116,20 @@ fn walked(alloc: Global, size: usize, old: Node<'_>, new: Node<'_>) -> Result<St
         ≡ Some (Status.amount_of (summary_of size (tree_of old.entry)))) }
 {
     let twins = Twins::new(alloc, old, new)?;
-    let mut before = Members::start_at(alloc, old)?;
-    let mut after = Members::start_at(alloc, new)?;
+    let mut before = Members::start_at(alloc, false, old)?;
+    let mut after = Members::start_at(alloc, false, new)?;
+    let mut abreast = Abreast::new(alloc);
+    abreast.meet(&twins, &before.walk.trail, &after.walk.trail)?;
     let mut held = Inventory::new(alloc);
     let mut tally = ChangeCount {
         changes: 0,
         first: Vec::new(alloc),
     };
-    'pairs: while let Some(side) = least(&twins, &before, &after) {
+    'pairs: while let Some(side) = least(&twins, abreast.order, &before, &after) {
         tally.count(alloc, &twins, &before, &after, side)?;
         count_old(&mut held, side)?;
         pass_over(side, &mut before, &mut after)?;
+        abreast.meet(&twins, &before.walk.trail, &after.walk.trail)?;
     }
     let amount = held.amount(size)?;
     let ChangeCount { changes, first } = tally;

@@ -82,7 +82,7 @@ impl<'a> Kept<'a> {
 pub(crate) fn keep<'a>(alloc: Global, db: &Db<'a>) -> Result<Kept<'a>, AllocError>
     ensures { IfOk result (λ kept. all_held kept ≡ members_under [] db.now) }
 {
-    let mut members = Members::start(alloc, db)?;
+    let mut members = Members::start(alloc, true, db)?;
     let mut kept = Kept::new(alloc);
     'members: while let Some(entry) = members.next {
         kept.push(members.pattern(), read(&entry))?;

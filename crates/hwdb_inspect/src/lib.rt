@@ -22,11 +22,13 @@
 //! | `reports` | the lines of `status`; `json_reports`: the same as JSON |
 //! | `verification` | `verify`: whether bytes are a database, and how much is in it |
 //! | `members` | the assignments of a database, one after another while it is walked |
-//! | `meeting` | two databases, walked side by side, and what changed |
+//! | `meeting` | two databases, walked side by side, and what changed; `abreast`: how far their ways are the same |
+//! | `trail` | the way to a node, as segments; `spelling`: its bytes, as far as they were read |
 //! | `walk` | all assignments of a database, by pattern and key |
 //! | `laws` | laws of the map of a database, and of its dump |
 #![tactic(auto)]
 
+mod abreast;
 mod amounts;
 mod counting;
 mod counts_text;
@@ -48,8 +50,10 @@ mod pairs;
 mod plain;
 mod records;
 mod reports;
+mod spelling;
 mod summary;
 mod texts;
+mod trail;
 mod verification;
 mod walk;
 

@@ -8,8 +8,11 @@ ghost use Rattle.hwdb_reader.specs.Unread.{IsFrom, new_file, old_file, text_of};
 ghost use Rattle.hwdb_reader.specs.Views.{tree_of};
 ghost use Rattle.hwdb_inspect.specs.Internal.Forms.{change_form};
 ghost use Rattle.hwdb_inspect.specs.Internal.Merging.{by_place, merged};
+ghost use Rattle.hwdb_inspect.specs.Internal.Spellings.{AreKeptOf};
+ghost use Rattle.hwdb_inspect.specs.Internal.Trails.{path_of};
 ghost use Rattle.hwdb_inspect.specs.Internal.Meeting.{AreFrom, AreOf, IsMet, IsNext, IsUnderWay, changes_at, changes_by, left_of, unread_of, new_at, old_at, to_meet};
 
+use crate::abreast::Abreast;
 use crate::difference::{Changes, push_form};
 use crate::members::{Members, key_of};
 use crate::pairs::Pair;
@@ -30,7 +33,7 @@ pub(crate) enum Side<'a, 'b> {
 }
 
 /// Compares two texts. Most are one.
-fn compare_texts(one: &[u8], other: &[u8]) -> Ordering
+pub(crate) fn compare_texts(one: &[u8], other: &[u8]) -> Ordering
     ensures { result ≡ text_cmp one.now other.now }
 {
     if is_same(one, other) {
@@ -51,20 +54,19 @@ fn compare_keys(twins: &Twins<'_, '_>, x: &UnreadEntry<'_>, y: &UnreadEntry<'_>)
     compare_texts(key_of(x), key_of(y))
 }
 
-/// Compares two next assignments by pattern and then by key.
+/// Compares two next assignments by pattern and then by key. Says how their patterns compare.
 fn compare(
     twins: &Twins<'_, '_>,
-    old: &Members<'_>,
+    patterns: Ordering,
     x: &UnreadEntry<'_>,
-    new: &Members<'_>,
     y: &UnreadEntry<'_>,
 ) -> Ordering
     requires old { IsFrom (old_file twins.now) x.now }
     requires new { IsFrom (new_file twins.now) y.now }
-    ensures { result ≡ by_place (unread_of old.now.walk.path.items x.now)
-        (unread_of new.now.walk.path.items y.now) }
+    ensures { (p q : List ℕ) → patterns ≡ text_cmp p q
+        → result ≡ by_place (unread_of p x.now) (unread_of q y.now) }
 {
-    match compare_texts(old.pattern(), new.pattern()) {
+    match patterns {
         Ordering::Equal => compare_keys(twins, x, y),
         other => other,
     }
@@ -79,7 +81,8 @@ fn tell_old(
     x: UnreadEntry<'_>,
 ) -> Result<bool, AllocError>
     ensures text { OnOk result (text.new.items ≡ text.old.items
-        ++ flat_map (change_form json) (Went (unread_of old.now.walk.path.items x.entry) ∷ [])) }
+        ++ flat_map (change_form json)
+        (Went (unread_of (path_of old.now.walk.trail) x.entry) ∷ [])) }
     ensures some { IfOk result (λ differs. differs ≡ true) }
 {
     let made = old.copied(alloc, &x)?;
@@ -95,7 +98,8 @@ fn tell_new(
     y: UnreadEntry<'_>,
 ) -> Result<bool, AllocError>
     ensures text { OnOk result (text.new.items ≡ text.old.items
-        ++ flat_map (change_form json) (Came (unread_of new.now.walk.path.items y.entry) ∷ [])) }
+        ++ flat_map (change_form json)
+        (Came (unread_of (path_of new.now.walk.trail) y.entry) ∷ [])) }
     ensures some { IfOk result (λ differs. differs ≡ true) }
 {
     let made = new.copied(alloc, &y)?;
@@ -116,11 +120,11 @@ fn tell_both(
     requires old { IsFrom (old_file twins.now) x }
     requires new { IsFrom (new_file twins.now) y }
     ensures text { OnOk result (text.new.items ≡ text.old.items ++ flat_map (change_form json)
-        (change_between (unread_of old.now.walk.path.items x.entry)
-        (unread_of new.now.walk.path.items y.entry))) }
+        (change_between (unread_of (path_of old.now.walk.trail) x.entry)
+        (unread_of (path_of new.now.walk.trail) y.entry))) }
     ensures some { IfOk result (λ differs. differs
-        ≡ are_some (change_between (unread_of old.now.walk.path.items x.entry)
-        (unread_of new.now.walk.path.items y.entry))) }
+        ≡ are_some (change_between (unread_of (path_of old.now.walk.trail) x.entry)
+        (unread_of (path_of new.now.walk.trail) y.entry))) }
 {
     if twins.are_same(x.value, y.value) {
         return Ok(false);
@@ -181,6 +185,7 @@ pub(crate) fn tell<'a, 'b>(
 /// The side of the lesser of two next assignments, or both if they have one pattern and key.
 fn lesser<'a, 'b>(
     twins: &Twins<'_, '_>,
+    patterns: Ordering,
     old: &Members<'a>,
     x: UnreadEntry<'a>,
     new: &Members<'b>,
@@ -188,13 +193,15 @@ fn lesser<'a, 'b>(
 ) -> Side<'a, 'b>
     requires old { old.now.next ≡ Some x }
     requires new { new.now.next ≡ Some y }
+    requires patterns { patterns
+        ≡ text_cmp (path_of old.now.walk.trail) (path_of new.now.walk.trail) }
     requires old_file { IsFrom (old_file twins.now) x }
     requires new_file { IsFrom (new_file twins.now) y }
     ensures met { IsMet old.now new.now result }
     ensures next { IsNext old.now new.now result }
     ensures files { AreFrom (old_file twins.now) (new_file twins.now) result }
 {
-    match compare(twins, old, &x, new, &y) {
+    match compare(twins, patterns, &x, &y) {
         Ordering::Less => Side::Old(x),
         Ordering::Equal => Side::Both(x, y),
         Ordering::Greater => Side::New(y),
@@ -204,9 +211,12 @@ fn lesser<'a, 'b>(
 /// The side of the least pattern and key that are left, if some are.
 pub(crate) fn least<'a, 'b>(
     twins: &Twins<'_, '_>,
+    patterns: Ordering,
     old: &Members<'a>,
     new: &Members<'b>,
 ) -> Option<Side<'a, 'b>>
+    requires patterns { patterns
+        ≡ text_cmp (path_of old.now.walk.trail) (path_of new.now.walk.trail) }
     requires old_walk { (t : Tree) × IsUnderWay t old.now }
     requires new_walk { (t : Tree) × IsUnderWay t new.now }
     requires old_end { IfNone old.now.next (old.now.walk.at ≡ None) }
@@ -224,7 +234,7 @@ pub(crate) fn least<'a, 'b>(
         (None, None) => None,
         (Some(x), None) => Some(Side::Old(x)),
         (None, Some(y)) => Some(Side::New(y)),
-        (Some(x), Some(y)) => Some(lesser(twins, old, x, new, y)),
+        (Some(x), Some(y)) => Some(lesser(twins, patterns, old, x, new, y)),
     }
 }
 
@@ -251,6 +261,10 @@ pub(crate) fn pass_over<'a, 'b>(
         → IfNone new.new.next (new.new.walk.at ≡ None)) }
     ensures old_file { OnOk result ((f : List ℕ) → AreOf f old.old → AreOf f old.new) }
     ensures new_file { OnOk result ((f : List ℕ) → AreOf f new.old → AreOf f new.new) }
+    ensures old_kept { OnOk result
+        (AreKeptOf old.old.walk.trail.segments.items old.new.walk.trail) }
+    ensures new_kept { OnOk result
+        (AreKeptOf new.old.walk.trail.segments.items new.new.walk.trail) }
 {
     match side {
         Side::Old(_) => {
@@ -282,14 +296,17 @@ pub(crate) fn changes_met(
         (merged (members_under [] (tree_of old.entry)) (members_under [] (tree_of new.entry)))) }
 {
     let twins = Twins::new(alloc, old, new)?;
-    let mut before = Members::start_at(alloc, old)?;
-    let mut after = Members::start_at(alloc, new)?;
+    let mut before = Members::start_at(alloc, false, old)?;
+    let mut after = Members::start_at(alloc, false, new)?;
+    let mut abreast = Abreast::new(alloc);
+    abreast.meet(&twins, &before.walk.trail, &after.walk.trail)?;
     let mut text = Vec::new(alloc);
     let mut differ = false;
-    'pairs: while let Some(side) = least(&twins, &before, &after) {
+    'pairs: while let Some(side) = least(&twins, abreast.order, &before, &after) {
         let differs = tell(alloc, &twins, json, &mut text, &before, &after, side)?;
         differ |= differs;
         pass_over(side, &mut before, &mut after)?;
+        abreast.meet(&twins, &before.walk.trail, &after.walk.trail)?;
     }
     Ok(Changes { text, differ })
 }

@@ -157,7 +157,7 @@ pub(crate) fn summarize(alloc: Global, bytes: usize, db: &Db<'_>) -> Result<Coun
     let mut walk = Walk::start(alloc, db)?;
     let mut tally = Tally::new(alloc);
     'nodes: while let Some(inside) = walk.at {
-        tally.add(inside, &walk.path)?;
+        tally.add(inside, walk.trail.path())?;
         walk.next()?;
     }
     let assignments = tally.keys.len();

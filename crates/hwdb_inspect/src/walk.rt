@@ -7,13 +7,15 @@
 //! A node's own assignments are those of `hwdb_query`, by one call. The loop isn't: the descent there keeps at each open node what
 //! is known of the device, and passes over what can't match. That takes memory. This one enters all nodes and counts how deep they
 //! stand.
-ghost use Rattle.std.specs.Prelude.{◌≡◌, ◌<◌, ◌≤◌, ◌+◌, ◌++◌, ◌^◌, ℕ, All, List, [], None, map, max, reverse, length, is_some, IfNone, IfOk, IsSomeAnd, OnOk};
+ghost use Rattle.std.specs.Prelude.{◌≡◌, ◌<◌, ◌≤◌, ◌+◌, ◌++◌, ◌^◌, ℕ, All, List, [], None, map, max, reverse, length, is_some, true, IfNone, IfOk, IsSomeAnd, OnOk};
 ghost use Rattle.hwdb_spec.specs.Tree.{Tree, members_under, prefix_of};
 ghost use Rattle.hwdb_reader.specs.Unread.{file_at};
 ghost use Rattle.hwdb_reader.specs.Views.{tree_of, entered_tree};
 ghost use Rattle.hwdb_inspect.specs.Views.{assignment_of};
+ghost use Rattle.hwdb_inspect.specs.Internal.Trails.{Follows, IsCopied, IsLonger, IsSegmentIn, path_of};
 ghost use Rattle.hwdb_inspect.specs.Internal.Walks.{IsAtOne, IsOf, IsOpenIn, to_come, StandsOn, left, steps, deepest_to_come, Opened, IsWalkOf, entered_one, own_of, rest_of, still_left};
 
+use crate::trail::Trail;
 use hwdb_query::{StoredAssignment, push_answers};
 use hwdb_reader::{Db, Entered, Inside, Node};
 use std::alloc::{AllocError, Global};
@@ -24,15 +26,15 @@ pub(crate) struct OpenVisit<'a> {
     inside: Inside<'a>,
     /// How many of its children were entered.
     done: usize,
-    /// How many bytes its path has.
+    /// How many segments its path has.
     length: usize,
 }
 
 /// How far a walk has come.
 #[derive(Drop)]
 pub(crate) struct Walk<'a> {
-    /// The path of the node that was entered last.
-    pub path: Vec<u8>,
+    /// The way to the node that was entered last.
+    pub trail: Trail<'a>,
     /// That node; none at the end.
     pub at: Option<Inside<'a>>,
     /// The nodes that aren't done, each below the one before it.
@@ -46,14 +48,15 @@ pub(crate) struct Walk<'a> {
 const NODE: usize = 1;
 
 impl<'a> Walk<'a> {
-    fn new(alloc: Global) -> Walk<'a>
-        ensures path { result.path.items ≡ [] }
+    fn new(alloc: Global, copies: bool) -> Walk<'a>
+        ensures segments { result.trail.segments.items ≡ [] }
+        ensures copied { copies ≡ true → IsCopied result.trail }
         ensures stack { result.stack.items ≡ [] }
         ensures entered { result.entered ≡ 0 }
         ensures deepest { result.deepest ≡ 0 }
     {
         Walk {
-            path: Vec::new(alloc),
+            trail: Trail::new(alloc, copies),
             at: None,
             stack: Vec::new(alloc),
             entered: Entered::new(),
@@ -61,27 +64,33 @@ impl<'a> Walk<'a> {
         }
     }
 
-    /// A walk over a database that is at the root. The only error, here and below, is `AllocError`.
+    /// A walk over a database that is at the root, and holds the bytes of its path. The only error, here and below, is `AllocError`.
     pub(crate) fn start(alloc: Global, db: &Db<'a>) -> Result<Walk<'a>, AllocError>
         ensures walk { IfOk result (λ walk. IsWalkOf db.now walk) }
         ensures all { IfOk result (λ walk.
-            own_of walk.path.items walk.at ++ rest_of walk ≡ members_under [] db.now) }
+            own_of (path_of walk.trail) walk.at ++ rest_of walk ≡ members_under [] db.now) }
         ensures end { IfOk result (λ walk. IfNone walk.at (walk.stack.items ≡ [])) }
+        ensures copied { IfOk result (λ walk. IsCopied walk.trail) }
     {
-        Walk::start_at(alloc, db.root())
+        Walk::start_at(alloc, true, db.root())
     }
 
-    /// The same, over the tree of a node.
-    pub(crate) fn start_at(alloc: Global, root: Node<'a>) -> Result<Walk<'a>, AllocError>
+    /// A walk over the tree of a node. Says whether the path's bytes are to be held.
+    pub(crate) fn start_at(
+        alloc: Global,
+        copies: bool,
+        root: Node<'a>,
+    ) -> Result<Walk<'a>, AllocError>
         ensures walk { (t : Tree) → tree_of root.entry ≡ t → IfOk result (λ walk. IsWalkOf t walk) }
         ensures all { (t : Tree) → tree_of root.entry ≡ t → IfOk result (λ walk.
-            own_of walk.path.items walk.at ++ rest_of walk ≡ members_under [] t) }
+            own_of (path_of walk.trail) walk.at ++ rest_of walk ≡ members_under [] t) }
         ensures end { IfOk result (λ walk. IfNone walk.at (walk.stack.items ≡ [])) }
         ensures file { IfOk result (λ walk. IsOf (file_at root.entry) walk) }
+        ensures copied { copies ≡ true → IfOk result (λ walk. IsCopied walk.trail) }
     {
         root.law_tree();
-        let mut walk = Walk::new(alloc);
-        walk.enter(root)?;
+        let mut walk = Walk::new(alloc, copies);
+        walk.enter(None, root)?;
         Ok(walk)
     }
 
@@ -92,25 +101,30 @@ impl<'a> Walk<'a> {
         self.entered.count()
     }
 
-    /// Enters a node. The walk's path is the node's without its prefix. Puts the node on the stack if it has children, as
-    /// few nodes do.
-    fn enter(&mut self, node: Node<'a>) -> Result<(), AllocError>
+    /// Enters a node, which is reached by a byte. The walk's path is that of the node above it. Puts the node on the stack if it has
+    /// children, as few nodes do.
+    fn enter(&mut self, byte: Option<u8>, node: Node<'a>) -> Result<(), AllocError>
         requires { self.old.entered + 1 < 2 ^ 64 }
-        ensures path { OnOk result
-            (self.new.path.items ≡ self.old.path.items ++ prefix_of (tree_of node.entry)) }
+        ensures longer { OnOk result
+            (IsLonger self.old.trail.segments.items self.new.trail.segments.items
+            byte (prefix_of (tree_of node.entry))) }
+        ensures follows { OnOk result (Follows self.old.trail self.new.trail) }
         ensures at { OnOk result
             (IsSomeAnd self.new.at (λ inside. entered_tree inside ≡ tree_of node.entry)) }
         ensures stack { OnOk result
             (Opened self.old.stack.items self.new.stack.items (tree_of node.entry)
-            (length self.new.path.items)) }
+            (length self.new.trail.segments.items)) }
         ensures counted { OnOk result (self.new.entered ≡ self.old.entered + 1) }
         ensures deepest { OnOk result
             (self.new.deepest ≡ max self.old.deepest (length self.old.stack.items + 1)) }
         ensures file { OnOk result (IsAtOne (file_at node.entry) self.new.at) }
         ensures files { OnOk result ((f : List ℕ) → file_at node.entry ≡ f
             → All (IsOpenIn f) self.old.stack.items → All (IsOpenIn f) self.new.stack.items) }
+        ensures segments { OnOk result ((f : List ℕ) → file_at node.entry ≡ f
+            → All (IsSegmentIn f) self.old.trail.segments.items
+            → All (IsSegmentIn f) self.new.trail.segments.items) }
     {
-        self.path.extend_from_slice(node.prefix())?;
+        self.trail.push(byte, node)?;
         let inside = node.enter(&mut self.entered);
         self.at = Some(inside);
         self.stack.reserve(NODE)?;
@@ -118,7 +132,7 @@ impl<'a> Walk<'a> {
         if inside.children() == 0 {
             return Ok(());
         }
-        let length = self.path.len();
+        let length = self.trail.segments.len();
         self.stack.push(OpenVisit {
             inside,
             done: 0,
@@ -131,15 +145,16 @@ impl<'a> Walk<'a> {
     fn go_on(&mut self) -> Result<bool, AllocError>
         requires some { 0 < length self.old.stack.items }
         requires none { self.old.at ≡ None }
-        requires stands { StandsOn self.old.path.items (reverse self.old.stack.items) }
+        requires stands { StandsOn self.old.trail.segments.items (reverse self.old.stack.items) }
         requires room { self.old.entered + left (reverse self.old.stack.items) < 2 ^ 64 }
         requires reached { length self.old.stack.items ≤ self.old.deepest }
         ensures found { IfOk result (λ found. found ≡ is_some self.new.at) }
-        ensures rest { OnOk result (own_of self.new.path.items self.new.at
-            ++ to_come self.new.path.items (reverse self.new.stack.items)
-            ≡ to_come self.old.path.items (reverse self.old.stack.items)) }
+        ensures rest { OnOk result (own_of (path_of self.new.trail) self.new.at
+            ++ to_come self.new.trail.segments.items (reverse self.new.stack.items)
+            ≡ to_come self.old.trail.segments.items (reverse self.old.stack.items)) }
+        ensures follows { OnOk result (Follows self.old.trail self.new.trail) }
         ensures stands { OnOk result
-            (StandsOn self.new.path.items (reverse self.new.stack.items)) }
+            (StandsOn self.new.trail.segments.items (reverse self.new.stack.items)) }
         ensures counted { OnOk result
             (self.new.entered ≡ self.old.entered + entered_one self.new.at) }
         ensures left { OnOk result (entered_one self.new.at + left (reverse self.new.stack.items)
@@ -154,18 +169,20 @@ impl<'a> Walk<'a> {
             ((f : List ℕ) → All (IsOpenIn f) self.old.stack.items → IsAtOne f self.new.at) }
         ensures files { OnOk result ((f : List ℕ)
             → All (IsOpenIn f) self.old.stack.items → All (IsOpenIn f) self.new.stack.items) }
+        ensures segments { OnOk result ((f : List ℕ) → All (IsOpenIn f) self.old.stack.items
+            → All (IsSegmentIn f) self.old.trail.segments.items
+            → All (IsSegmentIn f) self.new.trail.segments.items) }
     {
         let last = self.stack.len() - 1;
         let open = &mut self.stack[last];
-        self.path.truncate(open.length);
+        self.trail.cut(open.length);
         if open.done == open.inside.children() {
             self.stack.pop();
             return Ok(false);
         }
         let child = open.inside.child_in_file(open.done);
         open.done += 1;
-        self.path.push(child.byte)?;
-        self.enter(child.node)?;
+        self.enter(Some(child.byte), child.node)?;
         Ok(true)
     }
 
@@ -174,7 +191,8 @@ impl<'a> Walk<'a> {
         requires { (t : Tree) × IsWalkOf t self.old }
         ensures walk { OnOk result ((t : Tree) → IsWalkOf t self.old → IsWalkOf t self.new) }
         ensures rest { OnOk result
-            (own_of self.new.path.items self.new.at ++ rest_of self.new ≡ rest_of self.old) }
+            (own_of (path_of self.new.trail) self.new.at ++ rest_of self.new ≡ rest_of self.old) }
+        ensures follows { OnOk result (Follows self.old.trail self.new.trail) }
         ensures end { OnOk result (IfNone self.new.at (self.new.stack.items ≡ [])) }
         ensures left { OnOk result
             (entered_one self.new.at + still_left self.new ≡ still_left self.old) }
@@ -182,6 +200,9 @@ impl<'a> Walk<'a> {
             ((f : List ℕ) → All (IsOpenIn f) self.old.stack.items → IsAtOne f self.new.at) }
         ensures files { OnOk result ((f : List ℕ)
             → All (IsOpenIn f) self.old.stack.items → All (IsOpenIn f) self.new.stack.items) }
+        ensures segments { OnOk result ((f : List ℕ) → All (IsOpenIn f) self.old.stack.items
+            → All (IsSegmentIn f) self.old.trail.segments.items
+            → All (IsSegmentIn f) self.new.trail.segments.items) }
     {
         self.at = None;
         'nodes: while !self.stack.is_empty() {
@@ -203,7 +224,7 @@ pub fn assignments<'a>(alloc: Global, db: &Db<'a>) -> Result<Vec<StoredAssignmen
     let mut walk = Walk::start(alloc, db)?;
     let mut found = Vec::new(alloc);
     'nodes: while let Some(inside) = walk.at {
-        push_answers(alloc, inside, &walk.path, &mut found)?;
+        push_answers(alloc, inside, walk.trail.path(), &mut found)?;
         walk.next()?;
     }
     Ok(found)

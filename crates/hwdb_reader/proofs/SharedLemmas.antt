@@ -1,10 +1,9 @@
 -- Strings of two databases whose bytes are the same.
-use Rattle.std.proofs.Common.{◌≡◌, ◌≤◌, ◌<◌, ◌+◌, ◌-◌, ℕ, zero, suc, List, [], ◌∷◌, length, take, drop, get_or, Bool, true, false, not, cond, None, Some, is_some, All, refl, sym, ◌∙◌, ap, arith, length-drop, ◌⊎◌, inl, inr, ◌==◌}
+use Rattle.std.proofs.Common.{◌≡◌, ◌≤◌, ◌<◌, ◌+◌, ◌-◌, ℕ, zero, suc, List, [], ◌∷◌, length, take, drop, get_or, Bool, true, false, not, cond, None, Some, is_some, refl, sym, ◌∙◌, ap, arith, length-drop, ◌⊎◌, inl, inr, ◌==◌}
 use Rattle.std.specs.List.{take_while}
 use Rattle.std.proofs.lemmas.List.{get_or-drop, get_or-take}
 use Rattle.std.proofs.lemmas.Bool.{cases_lt}
 use Rattle.std.proofs.lemmas.Grind.{common_steps}
-use Rattle.std.proofs.lemmas.List.Elements.{All-get_or}
 use Rattle.std.proofs.lemmas.List.Sums.{take_while-cons}
 use Rattle.std.specs.Prelude.{if◌then◌else◌}
 use Rattle.hwdb_spec.specs.Format.{text_at}
@@ -12,7 +11,6 @@ use Rattle.hwdb_spec.specs.Folders.{same}
 use Rattle.hwdb_spec.specs.Lemmas.Orders.{same_itself}
 use Rattle.hwdb_spec.specs.Tree.{key_of}
 use Rattle.hwdb_reader.specs.Internal.Shared.{Agree, AreShared}
-use Rattle.hwdb_reader.specs.declared.twins.Stretch.{Stretch}
 
 abbrev nz : ℕ → Bool
 nz x = not (x == 0)
@@ -115,17 +113,6 @@ pub cut_to : (a b : List ℕ) (x y n : ℕ) → take (x + n - x) (drop x a) ≡ 
 cut_to a b x y n same =
     let size : (z : ℕ) → z + n - z ≡ n = λ z. omega arith in
     ap (λ k. take k (drop x a)) (sym (size x)) ∙ same ∙ ap (λ k. take k (drop y b)) (size y)
-
--- texts at corresponding places
-pub known : (old new : List ℕ) (found : List Stretch) (k : ℕ) (d : Stretch) (i j : ℕ) → All (λ s. AreShared old new s.old s.new s.count) found → k < length found
-    → ((get_or found k d).old ≤ i) × (i - (get_or found k d).old < (get_or found k d).count) × (j ≡ (get_or found k d).new + (i - (get_or found k d).old))
-    → text_at old i ≡ text_at new j
-known old new found k d i j all lt h =
-    let s = get_or found k d in
-    let low = h.0 in
-    let there : s.old + (i - s.old) ≡ i = omega (arith, low) in
-    let shared : AreShared old new s.old s.new s.count = All-get_or (λ (s : Stretch). AreShared old new s.old s.new s.count) found k d lt all in
-    ap (text_at old) (sym there) ∙ shared (i - s.old) h.1 ∙ ap (text_at new) (sym h.2)
 
 -- and so are the texts
 pub same_known : (a b old new : List ℕ) (i j : ℕ) → a ≡ old → b ≡ new → text_at old i ≡ text_at new j → true ≡ same (text_at a i) (text_at b j)

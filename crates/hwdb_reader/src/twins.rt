@@ -220,16 +220,26 @@ impl<'a, 'b> Twins<'a, 'b> {
         })
     }
 
-    /// Whether it is known that a place of each has the same string.
+    /// Whether it is known that a place of each has the same string. The stretches ascend: it looks for the last one that begins no
+    /// later than the old place.
     fn is_known(&self, old: usize, new: usize) -> bool
         ensures { result ≡ true → text_at self.now.old.now old ≡ text_at self.now.new.now new }
     {
-        for stretch in &self.stretches {
-            if stretch.has(old, new) {
-                return true;
+        let stretches = &self.stretches;
+        let mut first = 0;
+        let mut end = stretches.len();
+        'halves: while end - first > 1 {
+            let middle = first + (end - first) / 2;
+            if stretches[middle].old <= old {
+                first = middle;
+            } else {
+                end = middle;
             }
         }
-        false
+        if first == end {
+            return false;
+        }
+        stretches[first].has(old, new)
     }
 
     /// Whether a text of the old database and one of the new one are the same. Reads them only if their places don't tell that they

@@ -14,6 +14,7 @@ use Rattle.hwdb_inspect.specs.declared.members.Members.{Members}
 use Rattle.hwdb_inspect.specs.declared.meeting.Side.{Side}
 use Rattle.hwdb_inspect.specs.declared.meeting.Side.TheVariants.{Old, New, Both}
 use Rattle.hwdb_inspect.specs.Internal.Merging.{merged}
+use Rattle.hwdb_inspect.specs.Internal.Trails.{path_of}
 use Rattle.hwdb_inspect.specs.Internal.Walks.{IsOf, IsWalkOf, rest_of}
 
 -- an assignment with this pattern
@@ -43,11 +44,11 @@ unlooked looked pattern (Some inside) = own_members pattern (drop looked (values
 
 -- the assignments after the next one
 abbrev pub after_next : Members → List Assignment
-after_next m = unlooked m.looked m.walk.path.items m.walk.at ++ rest_of m.walk
+after_next m = unlooked m.looked (path_of m.walk.trail) m.walk.at ++ rest_of m.walk
 
 -- those that are left
 abbrev pub left_of : Members → List Assignment
-left_of m = head_of m.walk.path.items m.next ++ after_next m
+left_of m = head_of (path_of m.walk.trail) m.next ++ after_next m
 
 -- they come from a walk over a tree
 pub record IsUnderWay (t : Tree) (m : Members) : Type 0 where
@@ -71,10 +72,10 @@ new_by pattern (New y) = unread_of pattern y ∷ []
 new_by pattern (Both x y) = unread_of pattern y ∷ []
 
 abbrev pub old_at : Members → Side → List Assignment
-old_at old side = old_by old.walk.path.items side
+old_at old side = old_by (path_of old.walk.trail) side
 
 abbrev pub new_at : Members → Side → List Assignment
-new_at new side = new_by new.walk.path.items side
+new_at new side = new_by (path_of new.walk.trail) side
 
 -- what happened there, by the two patterns
 abbrev pub changes_by : (old new : List ℕ) → Side → List Change
@@ -83,7 +84,7 @@ changes_by old new (New y) = Came (unread_of new y) ∷ []
 changes_by old new (Both x y) = change_between (unread_of old x) (unread_of new y)
 
 abbrev pub changes_at : (old new : Members) → Side → List Change
-changes_at old new side = changes_by old.walk.path.items new.walk.path.items side
+changes_at old new side = changes_by (path_of old.walk.trail) (path_of new.walk.trail) side
 
 -- these are next
 abbrev pub IsNext : (old new : Members) → Side → Type 0

@@ -7,6 +7,8 @@ use Rattle.hwdb_reader.specs.Views.{children_of, entered_tree, node_count}
 use Rattle.hwdb_reader.specs.Unread.{file_in}
 use Rattle.hwdb_reader.specs.declared.view.Inside.{Inside}
 use Rattle.hwdb_query.specs.Internal.Members.{members_in, own_members}
+use Rattle.hwdb_inspect.specs.Internal.Trails.{IsSegmentIn, path_in}
+use Rattle.hwdb_inspect.specs.declared.trail.Segment.{Segment}
 use Rattle.hwdb_inspect.specs.declared.walk.OpenVisit.{OpenVisit}
 use Rattle.hwdb_inspect.specs.declared.walk.Walk.{Walk}
 use Rattle.hwdb_query.specs.Internal.Live.{nodes_in}
@@ -20,16 +22,16 @@ abbrev pub depth_in : List (ℕ × Tree) → ℕ
 depth_in [] = 0
 depth_in (k ∷ kids) = max (depth k.1) (depth_in kids)
 
--- what the children assign that aren't done, if the last node's path is this one
-abbrev pub to_come : List ℕ → List OpenVisit → List Assignment
-to_come path [] = []
-to_come path (o ∷ below) = members_in (take o.length path) (kids_of o) ++ to_come (take o.length path) below
+-- what the children assign that aren't done, if this is the way to the last node
+abbrev pub to_come : List Segment → List OpenVisit → List Assignment
+to_come way [] = []
+to_come way (o ∷ below) = members_in (path_in (take o.length way)) (kids_of o) ++ to_come (take o.length way) below
 
--- each node's path begins with the path of the one below it in the stack
-abbrev pub StandsOn : List ℕ → List OpenVisit → Type 0
-StandsOn path [] = Unit {0}
-StandsOn path (o ∷ below) =
-    (o.length ≤ length path) × (o.done ≤ length (children_of (entered_tree o.inside))) × StandsOn (take o.length path) below
+-- the way to each node begins with the way to the one below it in the stack
+abbrev pub StandsOn : List Segment → List OpenVisit → Type 0
+StandsOn way [] = Unit {0}
+StandsOn way (o ∷ below) =
+    (o.length ≤ length way) × (o.done ≤ length (children_of (entered_tree o.inside))) × StandsOn (take o.length way) below
 
 -- how many nodes weren't entered
 abbrev pub left : List OpenVisit → ℕ
@@ -67,7 +69,7 @@ own_of path (Some inside) = own_members path (values_of (entered_tree inside))
 
 -- what the nodes assign that a walk hasn't entered
 abbrev pub rest_of : Walk → List Assignment
-rest_of w = to_come w.path.items (reverse w.stack.items)
+rest_of w = to_come w.trail.segments.items (reverse w.stack.items)
 
 -- one, if a walk is at a node
 abbrev pub entered_one : Option Inside → ℕ
@@ -80,7 +82,7 @@ still_left w = left (reverse w.stack.items)
 
 -- a walk over a tree
 pub record IsWalkOf (t : Tree) (w : Walk) : Type 0 where
-  pub stands : StandsOn w.path.items (reverse w.stack.items)
+  pub stands : StandsOn w.trail.segments.items (reverse w.stack.items)
   pub small : node_count t < 2 ^ 64
   pub counted : w.entered + left (reverse w.stack.items) ≡ node_count t
   pub deepest : max w.deepest (deepest_to_come (reverse w.stack.items)) ≡ depth t
@@ -98,3 +100,4 @@ IsAtOne file at = IfSome at (λ inside. file_in inside ≡ file)
 pub record IsOf (file : List ℕ) (w : Walk) : Type 0 where
   pub stack : All (IsOpenIn file) w.stack.items
   pub at : IsAtOne file w.at
+  pub segments : All (IsSegmentIn file) w.trail.segments.items

@@ -3,6 +3,7 @@ use Rattle.std.proofs.lemmas.Result.{IfOk-weaker}
 use Rattle.hwdb_reader.specs.Unread.{IsFrom, file_of}
 use Rattle.hwdb_reader.specs.declared.unread.UnreadEntry.{UnreadEntry}
 use Rattle.hwdb_inspect.specs.Internal.Counting.{files_in}
+use Rattle.hwdb_inspect.specs.Internal.Trails.{path_of as way_of}
 use Rattle.hwdb_inspect.specs.Internal.Meeting.{left_of, unread_of}
 use Rattle.hwdb_inspect.proofs.InventoryLemmas.{all_counted, count_on, files_on, path_of, room}
 use Rattle.hwdb_inspect.proofs.MeetingLemmas.{next_is, none_left, passed}
@@ -12,7 +13,7 @@ pub add-requires-clause-few : goal.add-requires-clause-few
 add-requires-clause-few c =
     let m = c.members.members in
     let x = c.in-Some.entry in
-    room c.members.held.assignments _ (left_of m) _ _ (unread_of m.walk.path.items x) (next_is m x c.in-Some.is) c.members.invariant.count c.requires
+    room c.members.held.assignments _ (left_of m) _ _ (unread_of (way_of m.walk.trail) x) (next_is m x c.in-Some.is) c.members.invariant.count c.requires
 
 -- the next one's file is that of the database
 next_from : (c : goal.In_ok-pass) → IsFrom c.members.invariant.file.0 c.in-Some.entry
@@ -22,7 +23,7 @@ pub members-preserved : goal.members-preserved
 members-preserved c =
     let m = c.members.members in
     let x = c.in-Some.entry in
-    let own = unread_of m.walk.path.items x ∷ [] in
+    let own = unread_of (way_of m.walk.trail) x ∷ [] in
     let split = passed m c.pass.new.self x c.in-Some.is c.in_ok-pass.ensures.left in
     record {
       files = files_on (files_in c.members.held) (files_in c.add.new.self) (left_of m) (left_of c.pass.new.self) own split (c.in_ok-add.ensures.files (map path_of (left_of c.pass.new.self)))

@@ -1,8 +1,9 @@
-use Rattle.std.proofs.Common.{◌≡◌, ◌∙◌, ◌++◌, List, [], ap, arith, length, map, refl, subst, sym, Some}
+use Rattle.std.proofs.Common.{All, ◌≡◌, ◌∙◌, ◌++◌, List, [], ap, arith, length, map, refl, subst, sym, Some}
 use Rattle.hwdb_spec.specs.Assignment.{Assignment}
 use Rattle.hwdb_spec.specs.Summary.{different}
 use Rattle.hwdb_spec.specs.Tree.{members_under}
 use Rattle.hwdb_reader.specs.Unread.{old_file}
+use Rattle.hwdb_inspect.specs.Internal.Trails.{IsSegmentIn, path_of as way_of}
 use Rattle.hwdb_inspect.specs.Internal.Merging.{merged}
 use Rattle.hwdb_spec.specs.Status.{first_text, stale_by}
 use Rattle.hwdb_reader.specs.Views.{tree_of}
@@ -12,6 +13,33 @@ use Rattle.hwdb_inspect.proofs.InventoryLemmas.{all_counted, bound_on, changes_o
 use Rattle.hwdb_inspect.proofs.MeetingLemmas.{next_old, next_some}
 use Rattle.hwdb_inspect.proofs.MergeLemmas.{merged_trees}
 use Rattle.hwdb_inspect.proofs.freshness.walked.Goals as goal
+
+pub meet-requires-clause-kept : goal.meet-requires-clause-kept
+meet-requires-clause-kept c =
+    let olds = c.in_ok-before.before.walk.trail.segments.items in
+    let news = c.in_ok-after.after.walk.trail.segments.items in
+    (olds, news, c.new-abreast.ensures olds news, λ n small. refl, λ n small. refl)
+
+pub meet-requires-clause-old_file : goal.meet-requires-clause-old_file
+meet-requires-clause-old_file c = subst (λ f. All (IsSegmentIn f) c.in_ok-before.before.walk.trail.segments.items) (sym c.in_ok-twins.ensures.old) c.in_ok-before.ensures.file.walk.segments
+
+pub meet-requires-clause-new_file : goal.meet-requires-clause-new_file
+meet-requires-clause-new_file c = subst (λ f. All (IsSegmentIn f) c.in_ok-after.after.walk.trail.segments.items) (sym c.in_ok-twins.ensures.new) c.in_ok-after.ensures.file.walk.segments
+
+pub meet-requires-in-Some-clause-kept : goal.meet-requires-in-Some-clause-kept
+meet-requires-in-Some-clause-kept c = (
+  c.pairs.before.walk.trail.segments.items,
+  c.pairs.after.walk.trail.segments.items,
+  c.pairs.invariant.abreast,
+  c.in_ok-pass_over.ensures.old_kept,
+  c.in_ok-pass_over.ensures.new_kept,
+)
+
+pub meet-requires-in-Some-clause-old_file : goal.meet-requires-in-Some-clause-old_file
+meet-requires-in-Some-clause-old_file c = (c.in_ok-pass_over.ensures.old_file _ c.pairs.invariant.old_from).walk.segments
+
+pub meet-requires-in-Some-clause-new_file : goal.meet-requires-in-Some-clause-new_file
+meet-requires-in-Some-clause-new_file c = (c.in_ok-pass_over.ensures.new_file _ c.pairs.invariant.new_from).walk.segments
 
 pub pairs-init : goal.pairs-init
 pairs-init c =
@@ -37,6 +65,8 @@ pairs-init c =
       new_end = c.in_ok-after.ensures.end;
       old_from = subst (λ f. AreOf f before) (sym c.in_ok-twins.ensures.old) c.in_ok-before.ensures.file;
       new_from = subst (λ f. AreOf f after) (sym c.in_ok-twins.ensures.new) c.in_ok-after.ensures.file;
+      abreast = c.in_ok-meet.ensures.abreast;
+      order = c.in_ok-meet.ensures.order;
       last = c.new-held.ensures.last (old_file c.in_ok-twins.twins);
     }
 
@@ -58,8 +88,8 @@ pub pairs-preserved : goal.pairs-preserved
 pairs-preserved c =
     let met = rw c.in-Some.is at c.least.ensures.met in
     let side = c.in-Some.side in
-    let p = c.pairs.before.walk.path.items in
-    let q = c.pairs.after.walk.path.items in
+    let p = way_of c.pairs.before.walk.trail in
+    let q = way_of c.pairs.after.walk.trail in
     let all = to_meet c.pairs.before c.pairs.after in
     let changes = changes_at c.pairs.before c.pairs.after side in
     let olds = left_of c.pass_over.new.old in
@@ -81,6 +111,8 @@ pairs-preserved c =
       new_end = c.in_ok-pass_over.ensures.new_end c.pairs.invariant.new_end;
       old_from = c.in_ok-pass_over.ensures.old_file _ c.pairs.invariant.old_from;
       new_from = c.in_ok-pass_over.ensures.new_file _ c.pairs.invariant.new_from;
+      abreast = c.in_ok-meet-2.ensures.abreast;
+      order = c.in_ok-meet-2.ensures.order;
       last = c.in_ok-count_old.ensures.last _ _ c.pairs.invariant.last (rw c.in-Some.is at c.least.ensures.files);
     }
 

@@ -1,10 +1,13 @@
 use Rattle.std.proofs.Common.{◌≡◌, ◌≤◌, ◌+◌, ◌++◌, [], None, map, length, IfNone}
 use Rattle.hwdb_spec.specs.Status.{first_text}
 use Rattle.hwdb_spec.specs.Summary.{different}
+use Rattle.hwdb_spec.specs.Assignment.{text_cmp}
 use Rattle.hwdb_spec.specs.Tree.{members_under}
 use Rattle.hwdb_reader.specs.Unread.{new_file, old_file}
 use Rattle.hwdb_reader.specs.Views.{tree_of}
 use Rattle.hwdb_inspect.specs.Internal.Counting.{IsHeldFrom, files_in, first_kept}
+use Rattle.hwdb_inspect.specs.Internal.Spellings.{IsAbreast}
+use Rattle.hwdb_inspect.specs.Internal.Trails.{path_of}
 use Rattle.hwdb_inspect.specs.Internal.Merging.{merged}
 use Rattle.hwdb_inspect.specs.Internal.Meeting.{AreOf, IsUnderWay, left_of, to_meet}
 use Rattle.hwdb_inspect.proofs.freshness.walked.Given as goal
@@ -22,6 +25,8 @@ invariant-pairs l = record {
   new_end : IfNone l.after.next (l.after.walk.at ≡ None);
   old_from : AreOf (old_file l.twins) l.before;
   new_from : AreOf (new_file l.twins) l.after;
+  abreast : IsAbreast l.before.walk.trail.segments.items l.after.walk.trail.segments.items l.abreast;
+  order : l.abreast.order ≡ text_cmp (path_of l.before.walk.trail) (path_of l.after.walk.trail);
   last : IsHeldFrom (old_file l.twins) l.held;
 }
 

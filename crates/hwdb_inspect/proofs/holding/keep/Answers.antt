@@ -1,6 +1,7 @@
 use Rattle.std.proofs.Common.{◌∙◌, ◌++◌, ◌∷◌, [], ap, sym, append_assoc, List, ℕ}
 use Rattle.hwdb_spec.specs.Assignment.{Assignment}
 use Rattle.hwdb_inspect.specs.Internal.Holding.{all_held}
+use Rattle.hwdb_inspect.specs.Internal.Trails.{path_of}
 use Rattle.hwdb_inspect.specs.Internal.Meeting.{left_of, member_of}
 use Rattle.hwdb_inspect.proofs.MeetingLemmas.{passed}
 use Rattle.hwdb_inspect.proofs.holding.keep.Goals as goal
@@ -15,10 +16,11 @@ members-preserved c =
       held = ap (λ (l : List Assignment). l ++ rest) (c.in_ok-push.ensures.held c.members.invariant.within)
           ∙ append_assoc before (member_of c.pattern.result.now m ∷ []) rest
           ∙ ap (λ (t : List ℕ). before ++ member_of t m ∷ rest) c.pattern.ensures
-          ∙ ap (λ (a : Assignment). before ++ a ∷ rest) (c.read.ensures c.members.members.walk.path.items)
+          ∙ ap (λ (a : Assignment). before ++ a ∷ rest) (c.read.ensures (path_of c.members.members.walk.trail))
           ∙ ap (λ (l : List Assignment). before ++ l) (sym (passed c.members.members c.pass.new.self e c.in-Some.is c.in_ok-pass.ensures.left))
           ∙ c.members.invariant.held;
       within = c.in_ok-push.ensures.within c.members.invariant.within;
       walk = c.in_ok-pass.ensures.walk c.args.db.now c.members.invariant.walk;
       end = c.in_ok-pass.ensures.end;
+      copied = c.in_ok-pass.ensures.copied c.members.invariant.copied;
     }

@@ -1,6 +1,7 @@
 use Rattle.std.proofs.Common.{◌≡◌, ◌++◌, [], None, length, IfNone}
 use Rattle.hwdb_spec.specs.Tree.{members_under}
 use Rattle.hwdb_inspect.specs.Internal.Holding.{AllWithin, all_held}
+use Rattle.hwdb_inspect.specs.Internal.Trails.{IsCopied}
 use Rattle.hwdb_inspect.specs.Internal.Meeting.{IsUnderWay, left_of}
 use Rattle.hwdb_inspect.proofs.holding.keep.Given as goal
 
@@ -10,6 +11,7 @@ invariant-members l = record {
   within : AllWithin l.kept;
   walk : IsUnderWay l.db l.members;
   end : IfNone l.members.next (l.members.walk.at ≡ None);
+  copied : IsCopied l.members.walk.trail;
 }
 
 abbrev pub decreases-members : goal.decreases-members

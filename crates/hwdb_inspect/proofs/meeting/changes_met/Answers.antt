@@ -1,14 +1,42 @@
-use Rattle.std.proofs.Common.{◌≡◌, ◌∙◌, ◌++◌, ◌||◌, List, [], ap, refl, subst, sym}
+use Rattle.std.proofs.Common.{All, ◌≡◌, ◌∙◌, ◌++◌, ◌||◌, List, [], ap, refl, subst, sym}
 use Rattle.std.specs.Prelude.{flat_map}
 use Rattle.hwdb_spec.specs.Assignment.{Assignment}
 use Rattle.hwdb_spec.specs.Differences.{are_some}
 use Rattle.hwdb_spec.specs.Tree.{members_under}
+use Rattle.hwdb_inspect.specs.Internal.Trails.{IsSegmentIn}
 use Rattle.hwdb_inspect.specs.Internal.Merging.{merged}
 use Rattle.hwdb_reader.specs.Views.{tree_of}
 use Rattle.hwdb_inspect.specs.Internal.Forms.{change_form}
 use Rattle.hwdb_inspect.specs.Internal.Meeting.{AreOf, changes_at, left_of, to_meet}
 use Rattle.hwdb_inspect.proofs.DiffLemmas.{joined, differ_step}
 use Rattle.hwdb_inspect.proofs.meeting.changes_met.Goals as goal
+
+pub meet-requires-clause-kept : goal.meet-requires-clause-kept
+meet-requires-clause-kept c =
+    let olds = c.in_ok-before.before.walk.trail.segments.items in
+    let news = c.in_ok-after.after.walk.trail.segments.items in
+    (olds, news, c.new-abreast.ensures olds news, λ n small. refl, λ n small. refl)
+
+pub meet-requires-clause-old_file : goal.meet-requires-clause-old_file
+meet-requires-clause-old_file c = subst (λ f. All (IsSegmentIn f) c.in_ok-before.before.walk.trail.segments.items) (sym c.in_ok-twins.ensures.old) c.in_ok-before.ensures.file.walk.segments
+
+pub meet-requires-clause-new_file : goal.meet-requires-clause-new_file
+meet-requires-clause-new_file c = subst (λ f. All (IsSegmentIn f) c.in_ok-after.after.walk.trail.segments.items) (sym c.in_ok-twins.ensures.new) c.in_ok-after.ensures.file.walk.segments
+
+pub meet-requires-in-Some-clause-kept : goal.meet-requires-in-Some-clause-kept
+meet-requires-in-Some-clause-kept c = (
+  c.pairs.before.walk.trail.segments.items,
+  c.pairs.after.walk.trail.segments.items,
+  c.pairs.invariant.abreast,
+  c.in_ok-pass_over.ensures.old_kept,
+  c.in_ok-pass_over.ensures.new_kept,
+)
+
+pub meet-requires-in-Some-clause-old_file : goal.meet-requires-in-Some-clause-old_file
+meet-requires-in-Some-clause-old_file c = (c.in_ok-pass_over.ensures.old_file _ c.pairs.invariant.old_from).walk.segments
+
+pub meet-requires-in-Some-clause-new_file : goal.meet-requires-in-Some-clause-new_file
+meet-requires-in-Some-clause-new_file c = (c.in_ok-pass_over.ensures.new_file _ c.pairs.invariant.new_from).walk.segments
 
 pub pairs-init : goal.pairs-init
 pairs-init c =
@@ -27,6 +55,8 @@ pairs-init c =
       new_end = c.in_ok-after.ensures.end;
       old_from = subst (λ f. AreOf f before) (sym c.in_ok-twins.ensures.old) c.in_ok-before.ensures.file;
       new_from = subst (λ f. AreOf f after) (sym c.in_ok-twins.ensures.new) c.in_ok-after.ensures.file;
+      abreast = c.in_ok-meet.ensures.abreast;
+      order = c.in_ok-meet.ensures.order;
     }
 
 pub pairs-preserved : goal.pairs-preserved
@@ -45,4 +75,6 @@ pairs-preserved c =
       new_end = c.in_ok-pass_over.ensures.new_end c.pairs.invariant.new_end;
       old_from = c.in_ok-pass_over.ensures.old_file _ c.pairs.invariant.old_from;
       new_from = c.in_ok-pass_over.ensures.new_file _ c.pairs.invariant.new_from;
+      abreast = c.in_ok-meet-2.ensures.abreast;
+      order = c.in_ok-meet-2.ensures.order;
     }

@@ -3,6 +3,7 @@ use Rattle.std.proofs.lemmas.List.{length-map}
 use Rattle.hwdb_spec.specs.Summary.{different, depth, nodes}
 use Rattle.hwdb_spec.specs.Tree.{members_under}
 use Rattle.hwdb_inspect.specs.Internal.Counting.{last_of, turns}
+use Rattle.hwdb_inspect.specs.Internal.Trails.{path_of}
 use Rattle.hwdb_inspect.specs.Internal.Walks.{own_of, rest_of, left, deepest_to_come}
 use Rattle.hwdb_inspect.specs.declared.walk.OpenVisit.{OpenVisit}
 use Rattle.hwdb_inspect.proofs.TallyLemmas.{all_taken, pattern_of, different_turns}
@@ -15,7 +16,7 @@ returns c =
     let w = c.nodes.walk in
     let all = members_under [] c.args.db.now in
     let empty : w.stack.items ≡ [] = subst (λ at. IfNone at (w.stack.items ≡ [])) c.in_default.is c.nodes.invariant.end in
-    let rest = own_of w.path.items w.at ++ rest_of w in
+    let rest = own_of (path_of w.trail) w.at ++ rest_of w in
     let none : rest ≡ [] = walk_ended w c.in_default.is empty in
     let files = c.in_ok-count_different.ensures ∙ ap different (all_taken (λ f. f.path) _ rest all none c.nodes.invariant.files) in
     let keys_are = all_taken (λ f. f.position.key) _ rest all none c.nodes.invariant.keys in

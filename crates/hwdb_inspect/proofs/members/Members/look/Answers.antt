@@ -4,6 +4,7 @@ use Rattle.hwdb_reader.specs.Unread.{text_of, value_in}
 use Rattle.hwdb_reader.specs.Views.{entered_tree, shown}
 use Rattle.hwdb_query.specs.Internal.Members.{own_members}
 use Rattle.hwdb_query.specs.Lemmas.Parts.{own_next, shown_none}
+use Rattle.hwdb_inspect.specs.Internal.Trails.{path_of}
 use Rattle.hwdb_inspect.proofs.MeetingLemmas.{found_here, no_key}
 use Rattle.hwdb_inspect.proofs.members.Members.look.Goals as goal
 
@@ -15,7 +16,7 @@ returns-then-has_key-clause-rest c =
 pub loop-i-preserved : goal.loop-i-preserved
 loop-i-preserved c =
     let values = values_of (entered_tree c.args.inside) in
-    let p = c.args.self.now.walk.path.items in
+    let p = path_of c.args.self.now.walk.trail in
     let s = shown (value_in c.unread-entry.result) in
     let none = shown_none p s (no_key (text_of c.unread-entry.result.key) (sym c.if-has_key.false ∙ c.has_key.ensures)) in
     rw add-one (record {

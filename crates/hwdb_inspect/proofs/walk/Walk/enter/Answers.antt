@@ -9,10 +9,10 @@ use Rattle.hwdb_inspect.proofs.walk.Walk.enter.Goals as goal
 pub returns-clause-stack : goal.returns-clause-stack
 returns-clause-stack c = inl (record {
   top = _;
-  stands = c.in_ok-push.ensures.items ∙ ap (λ (l : List OpenVisit). l ++ record { inside = c.enter-inside.result; done = 0; length = c.len-length.result } ∷ []) c.reserve.ensures.items;
+  stands = c.in_ok-push-2.ensures.items ∙ ap (λ (l : List OpenVisit). l ++ record { inside = c.enter-inside.result; done = 0; length = c.len-length.result } ∷ []) c.reserve.ensures.items;
   tree = c.enter-inside.ensures.same;
   none_done = refl;
-  reach = let read = c.len-length.ensures in let size = c.extend_from_slice.new.self.ok in omega (arith, read, size);
+  reach = let read = c.len-length.ensures in let size = c.push.new.self.segments.ok in omega (arith, read, size);
 })
 
 pub returns-then-children-eq0-clause-stack : goal.returns-then-children-eq0-clause-stack
@@ -24,7 +24,7 @@ returns-then-children-eq0-clause-stack c =
 pub returns-clause-files : goal.returns-clause-files
 returns-clause-files c f is all =
     let top : OpenVisit = record { inside = c.enter-inside.result; done = 0; length = c.len-length.result } in
-    subst (All (IsOpenIn f)) (sym (c.in_ok-push.ensures.items ∙ ap (λ (l : List OpenVisit). l ++ top ∷ []) c.reserve.ensures.items))
+    subst (All (IsOpenIn f)) (sym (c.in_ok-push-2.ensures.items ∙ ap (λ (l : List OpenVisit). l ++ top ∷ []) c.reserve.ensures.items))
     (All-push (IsOpenIn f) _ top all (c.enter-inside.ensures.file ∙ is))
 
 pub returns-then-children-eq0-clause-files : goal.returns-then-children-eq0-clause-files

@@ -1,0 +1,11 @@
+use Rattle.std.proofs.Common.{◌<◌, arith, length}
+use Rattle.hwdb_inspect.proofs.SpellingLemmas.{cut_spelling}
+use Rattle.hwdb_inspect.proofs.spelling.Spelling.cut.Goals as goal
+
+pub returns-clause-spelling : goal.returns-clause-spelling
+returns-clause-spelling c way is =
+    let read = c.len.ensures in
+    let ok = c.args.self.now.froms.ok in
+    let less = c.if-count-len.false in
+    let few : c.args.count < length c.args.self.now.froms.items = omega (arith, read, ok, less) in
+    cut_spelling way c.args.self.now _ c.args.count c.index-from.result.now few c.index-from.ensures c.truncate-2.ensures.items c.truncate.ensures.items is
