@@ -55,7 +55,7 @@ impl<'t> Interner<'t> {
     {
         let known: &[KeyedStr<'_>] = &self.words;
         let at = number as usize;
-        if at < known.len() && known[at] == *word {
+        if at < known.len() && known[at].is(word) {
             return true;
         }
         false

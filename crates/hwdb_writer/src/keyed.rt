@@ -4,6 +4,7 @@
 //! Most comparisons of a sort are decided by that number, without a look at the text, which is elsewhere in memory. A
 //! key is stored with a space before it. It is kept as the text and a mark, so that no copy with a space is made.
 ghost use Rattle.std.specs.Prelude.{◌≡◌, ◌∷◌, ◌++◌, ◌-◌, ◌^◌, ◌<◌, List, ℕ, Some, get_or, OnOk, length, min, nat_eq, refl};
+ghost use Rattle.std.specs.Bool.{OnTrue};
 ghost use Rattle.std.specs.Ordering.{nat_cmp, on};
 ghost use Rattle.std.specs.Cmp.{on_equiv, on_po, on_total, partial_equiv_from_equiv};
 ghost use Rattle.std.specs.Cmp.Lexicographic.{slice_cmp, pointwise, nat_list_eq_equiv, nat_list_cmp_total, texts_po, texts_ties};
@@ -102,6 +103,17 @@ impl<'t> KeyedStr<'t> {
             number,
             text: self.text,
         }
+    }
+
+    /// Whether it is that string, whatever their numbers are.
+    #[inline(always)]
+    pub fn is(&self, other: &KeyedStr<'_>) -> bool
+        ensures { OnTrue result (self.now.word ≡ other.now.word) }
+    {
+        if self.head == other.head && self == other {
+            return true;
+        }
+        false
     }
 
     /// Its number among strings.
