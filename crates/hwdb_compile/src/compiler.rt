@@ -6,6 +6,7 @@
 //! once.
 ghost use Rattle.std.specs.Prelude.{◌≡◌, ◌≤◌, ◌++◌, ℕ, List, map, length, All, IfOk, IfErr, OnOk, flat_map};
 ghost use Rattle.hwdb_spec.specs.Progress.{within_64_bits};
+ghost use Rattle.hwdb_spec.specs.Format.{IsDatabase};
 ghost use Rattle.hwdb_spec.specs.Written.{IsDatabaseOf, IsWritten};
 ghost use Rattle.hwdb_spec.specs.Assignment.{Assignment};
 ghost use Rattle.hwdb_text.specs.Views.{origin};
@@ -16,7 +17,7 @@ ghost use Rattle.hwdb_text.specs.Views.{IsStorableChoice};
 ghost use Rattle.hwdb_compile.specs.Views.{FewLines, ForFolders, bytes_in, choice_in};
 ghost use Rattle.hwdb_compile.specs.Views.{sources, fault_of};
 ghost use Rattle.hwdb_spec.specs.CompileErrors.{IsRefusal};
-ghost use Rattle.hwdb_spec.specs.Tree.{surviving, map_of_files};
+ghost use Rattle.hwdb_spec.specs.Tree.{Tree, surviving, map_of_files};
 ghost use Rattle.hwdb_query.specs.Laws.{AnswersAreLast};
 ghost use Rattle.hwdb_compile.specs.Internal.Reading.{path_in, assignments_in, faults_in, IsPuttable, TakesUp, IsFileRefusal, IsFilesRefusal};
 
@@ -165,6 +166,8 @@ pub fn compile_chosen(
         (λ etc usr. IsWritten (map_of_files etc usr) c.database.items)) }
     ensures checked { IfOk result (λ c. ForFolders files.now
         (λ etc usr. IsDatabaseOf (map_of_files etc usr) c.database.items)) }
+    // Whoever reads it need not check it.
+    ensures sound { IfOk result (λ c. (t : Tree) × IsDatabase c.database.items t) }
     ensures headline { IfOk result (λ c. ForFolders files.now
         (λ etc usr. AnswersAreLast etc usr c.database.items)) }
     ensures within { IfOk result (λ c. length c.database.items ≤ max_bytes) }

@@ -11,7 +11,7 @@ use Rattle.hwdb_spec.specs.Tree.{Tree, Value, key_of, values_of}
 use Rattle.hwdb_reader.specs.Views.{entered_tree, shown}
 use Rattle.hwdb_reader.specs.declared.view.Inside.{Inside}
 use Rattle.hwdb_query.specs.Internal.Members.{own_members}
-use Rattle.hwdb_inspect.proofs.PartLemmas.{own_next, shown_some}
+use Rattle.hwdb_query.specs.Lemmas.Parts.{own_next, shown_some}
 use Rattle.hwdb_inspect.specs.Internal.Merging.{by_place, merged, merged_from}
 use Rattle.hwdb_inspect.specs.Internal.Meeting.{IsMet, IsNext, IsUnderWay, after_next, head_of, left_of, unread_of, old_by, unlooked}
 use Rattle.hwdb_inspect.specs.Internal.Trails.{path_of}

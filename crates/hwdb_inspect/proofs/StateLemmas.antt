@@ -1,5 +1,5 @@
 -- Bytes that are compared.
-use Rattle.std.proofs.Common.{◌≡◌, ◌≢◌, ◌∙◌, ap, sym, false, true, true≢false, List, ℕ}
+use Rattle.std.proofs.Common.{◌≡◌, ◌≢◌, ◌∙◌, ap, sym, false, true≢false, List, ℕ}
 use Rattle.hwdb_spec.specs.Folders.{same}
 use Rattle.hwdb_spec.specs.Lemmas.Orders.{same_itself}
 

@@ -2,7 +2,8 @@
 ghost use Rattle.std.specs.Prelude.{◌≡◌, ◌<◌, ◌+◌, ◌++◌, ◌^◌, ℕ, List, [], Some, false, length, map, option_map, IfOk, OnOk};
 ghost use Rattle.hwdb_spec.specs.Differences.{differences};
 ghost use Rattle.hwdb_spec.specs.Folders.{same};
-ghost use Rattle.hwdb_spec.specs.Tree.{IsTree, Map, map_of, members_under};
+ghost use Rattle.hwdb_spec.specs.Format.{IsDatabase};
+ghost use Rattle.hwdb_spec.specs.Tree.{IsTree, Map, Tree, map_of, members_under};
 ghost use Rattle.hwdb_spec.specs.Written.{IsDatabaseOf};
 ghost use Rattle.hwdb_spec.specs.Status;
 ghost use Rattle.hwdb_spec.specs.Status.{IsAmount, IsState, IsStateOf, stale_by};
@@ -14,12 +15,12 @@ ghost use Rattle.hwdb_inspect.specs.Internal.Counting.{IsHeldFrom, files_in, fir
 ghost use Rattle.hwdb_inspect.specs.Internal.Meeting.{AreFrom, changes_at, old_by};
 
 use crate::abreast::Abreast;
-use crate::amounts::{Amount, amount_in, amount_of};
+use crate::amounts::{Amount, amount_of};
 use crate::inventory::Inventory;
 use crate::meeting::{Side, is_change, least, pass_over, tell};
 use crate::members::Members;
 use crate::texts::is_same;
-use hwdb_reader::{Db, Node, Twins, check, law_ascending, law_one_tree};
+use hwdb_reader::{Db, Node, Twins, check, law_ascending, reopen};
 use std::alloc::{AllocError, Global};
 
 /// The state of the database that is asked.
@@ -151,32 +152,25 @@ fn compared(alloc: Global, size: usize, old: &Db<'_>, new: &Db<'_>) -> Result<St
     walked(alloc, size, old.root(), new.root())
 }
 
-/// How a database of so many bytes is beside the bytes of another one.
+/// How a database of so many bytes is beside the bytes of another one, which is a database.
 fn stale(alloc: Global, size: usize, old: &Db<'_>, made: &[u8]) -> Result<Standing, AllocError>
     requires tree { IsTree old.now }
     requires few { length (members_under [] old.now) + length (members_under [] old.now) < size }
+    requires made { (t : Tree) × IsDatabase made.now t }
     ensures state { IfOk result (λ s. (m : Map) → IsDatabaseOf m made.now
         → state_shown s.state ≡ stale_by (differences (map_of old.now) m)) }
     ensures holds { IfOk result (λ s. option_map amount_shown s.holds
         ≡ Some (Status.amount_of (summary_of size old.now))) }
 {
-    law_one_tree();
     law_ascending();
-    match check(made) {
-        Ok(new) => compared(alloc, size, old, &new),
-        Err(_) => {
-            let amount = amount_in(alloc, size, old)?;
-            Ok(Standing {
-                state: State::Broken,
-                holds: Some(amount),
-            })
-        }
-    }
+    let new = reopen(made);
+    compared(alloc, size, old, &new)
 }
 
 /// How bytes are that aren't those that were made.
 fn standing_of_others(alloc: Global, bytes: &[u8], made: &[u8]) -> Result<Standing, AllocError>
-    requires { same bytes.now made.now ≡ false }
+    requires other { same bytes.now made.now ≡ false }
+    requires made { (t : Tree) × IsDatabase made.now t }
     ensures state { IfOk result (λ s. (m : Map) → IsDatabaseOf m made.now
         → IsStateOf made.now m bytes.now (state_shown s.state)) }
     ensures holds { IfOk result (λ s. IsAmount (Some bytes.now) (option_map amount_shown s.holds)) }
@@ -205,6 +199,7 @@ fn fresh(alloc: Global, bytes: &[u8]) -> Result<Standing, AllocError>
 
 /// How some bytes are beside those that were made.
 fn standing_of_bytes(alloc: Global, bytes: &[u8], made: &[u8]) -> Result<Standing, AllocError>
+    requires { (t : Tree) × IsDatabase made.now t }
     ensures state { IfOk result (λ s. (m : Map) → IsDatabaseOf m made.now
         → IsStateOf made.now m bytes.now (state_shown s.state)) }
     ensures holds { IfOk result (λ s. IsAmount (Some bytes.now) (option_map amount_shown s.holds)) }
@@ -216,10 +211,11 @@ fn standing_of_bytes(alloc: Global, bytes: &[u8], made: &[u8]) -> Result<Standin
     }
 }
 
-/// How the database that is asked is, if there is one, beside the bytes that the text files make, and how much is in it.
+/// How the database that is asked is, if there is one, beside the one that the text files make, and how much is in it.
 ///
-/// Bytes that are the same are checked, and walked once. Else both are checked, and walked side by side.
+/// The bytes that were asked are checked, those that were made aren't. If both are the same, they are walked once, else side by side.
 pub fn standing_of(alloc: Global, asked: Option<&[u8]>, made: &[u8]) -> Result<Standing, AllocError>
+    requires { (t : Tree) × IsDatabase made.now t }
     ensures state { IfOk result (λ s. (m : Map) → IsDatabaseOf m made.now
         → IsState made.now m (option_map (λ b. b.now) asked.entry) (state_shown s.state)) }
     ensures holds { IfOk result (λ s. IsAmount (option_map (λ b. b.now) asked.entry)

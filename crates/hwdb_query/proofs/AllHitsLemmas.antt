@@ -17,7 +17,7 @@ use Rattle.hwdb_query.specs.declared.all_hits.AllHits.{AllHits}
 use Rattle.hwdb_query.specs.declared.all_hits.HitValue.{HitValue}
 use Rattle.hwdb_query.proofs.MemberLemmas.{put_sound, members_single, filter_sound, in_none}
 use Rattle.hwdb_query.proofs.DistinctLemmas.{under_distinct}
-use Rattle.hwdb_query.proofs.PartLemmas.{own_next, own_behind}
+use Rattle.hwdb_query.specs.Lemmas.Parts.{own_next, own_after}
 use Rattle.hwdb_spec.specs.Lemmas.Orders.{equal_text, then_equal}
 
 -- ---- one after another
@@ -41,7 +41,7 @@ all_values_next a b c pattern values i s at here rest =
     subst (λ xs. AllCollects a xs c) (sym (own_next pattern values i s at)) (all_more a b c (assignment_shown pattern s) (own_members pattern (drop (suc i) values)) here rest)
 
 pub all_values_over : (a : AllHits) (pattern : List ℕ) (values : List Value) (i : ℕ) → length values ≤ i → AllCollects a (own_members pattern (drop i values)) a
-all_values_over a pattern values i le = subst (λ xs. AllCollects a xs a) (sym (own_behind pattern values i le)) (all_none a)
+all_values_over a pattern values i le = subst (λ xs. AllCollects a xs a) (sym (own_after pattern values i le)) (all_none a)
 
 pub all_offered_none : (a : AllHits) (pattern : List ℕ) (s : Shown) → s.key ≡ None → AllCollects a (assignment_shown pattern s) a
 unfolding assignment_shown

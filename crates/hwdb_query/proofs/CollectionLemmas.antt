@@ -18,7 +18,8 @@ use Rattle.hwdb_query.specs.declared.answer.StoredAssignment.{StoredAssignment}
 use Rattle.hwdb_query.specs.Views.{assignment_of_answer}
 use Rattle.hwdb_query.specs.declared.last_hits.LastHits.{LastHits}
 use Rattle.hwdb_query.proofs.PutLemmas.{keep_all_append, ascends_put, ascends_all, filter_in, filter_out}
-use Rattle.hwdb_query.proofs.PartLemmas.{own_next, own_one, own_behind}
+use Rattle.hwdb_query.proofs.PartLemmas.{own_one}
+use Rattle.hwdb_query.specs.Lemmas.Parts.{own_next, own_after}
 use Rattle.hwdb_query.proofs.StepLemmas.{keep_none, offered_some, offered_early}
 use Rattle.hwdb_spec.specs.Lemmas.Places.{assignment_total, position_total}
 
@@ -98,10 +99,10 @@ last_values_next a b c pattern values i s at here rest =
     subst (λ xs. LastCollects a xs c) (sym (own_next pattern values i s at)) (last_more a b c (assignment_shown pattern s) (own_members pattern (drop (suc i) values)) here rest)
 
 pub last_values_over : (a : LastHits) (pattern : List ℕ) (values : List Value) (i : ℕ) → length values ≤ i → LastCollects a (own_members pattern (drop i values)) a
-last_values_over a pattern values i le = subst (λ xs. LastCollects a xs a) (sym (own_behind pattern values i le)) (last_none a)
+last_values_over a pattern values i le = subst (λ xs. LastCollects a xs a) (sym (own_after pattern values i le)) (last_none a)
 
 pub page_values_over : (a : NextPage) (pattern : List ℕ) (values : List Value) (i : ℕ) → length values ≤ i → PageCollects a (own_members pattern (drop i values)) a
-page_values_over a pattern values i le = subst (λ xs. PageCollects a xs a) (sym (own_behind pattern values i le)) (page_none a)
+page_values_over a pattern values i le = subst (λ xs. PageCollects a xs a) (sym (own_after pattern values i le)) (page_none a)
 
 -- one value is offered
 pub last_offered_none : (a : LastHits) (pattern : List ℕ) (s : Shown) → s.key ≡ None → LastCollects a (assignment_shown pattern s) a

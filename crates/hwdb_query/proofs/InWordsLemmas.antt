@@ -14,7 +14,7 @@ use Rattle.hwdb_query.specs.Laws.{Among, LastAssignmentsAreLast, OneListIsLast}
 use Rattle.hwdb_query.proofs.PutLemmas.{ascends_all, ascends_filter}
 use Rattle.hwdb_query.proofs.MemberLemmas.{all_sound, all_has, filter_sound, filter_complete, none_ascends, in_none}
 use Rattle.hwdb_query.proofs.LastLemmas.{kept_behind, single_place, same_ascending}
-use Rattle.hwdb_spec.specs.Lemmas.Orders.{equal_text, less_of}
+use Rattle.hwdb_spec.specs.Lemmas.Orders.{less_of}
 use Rattle.hwdb_spec.specs.Lemmas.Places.{assignment_total, one_place, place_same}
 
 -- a member, by recursion and by its place

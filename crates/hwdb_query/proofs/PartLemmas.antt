@@ -1,5 +1,5 @@
 -- The assignments and live nodes of a tree, by the parts of its root.
-use Rattle.std.proofs.Common.{◌≡◌, ◌∙◌, ap, sym, refl, ℕ, zero, suc, ◌+◌, ◌≤◌, true, false, List, [], ◌∷◌, ◌++◌, take, drop, filter, length, arith, append_assoc, Option, Some, None, slice_get, option_map, if◌then◌else◌}
+use Rattle.std.proofs.Common.{◌≡◌, ◌∙◌, ap, sym, refl, ℕ, zero, suc, ◌+◌, true, false, List, [], ◌∷◌, ◌++◌, take, drop, filter, append_assoc, Option, Some, None, slice_get, option_map, if◌then◌else◌}
 use Rattle.std.proofs.lemmas.List.{append-nil}
 use Rattle.std.proofs.lemmas.List.Elements.{filter-append}
 use Rattle.hwdb_spec.specs.Tree.{Tree, Children, Value, prefix_of, is_live, live_under, live_below}
@@ -35,22 +35,6 @@ own_unwanted device pattern (v ∷ values) h =
     ∙ ap (λ r. r ++ filter (is_wanted device) (own_members pattern values)) (one_unwanted device pattern (shown v) (shown v).key h)
     ∙ own_unwanted device pattern values h
 
--- the value at a place, and those after it
-pub own_next : (pattern : List ℕ) (values : List Value) (i : ℕ) (s : Shown) → option_map shown (slice_get values i) ≡ Some s
-    → own_members pattern (drop i values) ≡ assignment_shown pattern s ++ own_members pattern (drop (suc i) values)
-own_next pattern [] i s h = absurd (cc)
-own_next pattern (v ∷ values) zero s h = let e : shown v ≡ s = cc in ap (λ q. assignment_shown pattern q ++ own_members pattern values) e
-own_next pattern (v ∷ values) (suc i) s h = own_next pattern values i s h
-
--- what a value with no key assigns, and one with a key
-pub shown_none : (pattern : List ℕ) (s : Shown) → s.key ≡ None → assignment_shown pattern s ≡ []
-unfolding assignment_shown
-shown_none pattern s e = ap (λ o. one_assignment pattern s o) e
-
-pub shown_some : (pattern key : List ℕ) (s : Shown) → s.key ≡ Some key → assignment_shown pattern s ≡ one_assignment pattern s (Some key)
-unfolding assignment_shown
-shown_some pattern key s e = ap (λ o. one_assignment pattern s o) e
-
 -- what one value assigns, and what those after it assign
 pub own_split : (pattern : List ℕ) (values : List Value) (i : ℕ) → own_members pattern (drop i values) ≡ own_members pattern (take 1 (drop i values)) ++ own_members pattern (drop (suc i) values)
 own_split pattern [] zero = refl
@@ -71,12 +55,6 @@ pub own_one : (pattern : List ℕ) (values : List Value) (i : ℕ) (s : Shown) �
 own_one pattern [] i s h = absurd (cc)
 own_one pattern (v ∷ values) zero s h = let e : shown v ≡ s = cc in append-nil (assignment_shown pattern (shown v)) ∙ ap (assignment_shown pattern) e
 own_one pattern (v ∷ values) (suc i) s h = own_one pattern values i s h
-
-pub own_behind : (pattern : List ℕ) (values : List Value) (i : ℕ) → length values ≤ i → own_members pattern (drop i values) ≡ []
-own_behind pattern [] zero h = refl
-own_behind pattern [] (suc i) h = refl
-own_behind pattern (v ∷ values) zero h = absurd (omega arith)
-own_behind pattern (v ∷ values) (suc i) h = own_behind pattern values i (omega arith)
 
 live_listed : (device path : List ℕ) (ks : Children) → live_below device path ks ≡ live_in device path (list_of ks)
 unfolding live_below list_of

@@ -15,7 +15,7 @@ use Rattle.hwdb_tool.specs.Internal.{AreReadOf}
 use Rattle.hwdb_spec.specs.Reading.{IsText}
 use Rattle.hwdb_spec.specs.Texts.{max_file}
 use Rattle.hwdb_spec.specs.Readable.{AreAllRead}
-use Rattle.hwdb_spec.specs.Lemmas.Orders.{equal_of, same_itself, same_text}
+use Rattle.hwdb_spec.specs.Lemmas.Orders.{same_itself, same_text}
 
 -- what an option holds, or nothing
 abbrev value : Option (List ℕ) → List ℕ

@@ -31,8 +31,8 @@ use Rattle.hwdb_spec.specs.Tree.{Map, Tree, map_of, map_of_files}
 use Rattle.hwdb_spec.specs.Written.{IsDatabaseOf, IsWritten}
 use Rattle.hwdb_tool.specs.Internal.{AreReadOf}
 use Rattle.hwdb_tool.specs.OneOutcome.{IsOneReading, ListingsGiveOneReading}
-use Rattle.hwdb_spec.specs.StatusErrors.{AreNotMade, IsNotBeside, IsNotCompiled}
-use Rattle.hwdb_tool.specs.Statuses.{AreIgnored, AreMadeOf, IsOneUnread, IsReported}
+use Rattle.hwdb_spec.specs.StatusErrors.{AreNotMade, IsNotBeside, IsNotCompiled, IsStatusRefused}
+use Rattle.hwdb_tool.specs.Statuses.{AreIgnored, AreMadeOf, IsNotMadeNow, IsOneUnread, IsReported}
 use Rattle.hwdb_tool.specs.Views.{texts_in}
 use Rattle.hwdb_tool.specs.declared.answer.Answer.{Answer}
 use Rattle.hwdb_tool.proofs.OutcomeLemmas.{one_map}
@@ -198,6 +198,11 @@ module _ (root : List ℕ) (contents : Contents) (listed : List (List ℕ)) (fil
     read = all;
     refused = refused read.of_etc read.of_usr read.are;
   }
+
+-- the text files give none
+pub not_made_now : (root : List ℕ) (contents : Contents) (refusal : Refusal) → IsNotMadeNow root contents refusal → IsStatusRefused root contents refusal
+not_made_now root contents refusal (inl unread) = inl unread
+not_made_now root contents refusal (inr not_made) = inr (inl not_made)
 
 -- want of memory, while the asked database is read
 pub asked_memory : (root : List ℕ) (contents : Contents) → IsOneUnread root contents (Plain Memory)

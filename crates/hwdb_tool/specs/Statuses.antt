@@ -1,15 +1,20 @@
 -- What the steps of `status` hold.
-use Rattle.std.specs.Prelude.{◌++◌, ◌≡◌, ◌≤◌, ◌⊎◌, [], Bool, IfSome, List, Option, codes, false, if◌then◌else◌, length, true, ℕ}
+use Rattle.std.specs.Prelude.{◌++◌, ◌≡◌, ◌≤◌, ◌⊎◌, [], Bool, IfSome, List, Option, codes, false, if◌then◌else◌, length, map, true, ℕ}
+use Rattle.hwdb_compile.specs.Views.{ForFolders, choice_in}
+use Rattle.hwdb_compile.specs.declared.sources.ChosenFile.{ChosenFile}
 use Rattle.hwdb_spec.specs.Folders.{AreAccepted, Source}
 use Rattle.hwdb_spec.specs.Ignored.{AreIgnoredIn}
-use Rattle.hwdb_spec.specs.Status.{Amount, IsAmount, IsState, Report, State, has_database, hidden_database, ignored_paths, report_form, report_of, status_of}
-use Rattle.hwdb_spec.specs.StatusErrors.{IsAskedUnread, IsHiddenUnread}
+use Rattle.hwdb_spec.specs.Readable.{AreAllRead}
+use Rattle.hwdb_spec.specs.Reading.{AreUnread}
+use Rattle.hwdb_spec.specs.Status.{Amount, IsAmount, IsState, Report, State, has_database, hidden_database, ignored_paths, masked_paths, report_form, report_of, status_of}
+use Rattle.hwdb_spec.specs.StatusErrors.{AreNotMade, IsAskedUnread, IsHiddenUnread}
 use Rattle.hwdb_spec.specs.Store.{Contents}
 use Rattle.hwdb_spec.specs.System.{asked_database, etc_files, usr_files}
 use Rattle.hwdb_spec.specs.Texts.{max_file}
 use Rattle.hwdb_spec.specs.Tree.{Map, map_of_files}
 use Rattle.hwdb_spec.specs.Written.{IsDatabaseOf, IsWritten}
 use Rattle.hwdb_spec.specs.declared.refusals.Refusal.{Refusal}
+use Rattle.hwdb_tool.specs.Internal.{AreReadOf}
 use Rattle.hwdb_tool.specs.declared.answer.Answer.{Answer}
 
 -- the bytes are what `update` would write of these files
@@ -50,3 +55,17 @@ pub record IsReported (root : List ℕ) (json quiet : Bool) (contents : Contents
   pub of : report ≡ report_of root (has_database false root contents) (has_database true root contents) holds hidden masked ignored state
   pub is : a.out.items ≡ report_form json quiet report
   pub says : a.status ≡ status_of report
+
+-- the bytes are what the text files of both folders make, of which these are masked and ignored
+pub record IsMadeNow (root : List ℕ) (contents : Contents) (made : List ℕ) (masked ignored : List (List ℕ)) : Type 0 where
+  pub listed : List (List ℕ)
+  pub files : List ChosenFile
+  pub read : AreReadOf root contents listed files
+  pub all : AreAllRead root contents
+  pub is : ForFolders files (λ etc usr. AreMadeOf etc usr made)
+  pub masks : masked ≡ masked_paths listed (map choice_in files)
+  pub others : AreIgnored root contents ignored
+
+-- the text files of both folders can't be read, or not compiled
+abbrev pub IsNotMadeNow : (root : List ℕ) → Contents → Refusal → Type 0
+IsNotMadeNow root contents refusal = AreUnread root contents refusal ⊎ AreNotMade root contents refusal

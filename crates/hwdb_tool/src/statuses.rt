@@ -2,6 +2,7 @@
 ghost use Rattle.std.specs.Prelude.{◌≡◌, ◌≤◌, ◌++◌, ℕ, List, All, None, Some, codes, false, length, map, option_map, string_bytes, true, IfErr, IfOk, IfSome, OnOk};
 ghost use Rattle.hwdb_compile.specs.Views.{ForFolders, choice_in};
 ghost use Rattle.hwdb_fs.specs.Internal.{IsNameSet};
+ghost use Rattle.hwdb_spec.specs.Format.{IsDatabase};
 ghost use Rattle.hwdb_spec.specs.Refusals.{HasReason, IsUnreadAt};
 ghost use Rattle.hwdb_spec.specs.Status;
 ghost use Rattle.hwdb_spec.specs.Assignment.{ascending};
@@ -13,11 +14,11 @@ ghost use Rattle.hwdb_spec.specs.Runs.{OnOut};
 ghost use Rattle.hwdb_spec.specs.System as Folder;
 ghost use Rattle.hwdb_spec.specs.System.{bytes_at};
 ghost use Rattle.hwdb_spec.specs.Texts.{max_file};
-ghost use Rattle.hwdb_spec.specs.Tree.{Map};
+ghost use Rattle.hwdb_spec.specs.Tree.{Map, Tree};
 ghost use Rattle.hwdb_spec.specs.Written.{IsDatabaseOf};
 ghost use Rattle.hwdb_text.specs.Views.{IsStorableChoice, choice_of};
 ghost use Rattle.hwdb_spec.specs.StatusErrors.{IsNotCompiled, IsStatusRefused};
-ghost use Rattle.hwdb_tool.specs.Statuses.{AreIgnored, AreMadeOf, IsOneUnread, IsReported, ignored_path};
+ghost use Rattle.hwdb_tool.specs.Statuses.{AreIgnored, AreMadeOf, IsMadeNow, IsNotMadeNow, IsOneUnread, IsReported, ignored_path};
 ghost use Rattle.hwdb_tool.specs.Views.{texts_in};
 ghost use Rattle.hwdb_spec.specs.declared.errors.ToolError.{ToolError};
 ghost use Rattle.hwdb_spec.specs.declared.refusals.Refusal.TheVariants.{Plain};
@@ -51,6 +52,13 @@ struct UnreadFiles {
     masked: Vec<Vec<u8>>,
     /// Of files that are none, by their names.
     ignored: Vec<Vec<u8>>,
+}
+
+/// What the text files make, and which of them aren't read.
+#[derive(Drop)]
+struct MadeNow {
+    database: Vec<u8>,
+    unread: UnreadFiles,
 }
 
 /// The path of a text file of /usr/lib.
@@ -154,6 +162,7 @@ pub fn compiled(alloc: Global, files: &[ChosenFile<'_>]) -> Result<Compiled, Ref
     requires { All IsStorableChoice (map choice_in files.now) }
     ensures made { IfOk result
         (λ c. ForFolders files.now (λ etc usr. AreMadeOf etc usr c.database.items)) }
+    ensures sound { IfOk result (λ c. (t : Tree) × IsDatabase c.database.items t) }
     ensures refused { IfErr result
         (λ r. ForFolders files.now (λ etc usr. IsNotCompiled etc usr r)) }
     ensures plain { IfErr result (λ r. (error : ToolError) × (r ≡ Plain error)) }
@@ -416,6 +425,7 @@ fn reported<D: System>(
     unread: UnreadFiles,
     system: &D,
 ) -> Result<Answer, Refusal>
+    requires { (t : Tree) × IsDatabase made.now t }
     ensures reported { D.Store.tells → IfOk result (λ a. (m : Map) → IsDatabaseOf m made.now
         → IsReported root.now json quiet (D.Store.seen system.now) made.now m
         (map (λ p. p.items) unread.masked.items) (map (λ p. p.items) unread.ignored.items) a) }
@@ -430,6 +440,29 @@ fn reported<D: System>(
     let report = report_of(alloc, root, asked.etc, asked.usr, standing, hidden, unread)?;
     let text = report_in(alloc, &report, json, quiet)?;
     Ok(Answer::new(alloc, text, report.status()))
+}
+
+/// What the text files of both folders make now. Their texts are let go of, so that their memory is there for what is read next.
+fn made_now<D: TextFolders>(alloc: Global, root: &str, system: &D) -> Result<MadeNow, Refusal>
+    ensures made { D.Store.tells → IfOk result (λ now. IsMadeNow
+        root.now (D.Store.seen system.now) now.database.items
+        (map (λ p. p.items) now.unread.masked.items)
+        (map (λ p. p.items) now.unread.ignored.items)) }
+    ensures sound { IfOk result (λ now. (t : Tree) × IsDatabase now.database.items t) }
+    ensures refused { D.Store.tells
+        → IfErr result (IsNotMadeNow root.now (D.Store.seen system.now)) }
+    ensures reason { D.Store.tells → IfErr result
+        (HasReason (D.System.may_fail system.now) ⊥ (D.Store.seen system.now)) }
+{
+    let selection = selected(alloc, root, system)?;
+    let ignored = ignored_paths(alloc, root, system)?;
+    let files = with_texts(alloc, &selection.chosen, &selection.texts)?;
+    let made = compiled(alloc, &files)?;
+    let masked = masked_paths(alloc, &files, &selection.listed)?;
+    Ok(MadeNow {
+        database: made.database,
+        unread: UnreadFiles { masked, ignored },
+    })
 }
 
 /// Which database is asked, which one it hides, how much is in each, and which text files are masked or ignored: as lines, or with
@@ -452,11 +485,6 @@ pub fn status<D: TextFolders>(
     ensures reason { D.Store.tells → IfErr result
         (HasReason (D.System.may_fail system.now) ⊥ (D.Store.seen system.now)) }
 {
-    let selection = selected(alloc, root, system)?;
-    let ignored = ignored_paths(alloc, root, system)?;
-    let files = with_texts(alloc, &selection.chosen, &selection.texts)?;
-    let made = compiled(alloc, &files)?;
-    let masked = masked_paths(alloc, &files, &selection.listed)?;
-    let unread = UnreadFiles { masked, ignored };
-    reported(alloc, root, json, quiet, &made.database, unread, system)
+    let MadeNow { database, unread } = made_now(alloc, root, system)?;
+    reported(alloc, root, json, quiet, &database, unread, system)
 }

@@ -1,10 +1,10 @@
 -- A tree by the parts of its root: what it assigns, and how many nodes it has.
-use Rattle.std.proofs.Common.{◌≡◌, ◌∙◌, ap, refl, ℕ, zero, suc, ◌+◌, ◌≤◌, List, [], ◌∷◌, ◌++◌, drop, map, length, arith, Option, Some, None, slice_get}
+use Rattle.std.proofs.Common.{◌≡◌, ◌∙◌, ap, refl, ℕ, zero, suc, ◌+◌, ◌≤◌, List, [], ◌∷◌, ◌++◌, drop, map, length, arith, Option, Some, None, option_map, slice_get}
 use Rattle.std.specs.Prelude.{flat_map}
 use Rattle.std.proofs.lemmas.Grind.{flat_map-append}
 use Rattle.hwdb_spec.specs.Tree.{Tree, Children, Value, prefix_of, values_under, values_below, key_of, assigned_at, members_under, values_of}
 use Rattle.hwdb_query.specs.Internal.Members.{assignment_of, one_assignment, assignment_shown, members_in, own_members}
-use Rattle.hwdb_reader.specs.Views.{children_of, list_of, node_count, nodes_below, shown}
+use Rattle.hwdb_reader.specs.Views.{Shown, children_of, list_of, node_count, nodes_below, shown}
 use Rattle.hwdb_spec.specs.Tree.Tree.{Node}
 use Rattle.hwdb_spec.specs.Tree.Children.{NoMore, Child}
 use Rattle.hwdb_query.specs.Internal.Live.{nodes_in}
@@ -54,3 +54,26 @@ nodes_listed (Child byte tree more) = ap (λ n. node_count tree + n) (nodes_list
 pub node_and_below : (t : Tree) → node_count t ≡ 1 + nodes_in (children_of t)
 unfolding node_count children_of
 node_and_below (Node prefix values children) = ap (λ n. 1 + n) (nodes_listed children)
+
+-- the value at a place, and those after it
+pub own_next : (pattern : List ℕ) (values : List Value) (i : ℕ) (s : Shown) → option_map shown (slice_get values i) ≡ Some s
+    → own_members pattern (drop i values) ≡ assignment_shown pattern s ++ own_members pattern (drop (suc i) values)
+own_next pattern [] i s h = absurd (cc)
+own_next pattern (v ∷ values) zero s h = let e : shown v ≡ s = cc in ap (λ q. assignment_shown pattern q ++ own_members pattern values) e
+own_next pattern (v ∷ values) (suc i) s h = own_next pattern values i s h
+
+-- what a value with no key assigns, and one with a key
+pub shown_none : (pattern : List ℕ) (s : Shown) → s.key ≡ None → assignment_shown pattern s ≡ []
+unfolding assignment_shown
+shown_none pattern s e = ap (λ o. one_assignment pattern s o) e
+
+pub shown_some : (pattern key : List ℕ) (s : Shown) → s.key ≡ Some key → assignment_shown pattern s ≡ one_assignment pattern s (Some key)
+unfolding assignment_shown
+shown_some pattern key s e = ap (λ o. one_assignment pattern s o) e
+
+-- none after the last
+pub own_after : (pattern : List ℕ) (values : List Value) (i : ℕ) → length values ≤ i → own_members pattern (drop i values) ≡ []
+own_after pattern [] zero h = refl
+own_after pattern [] (suc i) h = refl
+own_after pattern (v ∷ values) zero h = absurd (omega arith)
+own_after pattern (v ∷ values) (suc i) h = own_after pattern values i (omega arith)

@@ -32,6 +32,9 @@ returns-clause-checked c = λ etc usr of.
     let tree = same_map etc usr c.args.files.now c.make_room.new.self c.add_files.new.tree of (c.make_room.ensures ∙ c.new-tree.ensures) (c.in_ok-given.ensures.tree []) in
     subst (λ m. IsDatabaseOf m c.in_ok-database.database.items) tree c.in_ok-database.ensures.database
 
+pub returns-clause-sound : goal.returns-clause-sound
+returns-clause-sound c = let made = c.in_ok-database.ensures.database in (made.0, made.1)
+
 pub returns-clause-faults : goal.returns-clause-faults
 returns-clause-faults c = λ etc usr of.
     same_faults etc usr c.args.files.now (map fault_of c.new-faults.result.items) _ of (ap (map fault_of) c.new-faults.ensures.items) c.in_ok-given.ensures.faults

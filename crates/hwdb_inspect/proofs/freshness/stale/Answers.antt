@@ -1,8 +1,22 @@
-use Rattle.std.proofs.Common.{◌<◌, ◌^◌, length, rules}
+use Rattle.std.proofs.Common.{◌<◌, ◌^◌, ◌+◌, length, rules, subst, sym, ap, ◌∙◌, []}
+use Rattle.std.proofs.lemmas.Result.{IfOk-weaker}
+use Rattle.hwdb_spec.specs.Differences.{differences}
+use Rattle.hwdb_spec.specs.Status.{stale_by}
+use Rattle.hwdb_spec.specs.Tree.{Map, Tree, map_of, members_under}
 use Rattle.hwdb_inspect.proofs.FewLemmas.{few_members, halves}
 use Rattle.hwdb_inspect.proofs.freshness.stale.Goals as goal
 
 pub compared-requires-clause-few : goal.compared-requires-clause-few
 compared-requires-clause-few c =
-    let long : length c.args.made.now < 2 ^ 64 = search rules in
-    halves _ _ c.args.size (length c.args.made.now) _ c.requires.few (few_members c.args.made.now c.in-Ok.new c.in-Ok.ensures.accepted) c.ranges.size.fits long
+    let made = c.args.made.now in
+    let is = c.requires.made in
+    let long : length made < 2 ^ 64 = search rules in
+    let few : length (members_under [] c.reopen-new.result) + length (members_under [] c.reopen-new.result) < length made =
+    subst (λ (t : Tree). length (members_under [] t) + length (members_under [] t) < length made) (sym (c.reopen-new.ensures is.0 is.1)) (few_members made is.0 is.1) in
+    halves _ _ c.args.size (length made) _ c.requires.few few c.ranges.size.fits long
+
+pub returns-clause-state : goal.returns-clause-state
+returns-clause-state c =
+    IfOk-weaker c.compared.result _ _
+    (λ s told m is. told ∙ ap (λ (n : Map). stale_by (differences (map_of c.args.old.now) n)) (ap map_of (c.reopen-new.ensures is.0 is.1) ∙ is.2))
+    c.compared.ensures.state

@@ -11,7 +11,7 @@ returns-in-Ok-clause-state c =
     let made = c.args.made.now in
     IfOk-weaker c.stale.result _ _
     (λ s told m is. subst (λ (t : State). IsStateOf made m bytes t) (sym (told m is))
-    (not_same bytes made c.requires, (c.in-Ok.old, c.in-Ok.ensures.accepted, refl)))
+    (not_same bytes made c.requires.other, (c.in-Ok.old, c.in-Ok.ensures.accepted, refl)))
     c.stale.ensures.state
 
 pub returns-in-Ok-clause-holds : goal.returns-in-Ok-clause-holds

@@ -3,7 +3,7 @@ use Rattle.std.proofs.lemmas.List.{map-append}
 use Rattle.hwdb_reader.specs.Views.{entry_shows}
 use Rattle.hwdb_query.specs.Views.{assignment_of_answer}
 use Rattle.hwdb_query.specs.Internal.Members.{one_assignment}
-use Rattle.hwdb_query.proofs.PartLemmas.{shown_none, shown_some}
+use Rattle.hwdb_query.specs.Lemmas.Parts.{shown_none, shown_some}
 use Rattle.hwdb_query.proofs.node_answers.offer.Goals as goal
 
 pub returns-in_default : goal.returns-in_default

@@ -3,7 +3,7 @@ use Rattle.hwdb_spec.specs.Tree.{values_of}
 use Rattle.hwdb_reader.specs.Views.{entered_tree, entry_shows}
 use Rattle.hwdb_query.specs.Views.{assignment_of_answer}
 use Rattle.hwdb_query.specs.Internal.Members.{own_members, assignment_shown}
-use Rattle.hwdb_query.proofs.PartLemmas.{own_next}
+use Rattle.hwdb_query.specs.Lemmas.Parts.{own_next}
 use Rattle.hwdb_query.proofs.node_answers.push_answers.Goals as goal
 
 pub loop-i-preserved : goal.loop-i-preserved

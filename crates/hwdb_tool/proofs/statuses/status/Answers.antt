@@ -1,18 +1,11 @@
-use Rattle.std.proofs.Common.{List, ap, inl, inr, map, refl, string_bytes, subst, sym, ◌∙◌, ◌≡◌, ℕ}
-use Rattle.hwdb_compile.specs.Views.{ForFolders, choice_in}
-use Rattle.hwdb_compile.specs.declared.sources.ChosenFile.{ChosenFile}
-use Rattle.hwdb_spec.specs.Refusals.{HasReason}
+use Rattle.std.proofs.Common.{inr, subst, sym, List, ℕ}
+use Rattle.hwdb_compile.specs.Views.{ForFolders}
 use Rattle.hwdb_spec.specs.Runs.{OnOut}
-use Rattle.hwdb_spec.specs.Status.{IsStatus, masked_paths}
-use Rattle.hwdb_spec.specs.StatusErrors.{IsNotCompiled, IsStatusRefused}
-use Rattle.hwdb_spec.specs.declared.errors.ToolError.TheVariants.{Memory}
-use Rattle.hwdb_spec.specs.declared.refusals.Refusal.TheVariants.{Plain}
-use Rattle.hwdb_text.specs.Views.{choice_of}
-use Rattle.hwdb_tool.specs.Internal.{AreReadOf}
+use Rattle.hwdb_spec.specs.Status.{IsStatus}
+use Rattle.hwdb_spec.specs.StatusErrors.{IsStatusRefused}
 use Rattle.hwdb_tool.specs.Statuses.{AreMadeOf}
 use Rattle.hwdb_tool.specs.Views.{texts_in}
-use Rattle.hwdb_tool.proofs.FolderLemmas.{all_read, are_read}
-use Rattle.hwdb_tool.proofs.StatusLemmas.{not_beside, not_made, reported_status}
+use Rattle.hwdb_tool.proofs.StatusLemmas.{not_beside, not_made_now, reported_status}
 use Rattle.hwdb_tool.proofs.statuses.status.Goals as goal
 use Rattle.hwdb_spec.specs.Lemmas.Calls.{each_error, each_value, given_error}
 
@@ -20,90 +13,29 @@ pub returns-clause-status : goal.returns-clause-status
 returns-clause-status g c = λ tells.
     let root = c.args.root.now in
     let seen = g.D.Store.seen c.args.system.now in
-    let chosen = map choice_of c.in_ok-selection.selection.chosen.items in
-    let texts = map (λ t. t.items) c.in_ok-selection.selection.texts.items in
-    let listed = map string_bytes c.in_ok-selection.selection.listed.items in
-    let files = c.in_ok-files.files.items in
-    let read : AreReadOf root seen listed files =
-    are_read root seen listed chosen texts files (c.in_ok-selection.ensures.selected tells)
-    (c.in_ok-files.ensures.choices ∙ ap (map choice_of) c.deref.ensures.value) (c.in_ok-files.ensures.bytes ∙ ap (map (λ t. t.items)) c.deref-2.ensures.value) in
-    let made = c.deref-6.result.now in
-    let made_of : ForFolders files (λ etc usr. AreMadeOf etc usr made) =
-    subst (λ (d : List ℕ). ForFolders files (λ etc usr. AreMadeOf etc usr d)) (sym c.deref-6.ensures.value)
-    (subst (λ (l : List ChosenFile). ForFolders l (λ etc usr. AreMadeOf etc usr c.in_ok-made.made.database.items)) c.deref-3.ensures.value c.in_ok-made.ensures.made) in
-    let masks : map (λ p. p.items) c.in_ok-masked.masked.items ≡ masked_paths listed (map choice_in files) =
-    c.in_ok-masked.ensures
-    ∙ ap (λ l. masked_paths (map string_bytes l) (map choice_in c.deref-4.result.now)) c.deref-5.ensures.value
-    ∙ ap (λ (l : List ChosenFile). masked_paths listed (map choice_in l)) c.deref-4.ensures.value in
+    let now = c.in_ok-database.ensures.made tells in
+    let made = c.deref.result.now in
+    let is : ForFolders now.files (λ etc usr. AreMadeOf etc usr made) =
+    subst (λ (d : List ℕ). ForFolders now.files (λ etc usr. AreMadeOf etc usr d)) (sym c.deref.ensures.value) now.is in
     each_value _ (λ a. OnOut (λ text. IsStatus root c.args.json c.args.quiet seen text a.status) (texts_in a)) c.reported.result
-    (λ a told. reported_status root seen listed files read (all_read root seen listed chosen texts (c.in_ok-selection.ensures.selected tells)) c.args.json c.args.quiet made (map (λ p. p.items) c.in_ok-masked.masked.items) (map (λ p. p.items) c.in_ok-ignored.ignored.items) a made_of masks (c.in_ok-ignored.ensures.paths tells) told)
+    (λ a told. reported_status root seen now.listed now.files now.read now.all c.args.json c.args.quiet made _ _ a is now.masks now.others told)
     (c.reported.ensures.reported tells)
-
-pub returns-in_err-selection-clause-refused : goal.returns-in_err-selection-clause-refused
-returns-in_err-selection-clause-refused g c = λ tells.
-    given_error c.in_err-selection.field-0.0 (IsStatusRefused c.args.root.now (g.D.Store.seen c.args.system.now)) c.from_residual.result c.from_residual.ensures.1
-    (inl (c.in_err-selection.ensures.refused tells))
-
-pub returns-in_err-selection-clause-reason : goal.returns-in_err-selection-clause-reason
-returns-in_err-selection-clause-reason g c = λ tells.
-    given_error c.in_err-selection.field-0.0 (HasReason (g.D.System.may_fail c.args.system.now) ⊥ (g.D.Store.seen c.args.system.now)) c.from_residual.result c.from_residual.ensures.1
-    (c.in_err-selection.ensures.reason tells)
-
-pub returns-in_err-ignored-clause-refused : goal.returns-in_err-ignored-clause-refused
-returns-in_err-ignored-clause-refused g c = λ tells.
-    given_error c.in_err-ignored.field-0.0 (IsStatusRefused c.args.root.now (g.D.Store.seen c.args.system.now)) c.from_residual-in_err-ignored.result c.from_residual-in_err-ignored.ensures.1
-    (inl (c.in_err-ignored.ensures.refused tells))
-
-pub returns-in_err-ignored-clause-reason : goal.returns-in_err-ignored-clause-reason
-returns-in_err-ignored-clause-reason g c = λ tells.
-    given_error c.in_err-ignored.field-0.0 (HasReason (g.D.System.may_fail c.args.system.now) ⊥ (g.D.Store.seen c.args.system.now)) c.from_residual-in_err-ignored.result c.from_residual-in_err-ignored.ensures.1
-    c.in_err-ignored.ensures.reason
-
-pub returns-in_err-files-clause-refused : goal.returns-in_err-files-clause-refused
-returns-in_err-files-clause-refused g c = λ tells.
-    given_error (Plain Memory) (IsStatusRefused c.args.root.now (g.D.Store.seen c.args.system.now)) c.from_residual-in_err-files.result c.from_residual-in_err-files.ensures.1
-    (inl (inl refl))
-
-pub returns-in_err-made-clause-refused : goal.returns-in_err-made-clause-refused
-returns-in_err-made-clause-refused g c = λ tells.
-    let root = c.args.root.now in
-    let seen = g.D.Store.seen c.args.system.now in
-    let chosen = map choice_of c.in_ok-selection.selection.chosen.items in
-    let texts = map (λ t. t.items) c.in_ok-selection.selection.texts.items in
-    let listed = map string_bytes c.in_ok-selection.selection.listed.items in
-    let files = c.in_ok-files.files.items in
-    let r = c.in_err-made.field-0.0 in
-    let read : AreReadOf root seen listed files =
-    are_read root seen listed chosen texts files (c.in_ok-selection.ensures.selected tells)
-    (c.in_ok-files.ensures.choices ∙ ap (map choice_of) c.deref.ensures.value) (c.in_ok-files.ensures.bytes ∙ ap (map (λ t. t.items)) c.deref-2.ensures.value) in
-    given_error r (IsStatusRefused root seen) c.from_residual-in_err-made.result c.from_residual-in_err-made.ensures.1
-    (inr (inl (not_made root seen listed files read (all_read root seen listed chosen texts (c.in_ok-selection.ensures.selected tells)) r
-    (subst (λ (l : List ChosenFile). ForFolders l (λ etc usr. IsNotCompiled etc usr r)) c.deref-3.ensures.value c.in_err-made.ensures.refused))))
-
-pub returns-in_err-made-clause-reason : goal.returns-in_err-made-clause-reason
-returns-in_err-made-clause-reason g c = λ tells.
-    let r = c.in_err-made.field-0.0 in
-    let Reason = HasReason (g.D.System.may_fail c.args.system.now) ⊥ (g.D.Store.seen c.args.system.now) in
-    given_error r Reason c.from_residual-in_err-made.result c.from_residual-in_err-made.ensures.1
-    (subst Reason (sym c.in_err-made.ensures.plain.1) tt)
-
-pub returns-in_err-masked-clause-refused : goal.returns-in_err-masked-clause-refused
-returns-in_err-masked-clause-refused g c = λ tells.
-    given_error (Plain Memory) (IsStatusRefused c.args.root.now (g.D.Store.seen c.args.system.now)) c.from_residual-in_err-masked.result c.from_residual-in_err-masked.ensures.1
-    (inl (inl refl))
 
 pub returns-clause-refused : goal.returns-clause-refused
 returns-clause-refused g c = λ tells.
     let root = c.args.root.now in
     let seen = g.D.Store.seen c.args.system.now in
-    let chosen = map choice_of c.in_ok-selection.selection.chosen.items in
-    let texts = map (λ t. t.items) c.in_ok-selection.selection.texts.items in
-    let listed = map string_bytes c.in_ok-selection.selection.listed.items in
-    let files = c.in_ok-files.files.items in
-    let read : AreReadOf root seen listed files =
-    are_read root seen listed chosen texts files (c.in_ok-selection.ensures.selected tells)
-    (c.in_ok-files.ensures.choices ∙ ap (map choice_of) c.deref.ensures.value) (c.in_ok-files.ensures.bytes ∙ ap (map (λ t. t.items)) c.deref-2.ensures.value) in
-    let made = c.in_ok-made.made.database.items in
-    let made_of : ForFolders files (λ etc usr. AreMadeOf etc usr made) =
-    subst (λ (l : List ChosenFile). ForFolders l (λ etc usr. AreMadeOf etc usr made)) c.deref-3.ensures.value c.in_ok-made.ensures.made in
-    each_error _ (IsStatusRefused root seen) c.reported.result (λ r unread. inr (inr (not_beside root seen listed files read (all_read root seen listed chosen texts (c.in_ok-selection.ensures.selected tells)) made r made_of unread))) (c.reported.ensures.refused tells)
+    let now = c.in_ok-database.ensures.made tells in
+    let made = c.deref.result.now in
+    let is : ForFolders now.files (λ etc usr. AreMadeOf etc usr made) =
+    subst (λ (d : List ℕ). ForFolders now.files (λ etc usr. AreMadeOf etc usr d)) (sym c.deref.ensures.value) now.is in
+    each_error _ (IsStatusRefused root seen) c.reported.result (λ r unread. inr (inr (not_beside root seen now.listed now.files now.read now.all made r is unread)))
+    (c.reported.ensures.refused tells)
+
+pub returns-in_err-database-clause-refused : goal.returns-in_err-database-clause-refused
+returns-in_err-database-clause-refused g c = λ tells.
+    let root = c.args.root.now in
+    let seen = g.D.Store.seen c.args.system.now in
+    let r = c.in_err-database.field-0.0 in
+    given_error r (IsStatusRefused root seen) c.from_residual.result c.from_residual.ensures.1
+    (not_made_now root seen r (c.in_err-database.ensures.refused tells))

@@ -3,8 +3,8 @@ use Rattle.hwdb_spec.specs.Tree.{values_of}
 use Rattle.hwdb_reader.specs.Unread.{text_of, value_in}
 use Rattle.hwdb_reader.specs.Views.{entered_tree, shown}
 use Rattle.hwdb_query.specs.Internal.Members.{own_members}
+use Rattle.hwdb_query.specs.Lemmas.Parts.{own_next, shown_none}
 use Rattle.hwdb_inspect.specs.Internal.Trails.{path_of}
-use Rattle.hwdb_inspect.proofs.PartLemmas.{own_next, shown_none}
 use Rattle.hwdb_inspect.proofs.MeetingLemmas.{found_here, no_key}
 use Rattle.hwdb_inspect.proofs.members.Members.look.Goals as goal
 

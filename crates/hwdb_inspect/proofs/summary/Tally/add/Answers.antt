@@ -3,7 +3,7 @@ use Rattle.std.proofs.lemmas.List.{length-map}
 use Rattle.hwdb_spec.specs.Tree.{values_of}
 use Rattle.hwdb_reader.specs.Views.{entered_tree, entry_shows}
 use Rattle.hwdb_query.specs.Internal.Members.{own_members, assignment_shown}
-use Rattle.hwdb_inspect.proofs.PartLemmas.{own_next, own_behind}
+use Rattle.hwdb_query.specs.Lemmas.Parts.{own_next, own_after}
 use Rattle.hwdb_inspect.specs.Internal.Counting.{last_of, turns}
 use Rattle.hwdb_inspect.proofs.TallyLemmas.{taken, turns_own, grown}
 use Rattle.hwdb_inspect.proofs.summary.Tally.add.Goals as goal
@@ -31,7 +31,7 @@ returns-in_ok-add_pattern-clause-patterns c rest =
     let own = own_members p values in
     let all = c.values-i-end.ensures in
     let past = c.loop-i-test.false in
-    let none = own_behind p values c.loop-i.i (omega (arith, all, past)) in
+    let none = own_after p values c.loop-i.i (omega (arith, all, past)) in
     let more = grown (λ f. f.position.key) _ _ own _ none c.loop-i.invariant.keys in
     let now = length-map c.loop-i.self.keys.items (λ t. t.now) in
     let was = length-map c.args.self.now.keys.items (λ t. t.now) in

@@ -1,7 +1,7 @@
 use Rattle.std.proofs.Common.{◌∙◌, ap, sym, option_map, map, ◌++◌, append-nil}
 use Rattle.std.proofs.lemmas.List.{map-append}
 use Rattle.hwdb_reader.specs.Views.{entry_shows}
-use Rattle.hwdb_inspect.proofs.PartLemmas.{shown_none, shown_some}
+use Rattle.hwdb_query.specs.Lemmas.Parts.{shown_none, shown_some}
 use Rattle.hwdb_inspect.proofs.summary.Tally.add_value.Goals as goal
 
 pub returns-in_default-clause-files : goal.returns-in_default-clause-files
