@@ -2,7 +2,7 @@
 //!
 //! If both have the same bytes from a place of each on, the strings at corresponding places are the same. That is known without a
 //! look at them. Such stretches are looked for once.
-ghost use Rattle.std.specs.Prelude.{◌≡◌, ◌≤◌, ◌<◌, ◌+◌, ◌-◌, All, IfOk, drop, get_or, length, take, true};
+ghost use Rattle.std.specs.Prelude.{◌≡◌, ◌≤◌, ◌<◌, ◌+◌, ◌-◌, ℕ, All, IfOk, List, drop, get_or, length, take, true};
 ghost use Rattle.hwdb_spec.specs.Folders.{same};
 ghost use Rattle.hwdb_reader.specs.Internal.Shared.{Agree, AreShared};
 
@@ -42,7 +42,10 @@ pub struct Twins<'a, 'b> {
     old: &'a [u8],
     new: &'b [u8],
     stretches: Vec<Stretch>,
+    /// The longest of them.
+    main: Stretch,
     ghost shared: { All (λ s. AreShared old.now new.now s.old s.new s.count) stretches.items },
+    ghost main_shared: { AreShared old.now new.now main.old main.new main.count },
 }
 
 /// Whether two texts are one.
@@ -178,8 +181,27 @@ fn stretches_from(
     Ok(found)
 }
 
+/// The longest stretch; an empty one if there is none.
+fn longest_of(stretches: &[Stretch]) -> Stretch
+    ensures { (a b : List ℕ) → All (λ s. AreShared a b s.old s.new s.count) stretches.now
+        → AreShared a b result.old result.new result.count }
+{
+    let mut longest = Stretch {
+        old: 0,
+        new: 0,
+        count: 0,
+    };
+    for stretch in stretches {
+        if stretch.count > longest.count {
+            longest = *stretch;
+        }
+    }
+    longest
+}
+
 impl Stretch {
     /// Whether two places are corresponding places of it.
+    #[inline(always)]
     fn has(&self, old: usize, new: usize) -> bool
         ensures { result ≡ true → (self.now.old ≤ old) × (old - self.now.old < self.now.count)
             × (new ≡ self.now.new + (old - self.now.old)) }
@@ -213,16 +235,28 @@ impl<'a, 'b> Twins<'a, 'b> {
             new: new.frame.sizes.strings.min(new.bytes.len()),
         };
         let stretches = stretches_from(alloc, old.bytes, new.bytes, from)?;
+        let main = longest_of(&stretches);
         Ok(Twins {
             old: old.bytes,
             new: new.bytes,
             stretches,
+            main,
         })
     }
 
-    /// Whether it is known that a place of each has the same string. The stretches ascend: it looks for the last one that begins no
-    /// later than the old place.
+    /// Whether it is known that a place of each has the same string. Most are places of the longest stretch.
+    #[inline(always)]
     fn is_known(&self, old: usize, new: usize) -> bool
+        ensures { result ≡ true → text_at self.now.old.now old ≡ text_at self.now.new.now new }
+    {
+        if self.main.has(old, new) {
+            return true;
+        }
+        self.is_in_some(old, new)
+    }
+
+    /// The same, by all stretches. They ascend: it looks for the last one that begins no later than the old place.
+    fn is_in_some(&self, old: usize, new: usize) -> bool
         ensures { result ≡ true → text_at self.now.old.now old ≡ text_at self.now.new.now new }
     {
         let stretches = &self.stretches;

@@ -1,5 +1,5 @@
 use Rattle.std.proofs.Common.{◌≤◌, ◌-◌, length}
-use Rattle.hwdb_reader.proofs.twins.Twins.is_known.Given as goal
+use Rattle.hwdb_reader.proofs.twins.Twins.is_in_some.Given as goal
 
 abbrev pub invariant-halves : goal.invariant-halves
 invariant-halves l = record {
