@@ -18,8 +18,10 @@ use Rattle.hwdb_writer.specs.declared.entries.Setting.{Setting}
 use Rattle.hwdb_writer.specs.declared.nodes.BuiltNode.{BuiltNode as NodeRecord}
 use Rattle.hwdb_writer.specs.declared.builder.OpenBranch.{OpenBranch}
 use Rattle.hwdb_writer.specs.declared.builder.Builder.{Builder}
+use Rattle.hwdb_writer.specs.declared.stored.Closed.{Closed}
+use Rattle.hwdb_writer.specs.Internal.Stored.{AreKept, IsKept}
 use Rattle.hwdb_writer.proofs.SpineLemmas.{append_none, leaf, open_values, open_spine, with_value, Ends, before_it, value_spine, value_values, length-under}
-use Rattle.hwdb_writer.proofs.OpenLemmas.{grown, open_open, lowest, lowest_end, above_it}
+use Rattle.hwdb_writer.proofs.OpenLemmas.{enough, grown, kept_more, open_open, lowest, lowest_end, above_it}
 
 abbrev pub root : Frame
 root = record { byte = 0; prefix = []; values = []; done = [] }
@@ -28,13 +30,16 @@ no_entries : (es : List Setting) (n : NodeRecord) → n.first ≡ 0 → n.count 
 no_entries es n f c = λ i. map value_of (take (c i) (drop (f i) es))
 
 -- a new builder
-pub built_none : (es : List Setting) (b : Builder) → b.path.now ≡ [] → b.top.node.byte ≡ 0 → b.top.node.prefix.now ≡ [] → b.top.node.first ≡ 0 → b.top.node.count ≡ 0 → b.top.node.children ≡ 0 → b.top.end ≡ 0
-    → b.above.items ≡ [] → b.closed.items ≡ [] → IsBuilt es 0 b (root ∷ [])
+pub built_none : (es : List Setting) (b : Builder) → b.entries.now ≡ es → AreKept es [] b.closed → b.path.now ≡ [] → b.top.node.byte ≡ 0 → b.top.node.prefix.now ≡ [] → b.top.node.first ≡ 0 → b.top.node.count ≡ 0 → b.top.node.children ≡ 0 → b.top.end ≡ 0
+    → b.above.items ≡ [] → IsBuilt es 0 b (root ∷ [])
 unfolding AreWhole trees_after stack IsSpine IsTree IsStorable spine_values values_under under
-built_none es b path byte prefix first number children end above closed = record {
+built_none es b entries kept path byte prefix first number children end above = record {
   nodes = record {
-    whole = subst (AreWhole es []) (sym closed) tt;
-    trees = ap (trees_after es []) closed;
+    entries = entries;
+    closed = [];
+    kept = kept;
+    whole = tt;
+    trees = refl;
     standing = (
       record { byte = byte; prefix = prefix; in_range = omega (arith, first, number); values = no_entries es b.top.node first number; children = children },
       end,
@@ -151,8 +156,11 @@ module _ (es : List Setting) (n : ℕ) (e : Setting) (next : IsNext es n e) wher
         g ∷ fs,
         record {
           nodes = record {
-            whole = subst (AreWhole es []) (sym counts.closed) is.whole;
-            trees = ap (trees_after es []) counts.closed ∙ is.trees ∙ ap (λ d. stack fs ++ d) none;
+            entries = ap (λ r. r.now) counts.entries ∙ is.entries;
+            closed = is.closed;
+            kept = subst (AreKept es is.closed) (sym counts.closed) is.kept;
+            whole = is.whole;
+            trees = is.trees ∙ ap (λ d. stack fs ++ d) none;
             standing = (
               record {
                 byte = counts.byte ∙ s.byte;
@@ -295,27 +303,31 @@ module _ (es : List Setting) (n : ℕ) (e : Setting) (next : IsNext es n e) wher
         (open_values b rest l.f l.rest ∙ ap spine_values (sym l.is) ∙ closed.closed.values ∙ built.values) opens_it.path counts
 
 -- the root is closed
-root_finished : (es : List Setting) (old new : Builder) (fs : List Frame) (f : Frame) (nodes : List NodeRecord) → IsClosedTo es 0 old new fs (f ∷ []) → nodes ≡ new.closed.items ++ new.top.node ∷ [] → IsFinished es fs nodes
+root_finished : (es : List Setting) (old new : Builder) (fs : List Frame) (f : Frame) (c : Closed) → IsClosedTo es 0 old new fs (f ∷ []) → IsKept new.entries.now new.top.node new.closed c → IsFinished es fs c
 unfolding stack under IsSpine spine_values prefix_of
-root_finished es old new fs f nodes is e =
+root_finished es old new fs f c is more =
     let s = is.nodes.standing.0 in
-    let k = grown es new.closed.items nodes new.top.node [] f is.nodes.whole is.nodes.trees e s.byte s.prefix s.values s.children s.in_range in
+    let ns = is.nodes.closed in
+    let nodes = ns ++ new.top.node ∷ [] in
+    let k = grown es ns nodes new.top.node [] f is.nodes.whole is.nodes.trees refl s.byte s.prefix s.values s.children s.in_range in
     let tree : tree_of es nodes ≡ node_of f = ap first_tree k.trees in
     let spine = is.nodes.spine in
     record {
+      nodes = nodes;
+      kept = kept_more es new.entries.now ns new.top.node new.closed c is.nodes.entries is.nodes.kept more (enough es (trees_after es [] ns) [] f.done new.top.node is.nodes.trees s.children);
       order = record { whole = k.whole; one = ap length k.trees };
       sound = subst IsSound (sym tree) (record { ordered = spine.0; root = spine.2; storable = spine.1 });
       values = ap (values_under []) tree ∙ is.closed.values;
     }
 
 -- all is closed
-pub finished : (es : List Setting) (old new : Builder) (fs gs : List Frame) (nodes : List NodeRecord) → IsClosedTo es 0 old new fs gs → nodes ≡ new.closed.items ++ new.top.node ∷ [] → IsFinished es fs nodes
-finished es old new fs [] nodes is e = absurd is.nodes.standing
-finished es old new fs (f ∷ g ∷ hs) nodes is e =
+pub finished : (es : List Setting) (old new : Builder) (fs gs : List Frame) (c : Closed) → IsClosedTo es 0 old new fs gs → IsKept new.entries.now new.top.node new.closed c → IsFinished es fs c
+finished es old new fs [] c is more = absurd is.nodes.standing
+finished es old new fs (f ∷ g ∷ hs) c is more =
     let n = sym is.end ∙ lowest_end es new (f ∷ g ∷ hs) is.nodes ∙ length-append (under (g ∷ hs) f.byte) f.prefix in
     let u = length-under g hs f.byte in
     absurd (omega (arith, n, u))
-finished es old new fs (f ∷ []) nodes is e = root_finished es old new fs f nodes is e
+finished es old new fs (f ∷ []) c is more = root_finished es old new fs f c is more
 
 -- no node is open above one whose path is empty
 pub none_above : (es : List Setting) (old new : Builder) (fs gs : List Frame) → IsClosedTo es 0 old new fs gs → (above : List OpenBranch) (g : OpenBranch) → new.above.items ≡ above ++ g ∷ [] → ⊥

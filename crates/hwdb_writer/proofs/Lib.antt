@@ -14,7 +14,6 @@ pub mod PlaceLemmas
 pub mod TableLemmas
 pub mod LengthLemmas
 pub mod EmissionLemmas
-pub mod FewLemmas
 pub mod NumberLemmas
 pub mod WholeLemmas
 pub mod MadeLemmas
@@ -23,5 +22,4 @@ pub mod OneTreeLemmas
 pub mod ReadBackLemmas
 pub mod BridgeLemmas
 pub mod MembershipLemmas
-pub mod SplitLemmas
 pub mod SectionLemmas

@@ -2,9 +2,10 @@
 use Rattle.std.proofs.Common.{◌≡◌, ◌<◌, ◌≤◌, ℕ, suc, ◌+◌, ◌-◌, List, [], ◌∷◌, ◌++◌, length, length-append, map, take, drop, reverse, get_or, refl, sym, ◌∙◌, ap, subst, arith, append_assoc}
 use Rattle.std.proofs.lemmas.List.{reverse-append, reverse-reverse}
 use Rattle.std.proofs.Math.Seq.{take-append_seam, drop-append_seam}
-use Rattle.hwdb_spec.specs.Tree.{IsTree}
+use Rattle.std.proofs.lemmas.Grind.{flat_map-append}
+use Rattle.hwdb_spec.specs.Tree.{Value, IsTree}
 use Rattle.hwdb_spec.specs.Tree.Tree.{Node}
-use Rattle.hwdb_spec.specs.Written.{IsForked}
+use Rattle.hwdb_spec.specs.Written.{IsForked, strings_below}
 use Rattle.hwdb_writer.specs.Internal.Storable.{IsStorable}
 use Rattle.hwdb_writer.specs.Internal.Entries.{value_of}
 use Rattle.hwdb_writer.specs.Internal.PostOrder.{Sub, children_in, values_at, staying, joined, trees_after, AreWhole}
@@ -13,6 +14,11 @@ use Rattle.hwdb_writer.specs.declared.entries.Setting.{Setting}
 use Rattle.hwdb_writer.specs.declared.nodes.BuiltNode.{BuiltNode as NodeRecord}
 use Rattle.hwdb_writer.specs.declared.builder.OpenBranch.{OpenBranch}
 use Rattle.hwdb_writer.specs.declared.builder.Builder.{Builder}
+use Rattle.hwdb_writer.specs.declared.stored.Closed.{Closed}
+use Rattle.hwdb_writer.specs.Internal.Membership.{SameMembers}
+use Rattle.hwdb_writer.specs.Internal.Stored.{AreKept, AreValues, IsKept, IsUnder, all_values}
+use Rattle.hwdb_writer.proofs.EmissionLemmas.{strings_more}
+use Rattle.hwdb_writer.proofs.StoredLemmas.{none_behind}
 use Rattle.hwdb_writer.proofs.SpineLemmas.{append_none, closed_frame, close_spine, whole_frame, cut_frame, cut_spine, leaf, count-in}
 use Rattle.hwdb_writer.proofs.SoundnessLemmas.{few}
 
@@ -39,6 +45,18 @@ pub whole_more : (es : List Setting) (trees : List Sub) (ns : List NodeRecord) (
 unfolding trees_after AreWhole
 whole_more es trees [] n w c r = (c, r, tt)
 whole_more es trees (m ∷ ns) n w c r = (w.0, w.1, whole_more es (joined es trees m) ns n w.2 c r)
+
+-- one more node is closed, whose children are there
+pub kept_more : (es own : List Setting) (ns : List NodeRecord) (n : NodeRecord) (old new : Closed) → own ≡ es → AreKept es ns old → IsKept own n old new → n.children ≤ length (trees_after es [] ns) → AreKept es (ns ++ n ∷ []) new
+kept_more es own ns n old new e a k le =
+    let k = subst (λ (l : List Setting). IsKept l n old new) e k in
+    let V : List Value → Type 0 = AreValues (IsUnder new.interner) new.values.items in
+    let S : List Sub → Type 0 = λ ts. SameMembers new.interner (([] ∷ []) ++ strings_below (children_in ts)) in
+    record {
+      nodes = k.nodes ns a.nodes;
+      values = subst V (sym (flat_map-append (values_at es) ns (n ∷ []) ∙ ap (λ l. all_values es ns ++ l) (none_behind (values_at es n)))) (k.values (all_values es ns) a.values);
+      members = subst S (sym (after_more es [] ns n)) (strings_more es (trees_after es [] ns) n le old.interner ([] ∷ []) new.interner a.members k.members);
+    }
 
 -- the last of a list whose reverse begins with an element
 pub record Last {A : Type 0} (xs : List A) (x : A) (rest : List A) : Type 0 where
@@ -94,10 +112,15 @@ module _ (es : List Setting) (old new : Builder) (f g : Frame) (gs : List Frame)
       let q = parent in
       let l = last_is old.above.items q.o q.os q.below in
       let at = closes.parent l.front q.o l.is in
-      let k = grown es old.closed.items new.closed.items old.top.node (stack (g ∷ gs)) f is.whole is.trees closes.closed s.byte s.prefix s.values s.children s.in_range in
+      let ns = is.closed in
+      let k = grown es ns (ns ++ old.top.node ∷ []) old.top.node (stack (g ∷ gs)) f is.whole is.trees refl s.byte s.prefix s.values s.children s.in_range in
+      let enough_trees = enough es (trees_after es [] ns) (stack (g ∷ gs)) f.done old.top.node is.trees s.children in
       let ends = length-append g.done ((f.byte, node_of f) ∷ []) in
       let opens_is : opens new ≡ one_more q.o ∷ q.os = (λ i. at.1 i ∷ reverse (at.0 i)) ∙ ap (λ r. one_more q.o ∷ r) l.back in
       record {
+        entries = ap (λ r. r.now) closes.entries ∙ is.entries;
+        closed = ns ++ old.top.node ∷ [];
+        kept = kept_more es old.entries.now ns old.top.node old.closed new.closed is.entries is.kept closes.closed enough_trees;
         whole = k.whole;
         trees = k.trees ∙ append_assoc (stack gs) g.done ((f.byte, node_of f) ∷ []);
         standing = subst (λ os. AreStanding es os (closed_frame f g gs ∷ gs)) (sym opens_is) (
@@ -125,13 +148,18 @@ module _ (es : List Setting) (old new : Builder) (at front : ℕ) (f : Frame) (f
       let prefix : cuts.back.prefix.now ≡ back = cut.prefix ∙ (λ i. drop (n i + 1) ((s.prefix ∙ e) i)) ∙ ap (λ m. drop m (left ++ c ∷ back)) (let m : length left + 1 ≡ suc (length left) = omega arith in m) ∙ behind left c back in
       let values : values_at es cuts.back ≡ f.values = (λ i. map value_of (take (cut.count i) (drop (cut.first i) es))) ∙ s.values in
       let lower : Frame = record { byte = c; prefix = back; values = f.values; done = f.done } in
-      let k = grown es old.closed.items new.closed.items cuts.back (stack fs) lower is.whole is.trees cuts.closed byte prefix values (cut.children ∙ s.children) (let a = cut.first in let b = cut.count in let r = s.in_range in omega (arith, a, b, r)) in
+      let ns = is.closed in
+      let k = grown es ns (ns ++ cuts.back ∷ []) cuts.back (stack fs) lower is.whole is.trees refl byte prefix values (cut.children ∙ s.children) (let a = cut.first in let b = cut.count in let r = s.in_range in omega (arith, a, b, r)) in
       let w : f ≡ whole_frame f.byte left c back f.values f.done fs = λ i. record { byte = f.byte; prefix = e i; values = f.values; done = f.done } in
       let up : IsSpine (whole_frame f.byte left c back f.values f.done fs ∷ fs) = let P : Frame → Type 0 = λ h. IsSpine (h ∷ fs) in subst P w is.spine in
       let fork : IsForked (node_of (whole_frame f.byte left c back f.values f.done fs)) = let P : Frame → Type 0 = λ h. IsForked (node_of h) in subst P w forked in
       let a = left_is.first in
       let b = left_is.count in
       record {
+        entries = ap (λ r. r.now) cuts.entries ∙ is.entries;
+        closed = ns ++ cuts.back ∷ [];
+        kept = kept_more es old.entries.now ns cuts.back old.closed new.closed is.entries is.kept cuts.closed
+            (enough es (trees_after es [] ns) (stack fs) f.done cuts.back is.trees (cut.children ∙ s.children));
         whole = k.whole;
         trees = k.trees;
         standing = (
@@ -170,8 +198,11 @@ module _ (es : List Setting) (old new : Builder) (pattern : List ℕ) (number : 
       let path : full_path (leaf b rest g gs ∷ g ∷ gs) ≡ pattern = append_assoc (full_path (g ∷ gs)) (b ∷ []) rest ∙ sym e in
       let above : reverse new.above.items ≡ old.top ∷ reverse old.above.items = ap reverse opened.above ∙ reverse-append old.above.items (old.top ∷ []) in
       record {
-        whole = subst (AreWhole es []) (sym opened.closed) is.whole;
-        trees = ap (trees_after es []) opened.closed ∙ is.trees ∙ sym (append_none (stack (g ∷ gs)));
+        entries = ap (λ r. r.now) opened.entries ∙ is.entries;
+        closed = is.closed;
+        kept = subst (AreKept es is.closed) (sym opened.closed) is.kept;
+        whole = is.whole;
+        trees = is.trees ∙ sym (append_none (stack (g ∷ gs)));
         standing = (
           record { byte = byte; prefix = prefix; in_range = omega (arith, a, c, range); values = λ i. map value_of (take (c i) (drop (a i) es)); children = opened.children },
           opened.end ∙ ap length (sym path),
@@ -226,6 +257,14 @@ few_children es b fs is above g e =
     let c = a.stands.children in
     let k = count-in a.h.done in
     omega (arith, n, c, k)
+
+-- the values of the lowest are among the entries
+pub top_inside : (es : List Setting) (b : Builder) (fs : List Frame) → IsOpen es b fs → b.top.node.first + b.top.node.count ≤ length b.entries.now
+top_inside es b [] is = absurd is.standing
+top_inside es b (f ∷ fs) is =
+    let l = ap length is.entries in
+    let r = is.standing.0.in_range in
+    omega (arith, l, r)
 
 -- the end of the lowest one's path
 pub lowest_end : (es : List Setting) (b : Builder) (fs : List Frame) → IsOpen es b fs → b.top.end ≡ length (full_path fs)

@@ -9,23 +9,22 @@
 //! no node is moved. Each pattern is compared with the one before it, and each node is opened once and closed once. So
 //! the time is that of one look at the patterns' bytes.
 //!
-//! The memory is a list of nodes of a fixed size. A node borrows its bytes from a pattern, and its values are a range
-//! of the entries. The open nodes are on a stack of their own, not the thread's: long patterns need no deep recursion.
-//! The price is the sort before it, and that no pattern can be added later.
+//! The memory is a list of nodes of a fixed size, with strings by number. An open node borrows its bytes from a pattern, and its
+//! values are a range of the entries. The open nodes are on a stack of their own, not the thread's: long patterns need no deep
+//! recursion. The price is the sort before it, and that no pattern can be added later.
 ghost use Rattle.std.specs.Prelude.{◌≡◌, ◌≤◌, ◌<◌, ◌++◌, ◌∷◌, [], ◌+◌, ◌-◌, ◌^◌, List, ℕ, length, map, take, drop, reverse, slice_index, All, IfOk, OnOk};
 ghost use Rattle.std.specs.Bool.{OnTrue, OnFalse};
 ghost use Rattle.std.specs.List.{AllByRecursion};
 ghost use Rattle.std.specs.List.Sorted.{IsStrictlySortedBy};
-ghost use Rattle.hwdb_spec.specs.Tree.{values_under};
 ghost use Rattle.hwdb_writer.specs.declared.entries.Setting.{Setting as EntryRecord};
-ghost use Rattle.hwdb_writer.specs.Internal.Storable.{IsSound};
-ghost use Rattle.hwdb_writer.specs.Internal.Entries.{by_place, placed, now_of, IsStorableEntry};
-ghost use Rattle.hwdb_writer.specs.Internal.PostOrder.{IsPostOrder, tree_of};
+ghost use Rattle.hwdb_writer.specs.Internal.Entries.{by_place, IsStorableEntry};
+ghost use Rattle.hwdb_writer.specs.Internal.Stored.{AreKept, IsTreeOf};
 ghost use Rattle.hwdb_writer.specs.Internal.Spine.{Frame, IsClosable, IsClosedTo, IsBuilt, IsNext, IsFinished, MeetAt, Closes, Cuts, Opens, Counts};
 ghost use Rattle.hwdb_writer.specs.declared.builder.OpenBranch.{OpenBranch as OpenRecord};
 
-use crate::entries::Setting;
+use crate::entries::HeadedEntry;
 use crate::nodes::BuiltNode;
+use crate::stored::Closed;
 use byteorder::{BigEndian, ByteOrder};
 use std::alloc::{AllocError, Global};
 
@@ -38,7 +37,9 @@ struct OpenBranch<'t> {
 
 /// The nodes so far.
 #[derive(Drop)]
-struct Builder<'t> {
+struct Builder<'a, 's, 't> {
+    /// The entries, whose values the nodes have.
+    entries: &'a [HeadedEntry<'s, 't>],
     /// The pattern that was added last.
     path: &'t [u8],
     /// The node at the end of that pattern.
@@ -46,7 +47,7 @@ struct Builder<'t> {
     /// The nodes above it, from the root on.
     above: Vec<OpenBranch<'t>>,
     /// The nodes that are closed, each after its children.
-    closed: Vec<BuiltNode<'t>>,
+    closed: Closed<'t>,
 }
 
 /// How many bytes are compared at once, as one number.
@@ -88,26 +89,23 @@ fn common(a: &[u8], b: &[u8]) -> usize
     n
 }
 
-/// For how many nodes of so many entries there is room from the start. At most two come for an entry: the one that is opened
-/// for it, and the rest of one that is cut. In people's files fewer do, and unused room would lie between what is used again.
-fn room_for(entries: usize) -> usize {
-    (entries / 2).saturating_add(entries).saturating_add(1)
-}
-
 /// For how many open nodes there is room from the start. glibc keeps short lists that are let go of for lists as short. One of
-/// these would lie between the nodes and the strings, whose memory the database takes as one piece.
+/// these would lie between what the database's memory is made of.
 const OPEN_NODES: usize = 64;
 
-impl<'t> Builder<'t> {
-    /// A root alone, and room for the nodes of so many entries.
-    fn new(alloc: Global, entries: usize) -> Result<Builder<'t>, AllocError>
-        ensures { IfOk result (λ made. (es : List EntryRecord)
-            → (fs : List Frame) × IsBuilt es 0 made fs) }
+impl<'a, 's, 't> Builder<'a, 's, 't> {
+    /// A root alone. What is closed later is put after what `closed` has: nothing yet.
+    fn new(
+        alloc: Global,
+        entries: &'a [HeadedEntry<'s, 't>],
+        closed: Closed<'t>,
+    ) -> Result<Builder<'a, 's, 't>, AllocError>
+        requires { AreKept entries.now [] closed }
+        ensures { IfOk result (λ made. (fs : List Frame) × IsBuilt entries.now 0 made fs) }
     {
-        let room = room_for(entries);
-        let closed = Vec::with_capacity(alloc, room)?;
         let above = Vec::with_capacity(alloc, OPEN_NODES)?;
         Ok(Builder {
+            entries,
             path: &[],
             top: OpenBranch {
                 node: BuiltNode::new(0, &[], 0),
@@ -120,11 +118,13 @@ impl<'t> Builder<'t> {
 
     /// Closes the top node: it is one more child of the node above it, which then is the top node.
     fn close(&mut self) -> Result<(), AllocError>
+        requires inside { self.old.top.node.first + self.old.top.node.count
+            ≤ length self.old.entries.now }
         requires few { (above : List OpenRecord) (g : OpenRecord)
             → self.old.above.items ≡ above ++ g ∷ [] → g.node.children < 256 }
         ensures { OnOk result (Closes self.old self.new) }
     {
-        self.closed.push(self.top.node)?;
+        self.closed.push(self.top.node, self.entries)?;
         if let Some(parent) = self.above.pop() {
             self.top = parent;
             self.top.node.children += 1;
@@ -137,19 +137,22 @@ impl<'t> Builder<'t> {
     fn cut(&mut self, at: usize) -> Result<(), AllocError>
         requires inside { at < self.old.top.end }
         requires prefix { self.old.top.end ≤ at + length self.old.top.node.prefix.now }
+        requires values { self.old.top.node.first + self.old.top.node.count
+            ≤ length self.old.entries.now }
         ensures { OnOk result (Cuts at self.old self.new) }
     {
         let node = self.top.node;
         let (front, back) = node
             .prefix
             .split_at(node.prefix.len() - (self.top.end - at));
-        self.closed.push(BuiltNode {
+        let rest = BuiltNode {
             byte: back[0],
             prefix: &back[1..],
             first: node.first,
             count: node.count,
             children: node.children,
-        })?;
+        };
+        self.closed.push(rest, self.entries)?;
         self.top = OpenBranch {
             node: BuiltNode {
                 byte: node.byte,
@@ -238,10 +241,10 @@ impl<'t> Builder<'t> {
     }
 
     /// Closes all nodes.
-    fn finish(mut self) -> Result<Vec<BuiltNode<'t>>, AllocError>
+    fn finish(mut self) -> Result<Closed<'t>, AllocError>
         requires { (es : List EntryRecord) × (fs : List Frame) × IsClosable es self fs }
-        ensures { IfOk result (λ nodes. (es : List EntryRecord) (fs : List Frame)
-            → IsClosable es self.entry fs → IsFinished es fs nodes.items) }
+        ensures { IfOk result (λ closed. (es : List EntryRecord) (fs : List Frame)
+            → IsClosable es self.entry fs → IsFinished es fs closed) }
     {
         self.close_to(0)?;
         self.close()?;
@@ -249,26 +252,26 @@ impl<'t> Builder<'t> {
     }
 }
 
-/// The nodes of the tree of the entries, each after its children. The entries are in order, and no two have one pattern
-/// and one key.
+/// The nodes of the tree of the entries, each after its children. They are put into `closed`, which has none yet. The entries
+/// are in order, and no two have one pattern and one key.
 ///
-/// One pass over the entries' patterns. The only error is `AllocError`.
+/// One pass over the entries' patterns. A node's values are stored when it is closed, soon after its entries were looked at. The
+/// only error is `AllocError`.
 pub fn post_order<'t>(
     alloc: Global,
-    entries: &[&Setting<'t>],
-) -> Result<Vec<BuiltNode<'t>>, AllocError>
-    requires ascending { IsStrictlySortedBy by_place (map now_of entries.now) }
-    requires storable { AllByRecursion IsStorableEntry (map now_of entries.now) }
-    ensures order { IfOk result (λ nodes. IsPostOrder (map now_of entries.now) nodes.items) }
-    ensures sound { IfOk result
-        (λ nodes. IsSound (tree_of (map now_of entries.now) nodes.items)) }
-    ensures values { IfOk result
-        (λ nodes. values_under [] (tree_of (map now_of entries.now) nodes.items)
-        ≡ map placed (map now_of entries.now)) }
+    entries: &[HeadedEntry<'_, 't>],
+    closed: Closed<'t>,
+) -> Result<Closed<'t>, AllocError>
+    requires ascending { IsStrictlySortedBy by_place entries.now }
+    requires storable { AllByRecursion IsStorableEntry entries.now }
+    requires none { AreKept entries.now [] closed }
+    ensures { IfOk result (IsTreeOf entries.now) }
 {
-    let mut builder = Builder::new(alloc, entries.len())?;
-    for (number, entry) in entries.iter().enumerate() {
+    let mut builder = Builder::new(alloc, entries, closed)?;
+    for (number, headed) in entries.iter().enumerate() {
+        let entry = headed.entry();
         builder.add(entry.pattern, number)?;
     }
-    builder.finish()
+    let closed = builder.finish()?;
+    Ok(closed)
 }

@@ -5,7 +5,7 @@ ghost use Rattle.std.specs.Cmp.{eq_by_cmp_equiv, partial_equiv_from_equiv, parti
 ghost use Rattle.std.specs.List.Sorted.{IsStrictlySortedBy};
 ghost use Rattle.hwdb_spec.specs.Tree.{surviving, entry_of};
 ghost use Rattle.std.specs.FinMap.{from_entries};
-ghost use Rattle.hwdb_writer.specs.Internal.Entries.{by_place, by_place_total, assignment_of, now_of, IsStorableEntry};
+ghost use Rattle.hwdb_writer.specs.Internal.Entries.{by_place, by_place_total, assignment_of, IsStorableEntry};
 ghost use Rattle.std.specs.List.{AllByRecursion};
 
 use crate::keyed::head_of;
@@ -70,7 +70,7 @@ impl<'t> Ord for Setting<'t> {
 /// A reference to an entry, and the first eight bytes of its pattern as a number. Most comparisons of entries of two files are
 /// decided by that number, without a look at the entry and its pattern.
 #[derive(Drop)]
-struct HeadedEntry<'s, 't> {
+pub struct HeadedEntry<'s, 't> {
     head: u64,
     entry: &'s Setting<'t>,
 }
@@ -99,7 +99,7 @@ impl<'s, 't> HeadedEntry<'s, 't> {
         }
     }
 
-    fn entry(&self) -> &'s Setting<'t>
+    pub fn entry(&self) -> &'s Setting<'t>
         ensures { result.now ≡ self.now }
     {
         self.entry
@@ -166,20 +166,6 @@ fn last_first<'s, 't>(
     Ok(order)
 }
 
-/// The entries, without the numbers beside them.
-fn entries_of<'s, 't>(
-    alloc: Global,
-    order: &[HeadedEntry<'s, 't>],
-) -> Result<Vec<&'s Setting<'t>>, AllocError>
-    ensures { IfOk result (λ v. map now_of v.items ≡ order.now) }
-{
-    let mut entries: Vec<&'s Setting<'t>> = Vec::with_capacity(alloc, order.len())?;
-    for headed in order {
-        entries.push(headed.entry())?;
-    }
-    Ok(entries)
-}
-
 /// The entries by pattern and key; of those with one pattern and key the last. It takes the entries as they were set.
 ///
 /// Reversed first, so that a stable sort has the last one of each pattern and key in front, and the others are left
@@ -187,17 +173,16 @@ fn entries_of<'s, 't>(
 pub fn last_of_each<'s, 't>(
     alloc: Global,
     all: &'s [Setting<'t>],
-) -> Result<Vec<&'s Setting<'t>>, AllocError>
-    ensures ascending { IfOk result (λ v. IsStrictlySortedBy by_place (map now_of v.items)) }
+) -> Result<Vec<HeadedEntry<'s, 't>>, AllocError>
+    ensures ascending { IfOk result (λ v. IsStrictlySortedBy by_place v.items) }
     ensures storable { AllByRecursion IsStorableEntry all.now
-        → IfOk result (λ v. AllByRecursion IsStorableEntry (map now_of v.items)) }
+        → IfOk result (λ v. AllByRecursion IsStorableEntry v.items) }
     ensures same { IfOk result
-        (λ v. from_entries (map entry_of (map assignment_of (map now_of v.items)))
+        (λ v. from_entries (map entry_of (map assignment_of v.items))
         ≡ surviving (map assignment_of all.now)) }
 {
     let mut order = last_first(alloc, all)?;
     order.sort()?;
     order.dedup();
-    let entries = entries_of(alloc, &order)?;
-    Ok(entries)
+    Ok(order)
 }

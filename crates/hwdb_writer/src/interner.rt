@@ -3,7 +3,7 @@
 //!
 //! What is forgotten gets a second number, which costs a little memory. In return the registry has a fixed size, and a
 //! string is compared with at most two others. The contract says only that a string's number gives that string.
-ghost use Rattle.std.specs.Prelude.{◌≡◌, ◌++◌, ◌∷◌, [], ◌+◌, ◌^◌, ◌≤◌, ◌<◌, length, IfOk, OnOk, IfSome};
+ghost use Rattle.std.specs.Prelude.{◌≡◌, ◌++◌, ◌∷◌, [], IfOk, OnOk, IfSome};
 ghost use Rattle.std.specs.Bool.{OnTrue};
 ghost use Rattle.hwdb_writer.specs.Internal.Membership.{SameMembers};
 ghost use Rattle.hwdb_writer.specs.Internal.Stored.{Grows, IsUnder};
@@ -73,15 +73,19 @@ impl<'t> Interner<'t> {
     }
 
     /// Adds the string, and remembers it. Returns its number.
+    ///
+    /// Numbers have 4 bytes. A string for which none is left counts as want of memory: those before it have 137 GB of it.
     fn add(&mut self, word: KeyedStr<'t>) -> Result<u32, AllocError>
-        requires few { length self.old < 2 ^ 32 }
-        ensures few { OnOk result (length self.new ≤ length self.old + 1) }
         ensures grows { OnOk result (Grows self.old self.new) }
         ensures members { OnOk result (SameMembers self.new
             (self.old ++ word.entry.word ∷ [])) }
         ensures number { IfOk result (λ n. IsUnder self.new n word.entry.word) }
     {
-        let number = self.words.as_slice().len() as u32;
+        let count = self.words.as_slice().len();
+        if count > u32::MAX as usize {
+            return Err(AllocError);
+        }
+        let number = count as u32;
         self.registry.remember(&word, number);
         self.words.push(word.numbered(number))?;
         Ok(number)
@@ -89,8 +93,6 @@ impl<'t> Interner<'t> {
 
     /// The number of the string, which is added if none like it is remembered.
     pub fn intern(&mut self, word: KeyedStr<'t>) -> Result<u32, AllocError>
-        requires few { length self.old < 2 ^ 32 }
-        ensures few { OnOk result (length self.new ≤ length self.old + 1) }
         ensures grows { OnOk result (Grows self.old self.new) }
         ensures members { OnOk result (SameMembers self.new
             (self.old ++ word.entry.word ∷ [])) }
@@ -106,8 +108,6 @@ impl<'t> Interner<'t> {
     /// without a look-up.
     #[inline(always)]
     pub fn intern_near(&mut self, word: KeyedStr<'t>, near: u32) -> Result<u32, AllocError>
-        requires few { length self.old < 2 ^ 32 }
-        ensures few { OnOk result (length self.new ≤ length self.old + 1) }
         ensures grows { OnOk result (Grows self.old self.new) }
         ensures members { OnOk result (SameMembers self.new
             (self.old ++ word.entry.word ∷ [])) }

@@ -1,8 +1,7 @@
-//! The nodes of a tree, each after its children.
+//! The nodes of a tree, before their strings have numbers.
 ghost use Rattle.std.specs.Prelude.{◌≡◌};
 
-/// A node, in a list in which each comes after its children. It has the byte that leads to it, and the bytes after that
-/// one. Its values, by key, are `count` of the entries from `first` on.
+/// A node. It has the byte that leads to it, and the bytes after that one. Its values, by key, are `count` of the entries from `first` on.
 #[derive(Clone, Copy)]
 pub struct BuiltNode<'t> {
     pub byte: u8,

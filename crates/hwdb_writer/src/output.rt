@@ -10,7 +10,7 @@ ghost use Rattle.hwdb_writer.specs.Internal.PostOrder.{tree_of, IsPostOrder};
 ghost use Rattle.std.specs.List.{AllByRecursion};
 ghost use Rattle.hwdb_spec.specs.Tree.{surviving};
 ghost use Rattle.hwdb_writer.specs.Internal.Entries.{assignment_of, IsStorableEntry};
-ghost use Rattle.hwdb_writer.specs.Internal.Stored.{IsAt, AreNodes, IsValued, IsStored, IsLaidOut, IsMade};
+ghost use Rattle.hwdb_writer.specs.Internal.Stored.{IsAt, AreNodes, IsStored, IsLaidOut, IsMade};
 
 use crate::assignments::Assignments;
 use crate::builder::post_order;
@@ -20,7 +20,7 @@ use crate::records::{
     CHILD_SIZE, HEADER_SIZE, NODE_SIZE, VALUE_SIZE, push_records, push_u64, record_length,
     text_length,
 };
-use crate::stored::{Stored, StoredNode, StoredValue, StoredValues, store, with_values};
+use crate::stored::{Closed, Stored, StoredNode, StoredValue};
 use crate::strings::table_of;
 use hwdb_spec::StoreError;
 use std::alloc::{AllocError, Global};
@@ -109,47 +109,34 @@ fn database_within(
     Ok(Some(bytes))
 }
 
-/// The nodes of the tight tree of what was set, and their values with strings by number. It consumes what was set, so that
-/// its memory is free for the nodes with strings by number.
-///
-/// If the records alone are longer than `max_bytes`, that is the error. Else there are so few strings that their numbers
-/// have 4 bytes.
-fn stored_values<'t>(
+/// The nodes of the tight tree of what was set, with strings by number. It consumes what was set. If the records alone are
+/// longer than `max_bytes`, that is the error.
+fn stored_nodes<'t>(
     alloc: Global,
     all: Vec<Setting<'t>>,
     max_bytes: u32,
-) -> Result<StoredValues<'t>, StoreError>
+) -> Result<Stored<'t>, StoreError>
     requires { AllByRecursion IsStorableEntry all.items }
-    ensures valued { IfOk result (λ s. (es : List EntryRecord) × IsValued es s
-        × IsMade (surviving (map assignment_of all.entry.items)) (tree_of es s.nodes.items)) }
+    ensures stored { IfOk result (λ s. (es : List EntryRecord) × (ns : List BuiltNode)
+        × IsStored es ns s
+        × IsMade (surviving (map assignment_of all.entry.items)) (tree_of es ns)) }
     ensures too_large { IsErrOf result StoreError.TooLarge
         → IsLonger (surviving (map assignment_of all.entry.items)) max_bytes }
 {
+    // Room for nodes comes before that for the sort, which is let go of earlier. So the database begins where the sort was.
+    let none = Closed::new(alloc, all.len())?;
     let entries = last_of_each(alloc, &all)?;
-    let nodes = post_order(alloc, &entries)?;
-    let size = text_length(&nodes);
+    let closed = post_order(alloc, &entries, none)?;
+    let size = text_length(&closed.nodes);
     if size > max_bytes as usize {
         return Err(StoreError::TooLarge);
     }
-    let half = with_values(alloc, &entries, nodes, size)?;
-    Ok(half)
-}
-
-/// The nodes of the tight tree of what was set, with strings by number. It consumes the tree, and frees what was set. The
-/// records have at most so many bytes.
-fn stored_nodes<'t>(
-    alloc: Global,
-    tree: Assignments<'t>,
-    max_bytes: u32,
-) -> Result<Stored<'t>, StoreError>
-    ensures stored { IfOk result (λ s. (es : List EntryRecord) × (ns : List BuiltNode)
-        × IsStored es ns s × IsMade tree.entry (tree_of es ns)) }
-    ensures too_large { IsErrOf result StoreError.TooLarge → IsLonger tree.entry max_bytes }
-{
-    keep_pages(alloc);
-    let half = stored_values(alloc, tree.entries, max_bytes)?;
-    let stored = store(alloc, half)?;
-    Ok(stored)
+    Ok(Stored {
+        nodes: closed.nodes,
+        values: closed.values,
+        interner: closed.interner,
+        size,
+    })
 }
 
 /// The database of the tree's map, of at most `max_bytes` bytes. It consumes the tree, so that it takes less memory
@@ -172,7 +159,8 @@ pub fn into_database(
     ensures within { IfOk result (λ v. length v.items ≤ max_bytes) }
     ensures too_large { IsErrOf result StoreError.TooLarge → IsLonger tree.entry max_bytes }
 {
-    let stored = stored_nodes(alloc, tree, max_bytes)?;
+    keep_pages(alloc);
+    let stored = stored_nodes(alloc, tree.entries, max_bytes)?;
     match database_within(alloc, stored, max_bytes)? {
         Some(bytes) => Ok(bytes),
         None => Err(StoreError::TooLarge),

@@ -6,9 +6,8 @@ ghost use Rattle.hwdb_spec.specs.Written.{padding, text_size, node_text, value_t
 ghost use Rattle.hwdb_writer.specs.declared.entries.Setting.{Setting};
 ghost use Rattle.hwdb_writer.specs.declared.nodes.BuiltNode.{BuiltNode as NodeRecord};
 ghost use Rattle.hwdb_writer.specs.Internal.PostOrder.{IsPostOrder, tree_of};
-ghost use Rattle.hwdb_writer.specs.Internal.Stored.{IsAt, AreNodes, AreValues, AreRecords, record_text};
+ghost use Rattle.hwdb_writer.specs.Internal.Stored.{IsAt, IsUnder, AreNodes, AreValues, AreRecords, record_text};
 
-use crate::nodes::BuiltNode;
 use crate::stored::{StoredNode, StoredValue};
 use byteorder::{ByteOrder, LittleEndian};
 use std::alloc::{AllocError, Global};
@@ -112,9 +111,10 @@ pub fn record_length(children: usize, values: usize) -> usize
 }
 
 /// The length in bytes of the records of the nodes, or the greatest number if they are longer.
-pub fn text_length(nodes: &[BuiltNode<'_>]) -> usize
-    ensures { (es : List Setting) → IsPostOrder es nodes.now
-        → result ≡ min (text_size (tree_of es nodes.now)) (2 ^ 64 - 1) }
+pub fn text_length(nodes: &[StoredNode]) -> usize
+    ensures { (words : List (List ℕ)) (es : List Setting) (ns : List NodeRecord)
+        → IsPostOrder es ns → AreNodes (IsUnder words) nodes.now ns
+        → result ≡ min (text_size (tree_of es ns)) (2 ^ 64 - 1) }
 {
     let mut total = 0usize;
     for node in nodes {

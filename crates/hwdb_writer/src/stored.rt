@@ -1,14 +1,13 @@
-//! Nodes and their values as a database has them, but for offsets: strings have numbers, and records have none yet.
-ghost use Rattle.std.specs.Prelude.{◌≡◌, ◌++◌, ◌∷◌, [], ◌+◌, ◌*◌, ◌^◌, ◌≤◌, ◌<◌, List, OnOk, IfOk, length, map, flat_map};
+//! Closed nodes and their values as a database has them, but for offsets: strings have numbers, and records have none yet.
+ghost use Rattle.std.specs.Prelude.{◌≡◌, ◌++◌, ◌∷◌, [], ◌+◌, ◌≤◌, List, OnOk, IfOk, length, map, flat_map};
 ghost use Rattle.hwdb_spec.specs.Tree.{Value};
-ghost use Rattle.hwdb_spec.specs.Written.{strings_of_value, text_size};
+ghost use Rattle.hwdb_spec.specs.Written.{strings_of_value};
 ghost use Rattle.hwdb_writer.specs.declared.entries.Setting.{Setting as EntryRecord};
-ghost use Rattle.hwdb_writer.specs.Internal.Entries.{value_of, now_of};
-ghost use Rattle.hwdb_writer.specs.Internal.PostOrder.{IsPostOrder, tree_of};
+ghost use Rattle.hwdb_writer.specs.Internal.Entries.{value_of};
 ghost use Rattle.hwdb_writer.specs.Internal.Membership.{SameMembers};
-ghost use Rattle.hwdb_writer.specs.Internal.Stored.{Grows, AreNodes, AreValues, IsUnder, IsValued, IsStored, all_values, prefixes};
+ghost use Rattle.hwdb_writer.specs.Internal.Stored.{Grows, AreValues, IsUnder, AreKept, IsKept};
 
-use crate::entries::Setting;
+use crate::entries::{HeadedEntry, Setting};
 use crate::interner::Interner;
 use crate::keyed::KeyedStr;
 use crate::nodes::BuiltNode;
@@ -34,14 +33,12 @@ pub struct StoredNode {
     pub count: usize,
 }
 
-/// The nodes of a tree, with their strings. The values of all of them one after another, and the strings of the values. The
-/// records have `size` bytes.
+/// The nodes that are closed, the values of all of them one after another, and their strings.
 #[derive(Drop)]
-pub struct StoredValues<'t> {
-    pub nodes: Vec<BuiltNode<'t>>,
+pub struct Closed<'t> {
+    pub nodes: Vec<StoredNode>,
     pub values: Vec<StoredValue>,
     pub interner: Interner<'t>,
-    pub size: usize,
 }
 
 /// The nodes of a tree, the values of all of them one after another, and their strings. The records have `size` bytes.
@@ -68,8 +65,6 @@ fn push_value<'t>(
     interner: &mut Interner<'t>,
     out: &mut Vec<StoredValue>,
 ) -> Result<(), AllocError>
-    requires few { length interner.old + 3 ≤ 2 ^ 32 }
-    ensures few { OnOk result (length interner.new ≤ length interner.old + 3) }
     ensures grows { OnOk result (Grows interner.old interner.new) }
     ensures members { OnOk result (SameMembers interner.new
         (interner.old ++ strings_of_value (value_of entry.now))) }
@@ -94,51 +89,22 @@ fn push_value<'t>(
 
 /// Appends the values of the entries.
 fn push_values<'t>(
-    entries: &[&Setting<'t>],
+    entries: &[HeadedEntry<'_, 't>],
     interner: &mut Interner<'t>,
     out: &mut Vec<StoredValue>,
 ) -> Result<(), AllocError>
-    requires few { length interner.old + 3 * length entries.now ≤ 2 ^ 32 }
-    ensures few { OnOk result
-        (length interner.new ≤ length interner.old + 3 * length entries.now) }
     ensures grows { OnOk result (Grows interner.old interner.new) }
     ensures members { OnOk result (SameMembers interner.new
-        (interner.old ++ flat_map strings_of_value (map value_of (map now_of entries.now)))) }
+        (interner.old ++ flat_map strings_of_value (map value_of entries.now))) }
     ensures values { OnOk result ((xs : List Value)
         → AreValues (IsUnder interner.old) out.old.items xs
         → AreValues (IsUnder interner.new) out.new.items
-        (xs ++ map value_of (map now_of entries.now))) }
+        (xs ++ map value_of entries.now)) }
 {
-    for entry in entries {
-        push_value(entry, interner, out)?;
+    for headed in entries {
+        push_value(headed.entry(), interner, out)?;
     }
     Ok(())
-}
-
-/// The values of the nodes, one node's after another's.
-fn store_values<'t>(
-    alloc: Global,
-    entries: &[&Setting<'t>],
-    nodes: &[BuiltNode<'t>],
-    interner: &mut Interner<'t>,
-) -> Result<Vec<StoredValue>, AllocError>
-    requires order { IsPostOrder (map now_of entries.now) nodes.now }
-    requires few { length interner.old
-        + 3 * length (all_values (map now_of entries.now) nodes.now) ≤ 2 ^ 32 }
-    ensures few { OnOk result (length interner.new ≤ length interner.old
-        + 3 * length (all_values (map now_of entries.now) nodes.now)) }
-    ensures members { OnOk result (SameMembers interner.new
-        (interner.old
-        ++ flat_map strings_of_value (all_values (map now_of entries.now) nodes.now))) }
-    ensures values { IfOk result (λ v. AreValues (IsUnder interner.new) v.items
-        (all_values (map now_of entries.now) nodes.now)) }
-{
-    let mut values = Vec::with_capacity(alloc, entries.len())?;
-    for node in nodes {
-        let own = &entries[node.first..node.first + node.count];
-        push_values(own, interner, &mut values)?;
-    }
-    Ok(values)
 }
 
 /// The number of the last node's string, or 0 if there is none. Many nodes have the string of the node before them.
@@ -149,71 +115,47 @@ fn last_prefix(nodes: &[StoredNode]) -> u32 {
     }
 }
 
-/// The nodes, with their strings by number.
-fn store_nodes<'t>(
-    alloc: Global,
-    nodes: &[BuiltNode<'t>],
-    interner: &mut Interner<'t>,
-) -> Result<Vec<StoredNode>, AllocError>
-    requires few { length interner.old + length nodes.now ≤ 2 ^ 32 }
-    ensures grows { OnOk result (Grows interner.old interner.new) }
-    ensures members { OnOk result (SameMembers interner.new
-        (interner.old ++ prefixes nodes.now)) }
-    ensures nodes { IfOk result (λ v. AreNodes (IsUnder interner.new) v.items
-        nodes.now) }
-{
-    let mut stored = Vec::with_capacity(alloc, nodes.len())?;
-    for node in nodes {
-        let near = last_prefix(&stored);
-        let prefix = interner.intern_near(KeyedStr::new(node.prefix), near)?;
-        stored.push(StoredNode {
+/// For how many nodes of so many entries there is room from the start. At most two come for an entry: the one that is opened
+/// for it, and the rest of one that is cut. In people's files fewer do, and unused room would lie between what is used again.
+fn room_for(entries: usize) -> usize {
+    (entries / 2).saturating_add(entries).saturating_add(1)
+}
+
+impl<'t> Closed<'t> {
+    /// No node, and room for those of so many entries.
+    pub fn new(alloc: Global, entries: usize) -> Result<Closed<'t>, AllocError>
+        ensures { IfOk result (λ closed. (es : List EntryRecord) → AreKept es [] closed) }
+    {
+        let nodes = Vec::with_capacity(alloc, room_for(entries))?;
+        let values = Vec::with_capacity(alloc, entries)?;
+        // Most keys and paths come again, and so does the string of many a node.
+        let interner = Interner::new(alloc, entries, entries.saturating_mul(2))?;
+        Ok(Closed {
+            nodes,
+            values,
+            interner,
+        })
+    }
+
+    /// Adds a node, with its values among the entries.
+    pub fn push(
+        &mut self,
+        node: BuiltNode<'t>,
+        entries: &[HeadedEntry<'_, 't>],
+    ) -> Result<(), AllocError>
+        requires { node.first + node.count ≤ length entries.now }
+        ensures { OnOk result (IsKept entries.now node.entry self.old self.new) }
+    {
+        let near = last_prefix(&self.nodes);
+        let prefix = self.interner.intern_near(KeyedStr::new(node.prefix), near)?;
+        let own = &entries[node.first..node.first + node.count];
+        push_values(own, &mut self.interner, &mut self.values)?;
+        self.nodes.push(StoredNode {
             byte: node.byte,
             prefix,
             count: node.count,
             children: node.children,
         })?;
+        Ok(())
     }
-    Ok(stored)
-}
-
-/// The nodes, each after its children, and the values that they have among the entries. Each string of these is looked
-/// up once. The records have `size` bytes, which bounds how many strings there are.
-pub fn with_values<'t>(
-    alloc: Global,
-    entries: &[&Setting<'t>],
-    nodes: Vec<BuiltNode<'t>>,
-    size: usize,
-) -> Result<StoredValues<'t>, AllocError>
-    requires order { IsPostOrder (map now_of entries.now) nodes.items }
-    requires sized { size ≡ text_size (tree_of (map now_of entries.now) nodes.items) }
-    requires within { size < 2 ^ 32 }
-    ensures { IfOk result (λ s. (s.nodes.items ≡ nodes.entry.items)
-        × IsValued (map now_of entries.now) s) }
-{
-    // Most keys and paths come again, and so does the string of many a node.
-    let looked_up = entries.len().saturating_add(nodes.len());
-    let mut interner = Interner::new(alloc, nodes.len(), looked_up)?;
-    let values = store_values(alloc, entries, &nodes, &mut interner)?;
-    Ok(StoredValues {
-        nodes,
-        values,
-        interner,
-        size,
-    })
-}
-
-/// The nodes, with their strings by number too. Each of these is looked up once.
-pub fn store(alloc: Global, half: StoredValues<'_>) -> Result<Stored<'_>, AllocError>
-    requires { (es : List EntryRecord) × IsValued es half }
-    ensures { IfOk result (λ s. (es : List EntryRecord) → IsValued es half.entry
-        → IsStored es half.entry.nodes.items s) }
-{
-    let mut interner = half.interner;
-    let nodes = store_nodes(alloc, &half.nodes, &mut interner)?;
-    Ok(Stored {
-        nodes,
-        values: half.values,
-        interner,
-        size: half.size,
-    })
 }

@@ -8,7 +8,9 @@ use Rattle.hwdb_writer.specs.Internal.Storable.{IsStorable, IsSound}
 use Rattle.hwdb_writer.specs.Internal.Entries.{placed, by_place, IsStorableEntry}
 use Rattle.hwdb_writer.specs.Internal.PostOrder.{Sub, children_in, values_at, trees_after, AreWhole, IsPostOrder, tree_of}
 use Rattle.hwdb_writer.specs.declared.entries.Setting.{Setting}
+use Rattle.hwdb_writer.specs.Internal.Stored.{AreKept, IsKept}
 use Rattle.hwdb_writer.specs.declared.nodes.BuiltNode.{BuiltNode}
+use Rattle.hwdb_writer.specs.declared.stored.Closed.{Closed}
 use Rattle.hwdb_writer.specs.declared.builder.OpenBranch.{OpenBranch}
 use Rattle.hwdb_writer.specs.declared.builder.Builder.{Builder}
 
@@ -90,8 +92,12 @@ opens b = b.top ∷ reverse b.above.items
 
 -- the builder's nodes are those of the frames
 pub record IsOpen (es : List Setting) (b : Builder) (fs : List Frame) : Type 0 where
-  pub whole : AreWhole es [] b.closed.items
-  pub trees : trees_after es [] b.closed.items ≡ stack fs
+  pub entries : b.entries.now ≡ es
+  -- the nodes that are closed
+  pub closed : List BuiltNode
+  pub kept : AreKept es closed b.closed
+  pub whole : AreWhole es [] closed
+  pub trees : trees_after es [] closed ≡ stack fs
   pub standing : AreStanding es (opens b) fs
   pub spine : IsSpine fs
 
@@ -154,7 +160,8 @@ one_more o = record {
 
 -- the top node is closed
 pub record Closes (old new : Builder) : Type 0 where
-  pub closed : new.closed.items ≡ old.closed.items ++ old.top.node ∷ []
+  pub entries : new.entries ≡ old.entries
+  pub closed : IsKept old.entries.now old.top.node old.closed new.closed
   pub parent : (above : List OpenBranch) (g : OpenBranch) → old.above.items ≡ above ++ g ∷ [] → (new.above.items ≡ above) × (new.top ≡ one_more g)
   pub path : new.path ≡ old.path
 
@@ -176,8 +183,9 @@ pub record IsFront (front : ℕ) (whole left : BuiltNode) : Type 0 where
 
 -- the top node is cut after so many bytes of its path
 pub record Cuts (at : ℕ) (old new : Builder) : Type 0 where
+  pub entries : new.entries ≡ old.entries
   pub back : BuiltNode
-  pub closed : new.closed.items ≡ old.closed.items ++ back ∷ []
+  pub closed : IsKept old.entries.now back old.closed new.closed
   pub is_back : IsBack (length old.top.node.prefix.now - (old.top.end - at)) old.top.node back
   pub is_front : IsFront (length old.top.node.prefix.now - (old.top.end - at)) old.top.node new.top.node
   pub end : new.top.end ≡ at
@@ -186,7 +194,8 @@ pub record Cuts (at : ℕ) (old new : Builder) : Type 0 where
 
 -- a node is opened below the top node
 pub record Opens (pattern : List ℕ) (number : ℕ) (old new : Builder) : Type 0 where
-  pub closed : new.closed.items ≡ old.closed.items
+  pub entries : new.entries ≡ old.entries
+  pub closed : new.closed ≡ old.closed
   pub above : new.above.items ≡ old.above.items ++ old.top ∷ []
   pub path : new.path.now ≡ pattern
   pub end : new.top.end ≡ length pattern
@@ -198,7 +207,8 @@ pub record Opens (pattern : List ℕ) (number : ℕ) (old new : Builder) : Type 
 
 -- the builder with one more value of its top node
 pub record Counts (old new : Builder) : Type 0 where
-  pub closed : new.closed.items ≡ old.closed.items
+  pub entries : new.entries ≡ old.entries
+  pub closed : new.closed ≡ old.closed
   pub above : new.above.items ≡ old.above.items
   pub path : new.path ≡ old.path
   pub end : new.top.end ≡ old.top.end
@@ -215,8 +225,10 @@ pub record IsNext (es : List Setting) (n : ℕ) (e : Setting) : Type 0 where
   pub storable : IsStorableEntry e
   pub above : (before : List Setting) (d : Setting) → take n es ≡ before ++ d ∷ [] → by_place d e ≡ Less
 
--- the nodes are those of a tree that can be stored, with the values of the frames
-pub record IsFinished (es : List Setting) (fs : List Frame) (nodes : List BuiltNode) : Type 0 where
+-- the closed nodes are those of a tree that can be stored, with the values of the frames
+pub record IsFinished (es : List Setting) (fs : List Frame) (c : Closed) : Type 0 where
+  pub nodes : List BuiltNode
+  pub kept : AreKept es nodes c
   pub order : IsPostOrder es nodes
   pub sound : IsSound (tree_of es nodes)
   pub values : values_under [] (tree_of es nodes) ≡ spine_values fs

@@ -1,20 +1,21 @@
 -- Nodes and values with strings by number, and which nodes and values these are.
-use Rattle.std.specs.Prelude.{List, [], ℕ, ◌+◌, ◌++◌, ◌∷◌, ◌^◌, ◌<◌, ◌≤◌, ◌≡◌, length, map, flat_map, slice_index_or}
+use Rattle.std.specs.Prelude.{List, [], ℕ, ◌+◌, ◌++◌, ◌∷◌, ◌^◌, ◌<◌, ◌≡◌, length, map, flat_map, slice_index_or}
 use Rattle.byteorder.specs.Endian.{little_bytes}
 use Rattle.std.specs.List.{AllZip}
 use Rattle.hwdb_spec.specs.Assignment.{ascending}
-use Rattle.hwdb_spec.specs.Tree.{Map, Tree, Value, map_of}
-use Rattle.hwdb_spec.specs.Written.{padding, table_of, text_size, section_of, place_of, value_text, strings_of_value}
+use Rattle.hwdb_spec.specs.Tree.{Map, Tree, Value, map_of, values_under}
+use Rattle.hwdb_spec.specs.Written.{padding, table_of, text_size, section_of, place_of, value_text, strings_below, strings_of_value}
 use Rattle.hwdb_writer.specs.Internal.Narrow.{IsNarrow}
 use Rattle.hwdb_writer.specs.Internal.Membership.{SameMembers}
-use Rattle.hwdb_writer.specs.Internal.PostOrder.{IsPostOrder, tree_of, values_at}
+use Rattle.hwdb_writer.specs.Internal.PostOrder.{IsPostOrder, children_in, tree_of, trees_after, values_at}
+use Rattle.hwdb_writer.specs.Internal.Entries.{placed}
 use Rattle.hwdb_writer.specs.Internal.Storable.{IsSound}
 use Rattle.hwdb_writer.specs.declared.entries.Setting.{Setting}
 use Rattle.hwdb_writer.specs.declared.nodes.BuiltNode.{BuiltNode}
+use Rattle.hwdb_writer.specs.declared.stored.Closed.{Closed}
 use Rattle.hwdb_writer.specs.declared.stored.Stored.{Stored}
 use Rattle.hwdb_writer.specs.declared.stored.StoredNode.{StoredNode}
 use Rattle.hwdb_writer.specs.declared.stored.StoredValue.{StoredValue}
-use Rattle.hwdb_writer.specs.declared.stored.StoredValues.{StoredValues}
 
 -- the string has the number
 pub record IsUnder (words : List (List ℕ)) (number : ℕ) (s : List ℕ) : Type 0 where
@@ -55,17 +56,25 @@ AreNodes By = AllZip (IsNode By)
 abbrev pub all_values : List Setting → List BuiltNode → List Value
 all_values es ns = flat_map (values_at es) ns
 
--- the strings of the nodes
-abbrev pub prefixes : List BuiltNode → List (List ℕ)
-prefixes = map (λ (n : BuiltNode). n.prefix.now)
+-- the nodes are closed: with their strings by number, their values, and no string but theirs and the empty one
+pub record AreKept (es : List Setting) (ns : List BuiltNode) (c : Closed) : Type 0 where
+  pub nodes : AreNodes (IsUnder c.interner) c.nodes.items ns
+  pub values : AreValues (IsUnder c.interner) c.values.items (all_values es ns)
+  pub members : SameMembers c.interner (([] ∷ []) ++ strings_below (children_in (trees_after es [] ns)))
 
--- the nodes of entries, their values, and the strings of the values after the empty string
-pub record IsValued (es : List Setting) (s : StoredValues) : Type 0 where
-  pub order : IsPostOrder es s.nodes.items
-  pub values : AreValues (IsUnder s.interner) s.values.items (all_values es s.nodes.items)
-  pub members : SameMembers s.interner (([] ∷ []) ++ flat_map strings_of_value (all_values es s.nodes.items))
-  pub sized : s.size ≡ text_size (tree_of es s.nodes.items)
-  pub few : length s.interner + length s.nodes.items ≤ 2 ^ 32
+-- one more node is closed
+pub record IsKept (es : List Setting) (n : BuiltNode) (old new : Closed) : Type 0 where
+  pub nodes : (ns : List BuiltNode) → AreNodes (IsUnder old.interner) old.nodes.items ns → AreNodes (IsUnder new.interner) new.nodes.items (ns ++ n ∷ [])
+  pub values : (xs : List Value) → AreValues (IsUnder old.interner) old.values.items xs → AreValues (IsUnder new.interner) new.values.items (xs ++ values_at es n)
+  pub members : SameMembers new.interner (old.interner ++ n.prefix.now ∷ flat_map strings_of_value (values_at es n))
+
+-- the closed nodes are those of a sound tree with the values of the entries
+pub record IsTreeOf (es : List Setting) (c : Closed) : Type 0 where
+  pub ns : List BuiltNode
+  pub kept : AreKept es ns c
+  pub order : IsPostOrder es ns
+  pub sound : IsSound (tree_of es ns)
+  pub values : values_under [] (tree_of es ns) ≡ map placed es
 
 -- the nodes and values of entries, and their strings
 pub record IsStored (es : List Setting) (ns : List BuiltNode) (s : Stored) : Type 0 where

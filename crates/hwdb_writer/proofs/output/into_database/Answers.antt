@@ -1,4 +1,4 @@
-use Rattle.std.proofs.Common.{◌<◌, ◌^◌, length, refl, sym, subst, arith, List, ℕ}
+use Rattle.std.proofs.Common.{◌<◌, ◌^◌, ◌∙◌, length, refl, sym, subst, arith, List, ℕ}
 use Rattle.hwdb_spec.specs.Format.{IsDatabase}
 use Rattle.hwdb_spec.specs.Written.{written}
 use Rattle.hwdb_writer.specs.Internal.PostOrder.{tree_of}
@@ -17,7 +17,7 @@ returns-in-Some-clause-written c =
     let made = c.in_ok-stored.ensures.stored.3 in
     let narrow = sound_narrow t made.sound in
     let e = rw c.in-Some.is at (c.in_ok-bytes.ensures c.in_ok-stored.ensures.stored.0 c.in_ok-stored.ensures.stored.1 c.in_ok-stored.ensures.stored.2 narrow) in
-    (t, sound_tight c.args.tree t made.sound made.same, e.0)
+    (t, sound_tight c.args.tree t made.sound (made.same ∙ c.tree.view_is), e.0)
 
 pub returns-in-Some-clause-database : goal.returns-in-Some-clause-database
 returns-in-Some-clause-database c =
@@ -27,7 +27,7 @@ returns-in-Some-clause-database c =
     let e = rw c.in-Some.is at (c.in_ok-bytes.ensures c.in_ok-stored.ensures.stored.0 c.in_ok-stored.ensures.stored.1 c.in_ok-stored.ensures.stored.2 narrow) in
     let few : length (written t) < 2 ^ 64 = omega (arith, e.1, c.ranges.max_bytes.fits) in
     let P : List ℕ → Type 0 = λ bytes. IsDatabase bytes t in
-    (t, subst P (sym e.0) (is_database t made.sound few), made.same)
+    (t, subst P (sym e.0) (is_database t made.sound few), made.same ∙ c.tree.view_is)
 
 pub returns-in-Some-clause-within : goal.returns-in-Some-clause-within
 returns-in-Some-clause-within c =
@@ -43,4 +43,4 @@ returns-in-None-clause-too_large c w =
     let made = c.in_ok-stored.ensures.stored.3 in
     let narrow = sound_narrow t made.sound in
     let e = rw c.in-None.is at (c.in_ok-bytes.ensures c.in_ok-stored.ensures.stored.0 c.in_ok-stored.ensures.stored.1 c.in_ok-stored.ensures.stored.2 narrow) in
-    (written t, (t, sound_tight c.args.tree t made.sound made.same, refl), e)
+    (written t, (t, sound_tight c.args.tree t made.sound (made.same ∙ c.tree.view_is), refl), e)

@@ -13,6 +13,13 @@ add_value-requires c =
       | else-at-pattern w ↦ let k = ap (λ (b : Builder). b.top.node.count) w.self-is in let n = c.requires.next.3.counted in omega (arith, k, n, fits)
     ]
 
+pub open-requires : goal.open-requires
+open-requires c =
+    let k = c.requires.next in
+    let closable : IsClosable k.0 c.args.self.now k.1 = record { nodes = k.3.nodes; forked = k.3.forked } in
+    let t = c.in_ok-close_to.ensures k.0 k.1 closable in
+    omega (arith, t.1.end, c.if-at-pattern.true)
+
 pub returns : goal.returns
 returns c = λ es fs e built next same.
     let meet : MeetAt c.common-at.result c.args.self.now.path.now e.pattern.now = subst (MeetAt c.common-at.result c.args.self.now.path.now) (sym same) c.common-at.ensures.meeting in
