@@ -393,9 +393,6 @@ module _ (es : List Setting) (ns : List NodeRecord) (p : IsPostOrder es ns) (i :
   pub size_end : texts_size (children_in (trees_at es ns i)) ≡ text_size (tree_of es ns)
   size_end = ap (λ l. texts_size (children_in l)) all_trees ∙ one_size _ p.one
 
-  pub strings_end : strings_below (children_in (trees_at es ns i)) ≡ strings_of (tree_of es ns)
-  strings_end = ap (λ l. strings_below (children_in l)) all_trees ∙ one_strings _ p.one
-
   pub texts_end : (place : List ℕ → ℕ) (at : ℕ) → nodes_text place at (children_in (trees_at es ns i)) ≡ node_text place at (tree_of es ns)
   texts_end place at = ap (λ l. nodes_text place at (children_in l)) all_trees ∙ one_text place at _ p.one
 

@@ -112,11 +112,6 @@ values_left es ns i d lt =
     let rest : drop i ns ≡ get_or ns i d ∷ drop (i + 1) ns = rw (add-one) (drop-cons ns i d lt) in
     ap (all_values es) rest
 
--- the string that was found under the number
-pub found_under : (words known : List (List ℕ)) (n : ℕ) (s : List ℕ) → known ≡ words → n < length known → get_or known n [] ≡ s → IsUnder words n s
-found_under words known n s e lt is =
-    subst (λ (ws : List (List ℕ)). IsUnder ws n s) e (record { known = lt; is = is })
-
 -- a string that has a number comes again
 pub again : (words : List (List ℕ)) (n : ℕ) (s : List ℕ) → IsUnder words n s → SameMembers words (words ++ s ∷ [])
 again words n s u = same_known words words n [] s refl u.known u.is

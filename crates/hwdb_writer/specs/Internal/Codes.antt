@@ -22,8 +22,5 @@ value_code =
     code_by (((ℕ × ℕ) × List ℕ) × (List ℕ × List ℕ)) (coded× (coded× (coded× coded_ℕ coded_ℕ) coded_bytes) (coded× coded_bytes coded_bytes)) (λ v. (((v.priority, v.line), v.key), (v.value, v.path)))
     (λ p. record { priority = p.0.0.0; line = p.0.0.1; key = p.0.1; value = p.1.0; path = p.1.1 }) (λ _. refl)
 
-abbrev pub values_code : Coded (List Value)
-values_code = coded_list value_code
-
 abbrev pub map_code : Coded Map
 map_code = finite.code (coded× coded_bytes coded_bytes) assignment_code

@@ -47,10 +47,6 @@ coded_entry =
     code_by (((Bor (List ℕ) × Bor (List ℕ)) × (Bor (List ℕ) × Bor (List ℕ))) × (ℕ × ℕ)) (coded× (coded× (coded× coded_ref coded_ref) (coded× coded_ref coded_ref)) (coded× coded_ℕ coded_ℕ))
     (λ e. (((e.pattern, e.key), (e.value, e.path)), (e.line, e.priority))) (λ p. record { pattern = p.0.0.0; key = p.0.0.1; value = p.0.1.0; path = p.0.1.1; line = p.1.0; priority = p.1.1 }) (λ _. refl)
 
--- the entry that a reference is to
-abbrev pub now_of : Bor Setting → Setting
-now_of r = r.now
-
 -- a tree can hold it
 pub record IsStorableEntry (e : Setting) : Type 0 where
   pub text : IsText e.pattern.now
