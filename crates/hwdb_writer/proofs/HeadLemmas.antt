@@ -1,5 +1,5 @@
 -- Strings are compared as their first bytes are, as a number, if these differ.
-use Rattle.std.proofs.Common.{◌≡◌, ◌<◌, ◌≤◌, ℕ, zero, suc, ◌+◌, ◌*◌, ◌^◌, List, [], ◌∷◌, length, get_or, refl, sym, ◌∙◌, ap, subst, arith, Ordering}
+use Rattle.std.proofs.Common.{◌≡◌, ◌<◌, ◌≤◌, ℕ, zero, suc, ◌+◌, ◌*◌, ◌^◌, List, [], ◌∷◌, length, drop, get_or, refl, sym, ◌∙◌, ap, subst, arith, Ordering}
 use Rattle.std.specs.declared.cmp.Ordering.TheVariants.{Less, Equal, Greater}
 use Rattle.std.specs.Ordering.{MatchOrdering, nat_cmp, ordering_then, ordering_reverse}
 use Rattle.std.specs.Cmp.Lexicographic.{slice_cmp, nat_list_cmp_total}
@@ -7,6 +7,7 @@ use Rattle.std.specs.Cmp.{nat_cmp_is}
 use Rattle.std.proofs.lemmas.Cmp.{ranked, tied_itself, nat_cmp_total}
 use Rattle.std.proofs.lemmas.Nat.{row_fits}
 use Rattle.byteorder.specs.Endian.{big_from, big_number}
+use Rattle.hwdb_writer.specs.Internal.Keyed.{AreHeads}
 use Rattle.byteorder.specs.Numbers.{big_from-cons, big_from-lt}
 
 abbrev pub AreBytes : List ℕ → Type 0
@@ -89,3 +90,22 @@ by_length (suc n) (x ∷ xs) (y ∷ ys) a b l m e =
 
 pub same_head : (h k : ℕ) (xs ys : List ℕ) → h ≡ big_number 8 xs → k ≡ big_number 8 ys → AreBytes xs → AreBytes ys → h ≡ k → length xs ≤ 8 → length ys ≤ 8 → nat_cmp (length xs) (length ys) ≡ slice_cmp nat_cmp xs ys
 same_head h k xs ys e f a b same l m = sym (nat_cmp_is (length xs) (length ys) (slice_cmp nat_cmp xs ys) (by_length 8 xs ys a b l m (sym e ∙ same ∙ f)))
+
+-- strings whose first bytes are one number are compared as those after them are
+same_then_less : (n m : ℕ) (xs ys : List ℕ) → AreBytes xs → AreBytes ys → big_from 0 n xs ≡ big_from 0 n ys → big_from 0 m (drop n xs) < big_from 0 m (drop n ys) → slice_cmp nat_cmp xs ys ≡ Less
+same_then_less zero m xs ys a b e lt = less m xs ys a b lt
+same_then_less (suc n) m [] [] a b e lt = absurd (omega (arith, lt))
+same_then_less (suc n) m [] (y ∷ ys) a b e lt = refl
+same_then_less (suc n) m (x ∷ xs) [] a b e lt = absurd (omega (arith, lt, none 0 m))
+same_then_less (suc n) m (x ∷ xs) (y ∷ ys) a b e lt =
+    let same = same_first n x y xs ys a b e (nat_cmp x y) (ranked x y (nat_cmp x y) refl) in
+    let tied : nat_cmp x y ≡ Equal = ap (nat_cmp x) (sym same) ∙ tied_itself nat_cmp_total x in
+    ap (λ r. ordering_then r (slice_cmp nat_cmp xs ys)) tied ∙ same_then_less n m xs ys (behind x xs a) (behind y ys b) (same_behind n x y xs ys same e) lt
+
+pub less_next : (h k i j : ℕ) (xs ys : List ℕ) → AreHeads h i xs → AreHeads k j ys → h ≡ k → i < j → Less ≡ slice_cmp nat_cmp xs ys
+less_next h k i j xs ys a b e lt =
+    sym (same_then_less 8 8 xs ys a.first.bytes b.first.bytes (sym a.first.is ∙ e ∙ b.first.is) (omega (arith, a.second, b.second, lt)))
+
+pub greater_next : (h k i j : ℕ) (xs ys : List ℕ) → AreHeads h i xs → AreHeads k j ys → h ≡ k → j < i → Greater ≡ slice_cmp nat_cmp xs ys
+greater_next h k i j xs ys a b e lt =
+    ap ordering_reverse (less_next k h j i ys xs b a (sym e) lt) ∙ sym (nat_list_cmp_total.antisymm xs ys)

@@ -8,7 +8,7 @@ ghost use Rattle.std.specs.FinMap.{from_entries};
 ghost use Rattle.hwdb_writer.specs.Internal.Entries.{by_place, by_place_total, assignment_of, IsStorableEntry};
 ghost use Rattle.std.specs.List.{AllByRecursion};
 
-use crate::keyed::head_of;
+use crate::keyed::{head_of, next_of};
 use std::alloc::{AllocError, Global};
 use std::cmp::Ordering;
 use std::marker::Model;
@@ -67,18 +67,19 @@ impl<'t> Ord for Setting<'t> {
     }
 }
 
-/// A reference to an entry, and the first eight bytes of its pattern as a number. Most comparisons of entries of two files are
-/// decided by that number, without a look at the entry and its pattern.
+/// A reference to an entry, and the first eight bytes of its pattern and the next eight as numbers. Most comparisons of entries
+/// of two files are decided by these, without a look at the entry and its pattern.
 #[derive(Drop)]
 pub struct HeadedEntry<'s, 't> {
     head: u64,
+    next: u64,
     entry: &'s Setting<'t>,
 }
 
 impl<'s, 't> Model for HeadedEntry<'s, 't> {
     ghost use Rattle.hwdb_writer.specs.declared.entries.Setting.{Setting as EntryRecord};
     ghost use Rattle.hwdb_writer.specs.Internal.Entries.{coded_entry};
-    ghost use Rattle.hwdb_writer.specs.Internal.Keyed.{IsHeaded};
+    ghost use Rattle.hwdb_writer.specs.Internal.Keyed.{AreHeads};
 
     ghost Value = { EntryRecord };
 
@@ -86,7 +87,7 @@ impl<'s, 't> Model for HeadedEntry<'s, 't> {
 
     ghost view = { λ h. h.entry.now };
 
-    ghost invariant = { λ h. IsHeaded h.head h.entry.now.pattern.now };
+    ghost invariant = { λ h. AreHeads h.head h.next h.entry.now.pattern.now };
 }
 
 impl<'s, 't> HeadedEntry<'s, 't> {
@@ -95,6 +96,7 @@ impl<'s, 't> HeadedEntry<'s, 't> {
     {
         HeadedEntry {
             head: head_of(entry.pattern),
+            next: next_of(entry.pattern),
             entry,
         }
     }
@@ -145,6 +147,12 @@ impl<'s, 't> Ord for HeadedEntry<'s, 't> {
             return Ordering::Less;
         }
         if self.head > other.head {
+            return Ordering::Greater;
+        }
+        if self.next < other.next {
+            return Ordering::Less;
+        }
+        if self.next > other.next {
             return Ordering::Greater;
         }
         self.entry.cmp(other.entry)

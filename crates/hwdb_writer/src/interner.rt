@@ -10,6 +10,7 @@ ghost use Rattle.hwdb_writer.specs.Internal.Stored.{Grows, IsUnder};
 ghost use Rattle.hwdb_writer.specs.Internal.Numbered.{texts, IsNumbered};
 
 use crate::keyed::KeyedStr;
+use crate::memory::narrow;
 use crate::registry::Registry;
 use std::alloc::{AllocError, Global};
 use std::marker::Model;
@@ -73,19 +74,13 @@ impl<'t> Interner<'t> {
     }
 
     /// Adds the string, and remembers it. Returns its number.
-    ///
-    /// Numbers have 4 bytes. A string for which none is left counts as want of memory: those before it have 137 GB of it.
     fn add(&mut self, word: KeyedStr<'t>) -> Result<u32, AllocError>
         ensures grows { OnOk result (Grows self.old self.new) }
         ensures members { OnOk result (SameMembers self.new
             (self.old ++ word.entry.word ∷ [])) }
         ensures number { IfOk result (λ n. IsUnder self.new n word.entry.word) }
     {
-        let count = self.words.as_slice().len();
-        if count > u32::MAX as usize {
-            return Err(AllocError);
-        }
-        let number = count as u32;
+        let number = narrow(self.words.as_slice().len())?;
         self.registry.remember(&word, number);
         self.words.push(word.numbered(number))?;
         Ok(number)

@@ -3,7 +3,7 @@
 //!
 //! Most comparisons of a sort are decided by that number, without a look at the text, which is elsewhere in memory. A
 //! key is stored with a space before it. It is kept as the text and a mark, so that no copy with a space is made.
-ghost use Rattle.std.specs.Prelude.{◌≡◌, ◌∷◌, ◌++◌, ◌-◌, ◌^◌, ◌<◌, List, ℕ, Some, get_or, OnOk, length, min, nat_eq, refl};
+ghost use Rattle.std.specs.Prelude.{◌≡◌, ◌∷◌, ◌++◌, ◌-◌, ◌^◌, ◌<◌, List, ℕ, Some, drop, get_or, OnOk, length, min, nat_eq, refl};
 ghost use Rattle.std.specs.Bool.{OnTrue};
 ghost use Rattle.std.specs.Ordering.{nat_cmp, on};
 ghost use Rattle.std.specs.Cmp.{on_equiv, on_po, on_total, partial_equiv_from_equiv};
@@ -54,6 +54,16 @@ pub fn head_of(text: &[u8]) -> u64
     let mut bytes = [0; HEAD];
     bytes[..text.len()].copy_from_slice(text);
     BigEndian::read_u64(&bytes)
+}
+
+/// As `head_of`, of what comes after the first eight bytes.
+pub fn next_of(text: &[u8]) -> u64
+    ensures { result ≡ big_number 8 (drop 8 text.now) }
+{
+    if text.len() <= HEAD {
+        return 0;
+    }
+    head_of(&text[HEAD..])
 }
 
 /// What a space counts as the first of eight bytes.

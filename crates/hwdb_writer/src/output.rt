@@ -49,7 +49,8 @@ fn root_place(nodes: &[StoredNode], size: usize) -> usize
         → size ≡ text_size (tree_of es ns) → result ≡ record_at 80 (tree_of es ns) }
 {
     match nodes.last() {
-        Some(root) => HEADER_SIZE + size - record_length(root.children as usize, root.count),
+        Some(root) => HEADER_SIZE + size
+            - record_length(root.children as usize, root.count as usize),
         None => HEADER_SIZE,
     }
 }

@@ -118,7 +118,7 @@ pub fn text_length(nodes: &[StoredNode]) -> usize
 {
     let mut total = 0usize;
     for node in nodes {
-        total = total.saturating_add(record_length(node.children as usize, node.count));
+        total = total.saturating_add(record_length(node.children as usize, node.count as usize));
     }
     total
 }
@@ -279,7 +279,7 @@ pub fn push_records(
     let mut children = Vec::new(alloc);
     let mut rest = values;
     for node in nodes {
-        let (own, behind) = rest.split_at(node.count);
+        let (own, behind) = rest.split_at(node.count as usize);
         push_record(node, own, places, &mut children, out)?;
         rest = behind;
     }

@@ -10,6 +10,7 @@ ghost use Rattle.hwdb_writer.specs.Internal.Stored.{Grows, AreValues, IsUnder, A
 use crate::entries::{HeadedEntry, Setting};
 use crate::interner::Interner;
 use crate::keyed::KeyedStr;
+use crate::memory::narrow;
 use crate::nodes::BuiltNode;
 use std::alloc::{AllocError, Global};
 
@@ -30,7 +31,7 @@ pub struct StoredNode {
     pub byte: u8,
     pub children: u16,
     pub prefix: u32,
-    pub count: usize,
+    pub count: u32,
 }
 
 /// The nodes that are closed, the values of all of them one after another, and their strings.
@@ -146,6 +147,7 @@ impl<'t> Closed<'t> {
         requires { node.first + node.count ≤ length entries.now }
         ensures { OnOk result (IsKept entries.now node.entry self.old self.new) }
     {
+        let count = narrow(node.count)?;
         let near = last_prefix(&self.nodes);
         let prefix = self.interner.intern_near(KeyedStr::new(node.prefix), near)?;
         let own = &entries[node.first..node.first + node.count];
@@ -153,7 +155,7 @@ impl<'t> Closed<'t> {
         self.nodes.push(StoredNode {
             byte: node.byte,
             prefix,
-            count: node.count,
+            count,
             children: node.children,
         })?;
         Ok(())

@@ -27,7 +27,7 @@ returns c =
           let new : IsNode (IsUnder words) _ n = record {
             prefix = under_same words _ _ _ c.new.ensures.word (c.in_ok-push_values.ensures.grows _ _ c.in_ok-prefix.ensures.number);
             byte = refl;
-            count = refl;
+            count = c.in_ok-count.ensures;
             children = refl;
           } in
           subst (λ (l : List StoredNode). AreNodes (IsUnder words) l (ns ++ n ∷ [])) (sym c.in_ok-push.ensures.items) (pairs_one (IsNode (IsUnder words)) c.args.self.now.nodes.items ns _ n grown new);
