@@ -18,7 +18,7 @@ use Rattle.hwdb_writer.specs.declared.entries.Setting.{Setting}
 use Rattle.hwdb_writer.specs.declared.nodes.BuiltNode.{BuiltNode as NodeRecord}
 use Rattle.hwdb_writer.specs.declared.builder.OpenBranch.{OpenBranch}
 use Rattle.hwdb_writer.specs.declared.builder.Builder.{Builder}
-use Rattle.hwdb_writer.specs.declared.stored.Closed.{Closed}
+use Rattle.hwdb_writer.specs.declared.stored.Stored.{Stored}
 use Rattle.hwdb_writer.specs.Internal.Stored.{AreKept, IsKept}
 use Rattle.hwdb_writer.proofs.SpineLemmas.{append_none, leaf, open_values, open_spine, with_value, Ends, before_it, value_spine, value_values, length-under}
 use Rattle.hwdb_writer.proofs.OpenLemmas.{enough, grown, kept_more, open_open, lowest, lowest_end, above_it}
@@ -303,7 +303,7 @@ module _ (es : List Setting) (n : ℕ) (e : Setting) (next : IsNext es n e) wher
         (open_values b rest l.f l.rest ∙ ap spine_values (sym l.is) ∙ closed.closed.values ∙ built.values) opens_it.path counts
 
 -- the root is closed
-root_finished : (es : List Setting) (old new : Builder) (fs : List Frame) (f : Frame) (c : Closed) → IsClosedTo es 0 old new fs (f ∷ []) → IsKept new.entries.now new.top.node new.closed c → IsFinished es fs c
+root_finished : (es : List Setting) (old new : Builder) (fs : List Frame) (f : Frame) (c : Stored) → IsClosedTo es 0 old new fs (f ∷ []) → IsKept new.entries.now new.top.node new.closed c → IsFinished es fs c
 unfolding stack under IsSpine spine_values prefix_of
 root_finished es old new fs f c is more =
     let s = is.nodes.standing.0 in
@@ -314,14 +314,14 @@ root_finished es old new fs f c is more =
     let spine = is.nodes.spine in
     record {
       nodes = nodes;
-      kept = kept_more es new.entries.now ns new.top.node new.closed c is.nodes.entries is.nodes.kept more (enough es (trees_after es [] ns) [] f.done new.top.node is.nodes.trees s.children);
+      kept = kept_more es new.entries.now ns new.top.node new.closed c is.nodes.entries is.nodes.kept more (enough es (trees_after es [] ns) [] f.done new.top.node is.nodes.trees s.children) s.in_range;
       order = record { whole = k.whole; one = ap length k.trees };
       sound = subst IsSound (sym tree) (record { ordered = spine.0; root = spine.2; storable = spine.1 });
       values = ap (values_under []) tree ∙ is.closed.values;
     }
 
 -- all is closed
-pub finished : (es : List Setting) (old new : Builder) (fs gs : List Frame) (c : Closed) → IsClosedTo es 0 old new fs gs → IsKept new.entries.now new.top.node new.closed c → IsFinished es fs c
+pub finished : (es : List Setting) (old new : Builder) (fs gs : List Frame) (c : Stored) → IsClosedTo es 0 old new fs gs → IsKept new.entries.now new.top.node new.closed c → IsFinished es fs c
 finished es old new fs [] c is more = absurd is.nodes.standing
 finished es old new fs (f ∷ g ∷ hs) c is more =
     let n = sym is.end ∙ lowest_end es new (f ∷ g ∷ hs) is.nodes ∙ length-append (under (g ∷ hs) f.byte) f.prefix in

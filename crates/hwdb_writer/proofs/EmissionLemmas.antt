@@ -1,5 +1,5 @@
 -- The steps of the functions that go over the nodes of a tree.
-use Rattle.std.proofs.Common.{◌≡◌, ◌≤◌, ◌<◌, ℕ, zero, suc, ◌+◌, ◌-◌, ◌*◌, ◌^◌, List, [], ◌∷◌, ◌++◌, map, length, get_or, take, drop, min, refl, sym, ◌∙◌, ap, subst, arith, add-one, length-append, length-drop, append_assoc}
+use Rattle.std.proofs.Common.{◌≡◌, ◌≤◌, ◌<◌, ℕ, zero, suc, ◌+◌, ◌-◌, ◌*◌, ◌^◌, List, [], ◌∷◌, ◌++◌, map, length, get_or, take, drop, refl, sym, ◌∙◌, ap, subst, arith, add-one, length-append, length-drop, append_assoc}
 use Rattle.std.proofs.Math.Seq.{drop-cons, take-append_seam, drop-append_seam}
 use Rattle.std.proofs.lemmas.List.{drop_all, length-map, take_all, take-append-drop, length-take-le, get_or_default}
 use Rattle.std.specs.Prelude.{flat_map}
@@ -361,12 +361,6 @@ module _ (es : List Setting) (ns : List NodeRecord) (p : IsPostOrder es ns) (i :
   pub few_here : IsNarrow (tree_of es ns) → node.children < 256
   few_here h = few_at es ns p h i node is_there lt
 
-  pub size_step : (total one next : ℕ) → total ≡ min (texts_size (children_in trees)) M → one ≡ min (24 + 16 * node.children + 32 * node.count) M → next ≡ min (total + one) M →
-      next ≡ min (texts_size (children_in (trees_at es ns (i + 1)))) M
-  size_step total one next a b c =
-      let s = ap (λ l. texts_size (children_in l)) next_trees ∙ size_more es trees node fits_here.before fits_here.among in
-      omega (arith, a, b, c, s)
-
   module _ (place : List ℕ → ℕ) (old out ch : List ℕ) (texts : out ≡ old ++ nodes_text place (length old) (children_in trees)) (entries : ch ≡ entries_text place (length old) (children_in trees)) where
     pub roomy_here : 16 * node.children ≤ length ch
     roomy_here = roomy es trees node fits_here.before place (length old) ch entries
@@ -390,15 +384,8 @@ module _ (es : List Setting) (ns : List NodeRecord) (p : IsPostOrder es ns) (i :
   all_trees : trees_at es ns i ≡ trees_after es [] ns
   all_trees = trees_all es ns i le
 
-  pub size_end : texts_size (children_in (trees_at es ns i)) ≡ text_size (tree_of es ns)
-  size_end = ap (λ l. texts_size (children_in l)) all_trees ∙ one_size _ p.one
-
   pub texts_end : (place : List ℕ → ℕ) (at : ℕ) → nodes_text place at (children_in (trees_at es ns i)) ≡ node_text place at (tree_of es ns)
   texts_end place at = ap (λ l. nodes_text place at (children_in l)) all_trees ∙ one_text place at _ p.one
-
-pub size_begin : (es : List Setting) (ns : List NodeRecord) → 0 ≡ min (texts_size (children_in (trees_at es ns 0))) M
-unfolding trees_after text_size
-size_begin es ns = refl
 
 pub texts_begin : (es : List Setting) (ns : List NodeRecord) (place : List ℕ → ℕ) (old : List ℕ) → old ≡ old ++ nodes_text place (length old) (children_in (trees_at es ns 0))
 unfolding trees_after node_text

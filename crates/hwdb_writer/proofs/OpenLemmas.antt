@@ -5,7 +5,7 @@ use Rattle.std.proofs.Math.Seq.{take-append_seam, drop-append_seam}
 use Rattle.std.proofs.lemmas.Grind.{flat_map-append}
 use Rattle.hwdb_spec.specs.Tree.{Value, IsTree}
 use Rattle.hwdb_spec.specs.Tree.Tree.{Node}
-use Rattle.hwdb_spec.specs.Written.{IsForked, strings_below}
+use Rattle.hwdb_spec.specs.Written.{IsForked, strings_below, texts_size}
 use Rattle.hwdb_writer.specs.Internal.Storable.{IsStorable}
 use Rattle.hwdb_writer.specs.Internal.Entries.{value_of}
 use Rattle.hwdb_writer.specs.Internal.PostOrder.{Sub, children_in, values_at, staying, joined, trees_after, AreWhole}
@@ -14,10 +14,10 @@ use Rattle.hwdb_writer.specs.declared.entries.Setting.{Setting}
 use Rattle.hwdb_writer.specs.declared.nodes.BuiltNode.{BuiltNode as NodeRecord}
 use Rattle.hwdb_writer.specs.declared.builder.OpenBranch.{OpenBranch}
 use Rattle.hwdb_writer.specs.declared.builder.Builder.{Builder}
-use Rattle.hwdb_writer.specs.declared.stored.Closed.{Closed}
+use Rattle.hwdb_writer.specs.declared.stored.Stored.{Stored}
 use Rattle.hwdb_writer.specs.Internal.Membership.{SameMembers}
 use Rattle.hwdb_writer.specs.Internal.Stored.{AreKept, AreValues, IsKept, IsUnder, all_values}
-use Rattle.hwdb_writer.proofs.EmissionLemmas.{strings_more}
+use Rattle.hwdb_writer.proofs.EmissionLemmas.{size_more, strings_more}
 use Rattle.hwdb_writer.proofs.StoredLemmas.{none_behind}
 use Rattle.hwdb_writer.proofs.SpineLemmas.{append_none, closed_frame, close_spine, whole_frame, cut_frame, cut_spine, leaf, count-in}
 use Rattle.hwdb_writer.proofs.SoundnessLemmas.{few}
@@ -47,8 +47,8 @@ whole_more es trees [] n w c r = (c, r, tt)
 whole_more es trees (m ∷ ns) n w c r = (w.0, w.1, whole_more es (joined es trees m) ns n w.2 c r)
 
 -- one more node is closed, whose children are there
-pub kept_more : (es own : List Setting) (ns : List NodeRecord) (n : NodeRecord) (old new : Closed) → own ≡ es → AreKept es ns old → IsKept own n old new → n.children ≤ length (trees_after es [] ns) → AreKept es (ns ++ n ∷ []) new
-kept_more es own ns n old new e a k le =
+pub kept_more : (es own : List Setting) (ns : List NodeRecord) (n : NodeRecord) (old new : Stored) → own ≡ es → AreKept es ns old → IsKept own n old new → n.children ≤ length (trees_after es [] ns) → n.first + n.count ≤ length es → AreKept es (ns ++ n ∷ []) new
+kept_more es own ns n old new e a k le most =
     let k = subst (λ (l : List Setting). IsKept l n old new) e k in
     let V : List Value → Type 0 = AreValues (IsUnder new.interner) new.values.items in
     let S : List Sub → Type 0 = λ ts. SameMembers new.interner (([] ∷ []) ++ strings_below (children_in ts)) in
@@ -56,6 +56,9 @@ kept_more es own ns n old new e a k le =
       nodes = k.nodes ns a.nodes;
       values = subst V (sym (flat_map-append (values_at es) ns (n ∷ []) ∙ ap (λ l. all_values es ns ++ l) (none_behind (values_at es n)))) (k.values (all_values es ns) a.values);
       members = subst S (sym (after_more es [] ns n)) (strings_more es (trees_after es [] ns) n le old.interner ([] ∷ []) new.interner a.members k.members);
+      sized =
+          let s = ap (λ ts. texts_size (children_in ts)) (after_more es [] ns n) ∙ size_more es (trees_after es [] ns) n le most in
+          omega (arith, a.sized, k.sized, s);
     }
 
 -- the last of a list whose reverse begins with an element
@@ -120,7 +123,7 @@ module _ (es : List Setting) (old new : Builder) (f g : Frame) (gs : List Frame)
       record {
         entries = ap (λ r. r.now) closes.entries ∙ is.entries;
         closed = ns ++ old.top.node ∷ [];
-        kept = kept_more es old.entries.now ns old.top.node old.closed new.closed is.entries is.kept closes.closed enough_trees;
+        kept = kept_more es old.entries.now ns old.top.node old.closed new.closed is.entries is.kept closes.closed enough_trees s.in_range;
         whole = k.whole;
         trees = k.trees ∙ append_assoc (stack gs) g.done ((f.byte, node_of f) ∷ []);
         standing = subst (λ os. AreStanding es os (closed_frame f g gs ∷ gs)) (sym opens_is) (
@@ -149,7 +152,8 @@ module _ (es : List Setting) (old new : Builder) (at front : ℕ) (f : Frame) (f
       let values : values_at es cuts.back ≡ f.values = (λ i. map value_of (take (cut.count i) (drop (cut.first i) es))) ∙ s.values in
       let lower : Frame = record { byte = c; prefix = back; values = f.values; done = f.done } in
       let ns = is.closed in
-      let k = grown es ns (ns ++ cuts.back ∷ []) cuts.back (stack fs) lower is.whole is.trees refl byte prefix values (cut.children ∙ s.children) (let a = cut.first in let b = cut.count in let r = s.in_range in omega (arith, a, b, r)) in
+      let inside : cuts.back.first + cuts.back.count ≤ length es = let a = cut.first in let b = cut.count in let r = s.in_range in omega (arith, a, b, r) in
+      let k = grown es ns (ns ++ cuts.back ∷ []) cuts.back (stack fs) lower is.whole is.trees refl byte prefix values (cut.children ∙ s.children) inside in
       let w : f ≡ whole_frame f.byte left c back f.values f.done fs = λ i. record { byte = f.byte; prefix = e i; values = f.values; done = f.done } in
       let up : IsSpine (whole_frame f.byte left c back f.values f.done fs ∷ fs) = let P : Frame → Type 0 = λ h. IsSpine (h ∷ fs) in subst P w is.spine in
       let fork : IsForked (node_of (whole_frame f.byte left c back f.values f.done fs)) = let P : Frame → Type 0 = λ h. IsForked (node_of h) in subst P w forked in
@@ -159,7 +163,7 @@ module _ (es : List Setting) (old new : Builder) (at front : ℕ) (f : Frame) (f
         entries = ap (λ r. r.now) cuts.entries ∙ is.entries;
         closed = ns ++ cuts.back ∷ [];
         kept = kept_more es old.entries.now ns cuts.back old.closed new.closed is.entries is.kept cuts.closed
-            (enough es (trees_after es [] ns) (stack fs) f.done cuts.back is.trees (cut.children ∙ s.children));
+            (enough es (trees_after es [] ns) (stack fs) f.done cuts.back is.trees (cut.children ∙ s.children)) inside;
         whole = k.whole;
         trees = k.trees;
         standing = (

@@ -24,7 +24,7 @@ ghost use Rattle.hwdb_writer.specs.declared.builder.OpenBranch.{OpenBranch as Op
 
 use crate::entries::HeadedEntry;
 use crate::nodes::BuiltNode;
-use crate::stored::Closed;
+use crate::stored::Stored;
 use byteorder::{BigEndian, ByteOrder};
 use std::alloc::{AllocError, Global};
 
@@ -47,7 +47,7 @@ struct Builder<'a, 's, 't> {
     /// The nodes above it, from the root on.
     above: Vec<OpenBranch<'t>>,
     /// The nodes that are closed, each after its children.
-    closed: Closed<'t>,
+    closed: Stored<'t>,
 }
 
 /// How many bytes are compared at once, as one number.
@@ -98,7 +98,7 @@ impl<'a, 's, 't> Builder<'a, 's, 't> {
     fn new(
         alloc: Global,
         entries: &'a [HeadedEntry<'s, 't>],
-        closed: Closed<'t>,
+        closed: Stored<'t>,
     ) -> Result<Builder<'a, 's, 't>, AllocError>
         requires { AreKept entries.now [] closed }
         ensures { IfOk result (λ made. (fs : List Frame) × IsBuilt entries.now 0 made fs) }
@@ -241,7 +241,7 @@ impl<'a, 's, 't> Builder<'a, 's, 't> {
     }
 
     /// Closes all nodes.
-    fn finish(mut self) -> Result<Closed<'t>, AllocError>
+    fn finish(mut self) -> Result<Stored<'t>, AllocError>
         requires { (es : List EntryRecord) × (fs : List Frame) × IsClosable es self fs }
         ensures { IfOk result (λ closed. (es : List EntryRecord) (fs : List Frame)
             → IsClosable es self.entry fs → IsFinished es fs closed) }
@@ -260,8 +260,8 @@ impl<'a, 's, 't> Builder<'a, 's, 't> {
 pub fn post_order<'t>(
     alloc: Global,
     entries: &[HeadedEntry<'_, 't>],
-    closed: Closed<'t>,
-) -> Result<Closed<'t>, AllocError>
+    closed: Stored<'t>,
+) -> Result<Stored<'t>, AllocError>
     requires ascending { IsStrictlySortedBy by_place entries.now }
     requires storable { AllByRecursion IsStorableEntry entries.now }
     requires none { AreKept entries.now [] closed }

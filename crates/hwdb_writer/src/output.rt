@@ -18,9 +18,8 @@ use crate::entries::{Setting, last_of_each};
 use crate::memory::keep_pages;
 use crate::records::{
     CHILD_SIZE, HEADER_SIZE, NODE_SIZE, VALUE_SIZE, push_records, push_u64, record_length,
-    text_length,
 };
-use crate::stored::{Closed, Stored, StoredNode, StoredValue};
+use crate::stored::{Stored, StoredNode, StoredValue};
 use crate::strings::table_of;
 use hwdb_spec::StoreError;
 use std::alloc::{AllocError, Global};
@@ -125,19 +124,13 @@ fn stored_nodes<'t>(
         → IsLonger (surviving (map assignment_of all.entry.items)) max_bytes }
 {
     // Room for nodes comes before that for the sort, which is let go of earlier. So the database begins where the sort was.
-    let none = Closed::new(alloc, all.len())?;
+    let none = Stored::new(alloc, all.len())?;
     let entries = last_of_each(alloc, &all)?;
     let closed = post_order(alloc, &entries, none)?;
-    let size = text_length(&closed.nodes);
-    if size > max_bytes as usize {
+    if closed.size > max_bytes as usize {
         return Err(StoreError::TooLarge);
     }
-    Ok(Stored {
-        nodes: closed.nodes,
-        values: closed.values,
-        interner: closed.interner,
-        size,
-    })
+    Ok(closed)
 }
 
 /// The database of the tree's map, of at most `max_bytes` bytes. It consumes the tree, so that it takes less memory

@@ -6,7 +6,7 @@ ghost use Rattle.hwdb_spec.specs.Written.{padding, text_size, node_text, value_t
 ghost use Rattle.hwdb_writer.specs.declared.entries.Setting.{Setting};
 ghost use Rattle.hwdb_writer.specs.declared.nodes.BuiltNode.{BuiltNode as NodeRecord};
 ghost use Rattle.hwdb_writer.specs.Internal.PostOrder.{IsPostOrder, tree_of};
-ghost use Rattle.hwdb_writer.specs.Internal.Stored.{IsAt, IsUnder, AreNodes, AreValues, AreRecords, record_text};
+ghost use Rattle.hwdb_writer.specs.Internal.Stored.{IsAt, AreNodes, AreValues, AreRecords, record_text};
 
 use crate::stored::{StoredNode, StoredValue};
 use byteorder::{ByteOrder, LittleEndian};
@@ -108,19 +108,6 @@ pub fn record_length(children: usize, values: usize) -> usize
     let children = children.saturating_mul(CHILD_SIZE);
     let values = values.saturating_mul(VALUE_SIZE);
     children.saturating_add(values).saturating_add(NODE_SIZE)
-}
-
-/// The length in bytes of the records of the nodes, or the greatest number if they are longer.
-pub fn text_length(nodes: &[StoredNode]) -> usize
-    ensures { (words : List (List ℕ)) (es : List Setting) (ns : List NodeRecord)
-        → IsPostOrder es ns → AreNodes (IsUnder words) nodes.now ns
-        → result ≡ min (text_size (tree_of es ns)) (2 ^ 64 - 1) }
-{
-    let mut total = 0usize;
-    for node in nodes {
-        total = total.saturating_add(record_length(node.children as usize, node.count as usize));
-    }
-    total
 }
 
 /// How much a priority counts in the number of 8 bytes that a line of 4 bytes and a priority of 2 are together.

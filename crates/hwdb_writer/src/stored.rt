@@ -1,4 +1,4 @@
-//! Closed nodes and their values as a database has them, but for offsets: strings have numbers, and records have none yet.
+//! Stored nodes and their values as a database has them, but for offsets: strings have numbers, and records have none yet.
 ghost use Rattle.std.specs.Prelude.{◌≡◌, ◌++◌, ◌∷◌, [], ◌+◌, ◌≤◌, List, OnOk, IfOk, length, map, flat_map};
 ghost use Rattle.hwdb_spec.specs.Tree.{Value};
 ghost use Rattle.hwdb_spec.specs.Written.{strings_of_value};
@@ -12,6 +12,7 @@ use crate::interner::Interner;
 use crate::keyed::KeyedStr;
 use crate::memory::narrow;
 use crate::nodes::BuiltNode;
+use crate::records::record_length;
 use std::alloc::{AllocError, Global};
 
 /// A value of a node, with its strings by number.
@@ -34,15 +35,8 @@ pub struct StoredNode {
     pub count: u32,
 }
 
-/// The nodes that are closed, the values of all of them one after another, and their strings.
-#[derive(Drop)]
-pub struct Closed<'t> {
-    pub nodes: Vec<StoredNode>,
-    pub values: Vec<StoredValue>,
-    pub interner: Interner<'t>,
-}
-
-/// The nodes of a tree, the values of all of them one after another, and their strings. The records have `size` bytes.
+/// The nodes that are closed, the values of all of them one after another, and their strings. The records have `size` bytes, or more
+/// than the greatest number.
 #[derive(Drop)]
 pub struct Stored<'t> {
     pub nodes: Vec<StoredNode>,
@@ -122,19 +116,20 @@ fn room_for(entries: usize) -> usize {
     (entries / 2).saturating_add(entries).saturating_add(1)
 }
 
-impl<'t> Closed<'t> {
+impl<'t> Stored<'t> {
     /// No node, and room for those of so many entries.
-    pub fn new(alloc: Global, entries: usize) -> Result<Closed<'t>, AllocError>
-        ensures { IfOk result (λ closed. (es : List EntryRecord) → AreKept es [] closed) }
+    pub fn new(alloc: Global, entries: usize) -> Result<Stored<'t>, AllocError>
+        ensures { IfOk result (λ stored. (es : List EntryRecord) → AreKept es [] stored) }
     {
         let nodes = Vec::with_capacity(alloc, room_for(entries))?;
         let values = Vec::with_capacity(alloc, entries)?;
         // Most keys and paths come again, and so does the string of many a node.
         let interner = Interner::new(alloc, entries, entries.saturating_mul(2))?;
-        Ok(Closed {
+        Ok(Stored {
             nodes,
             values,
             interner,
+            size: 0,
         })
     }
 
@@ -158,6 +153,8 @@ impl<'t> Closed<'t> {
             count,
             children: node.children,
         })?;
+        let length = record_length(node.children as usize, node.count);
+        self.size = self.size.saturating_add(length);
         Ok(())
     }
 }

@@ -10,7 +10,7 @@ use Rattle.hwdb_writer.specs.Internal.PostOrder.{Sub, children_in, values_at, tr
 use Rattle.hwdb_writer.specs.declared.entries.Setting.{Setting}
 use Rattle.hwdb_writer.specs.Internal.Stored.{AreKept, IsKept}
 use Rattle.hwdb_writer.specs.declared.nodes.BuiltNode.{BuiltNode}
-use Rattle.hwdb_writer.specs.declared.stored.Closed.{Closed}
+use Rattle.hwdb_writer.specs.declared.stored.Stored.{Stored}
 use Rattle.hwdb_writer.specs.declared.builder.OpenBranch.{OpenBranch}
 use Rattle.hwdb_writer.specs.declared.builder.Builder.{Builder}
 
@@ -226,7 +226,7 @@ pub record IsNext (es : List Setting) (n : ℕ) (e : Setting) : Type 0 where
   pub above : (before : List Setting) (d : Setting) → take n es ≡ before ++ d ∷ [] → by_place d e ≡ Less
 
 -- the closed nodes are those of a tree that can be stored, with the values of the frames
-pub record IsFinished (es : List Setting) (fs : List Frame) (c : Closed) : Type 0 where
+pub record IsFinished (es : List Setting) (fs : List Frame) (c : Stored) : Type 0 where
   pub nodes : List BuiltNode
   pub kept : AreKept es nodes c
   pub order : IsPostOrder es nodes

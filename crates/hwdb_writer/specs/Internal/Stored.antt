@@ -1,10 +1,10 @@
 -- Nodes and values with strings by number, and which nodes and values these are.
-use Rattle.std.specs.Prelude.{List, [], ℕ, ◌+◌, ◌++◌, ◌∷◌, ◌^◌, ◌<◌, ◌≡◌, length, map, flat_map, slice_index_or}
+use Rattle.std.specs.Prelude.{List, [], ℕ, ◌+◌, ◌*◌, ◌-◌, ◌++◌, min, ◌∷◌, ◌^◌, ◌<◌, ◌≡◌, length, map, flat_map, slice_index_or}
 use Rattle.byteorder.specs.Endian.{little_bytes}
 use Rattle.std.specs.List.{AllZip}
 use Rattle.hwdb_spec.specs.Assignment.{ascending}
 use Rattle.hwdb_spec.specs.Tree.{Map, Tree, Value, map_of, values_under}
-use Rattle.hwdb_spec.specs.Written.{padding, table_of, text_size, section_of, place_of, value_text, strings_below, strings_of_value}
+use Rattle.hwdb_spec.specs.Written.{padding, table_of, text_size, texts_size, section_of, place_of, value_text, strings_below, strings_of_value}
 use Rattle.hwdb_writer.specs.Internal.Narrow.{IsNarrow}
 use Rattle.hwdb_writer.specs.Internal.Membership.{SameMembers}
 use Rattle.hwdb_writer.specs.Internal.PostOrder.{IsPostOrder, children_in, tree_of, trees_after, values_at}
@@ -12,7 +12,6 @@ use Rattle.hwdb_writer.specs.Internal.Entries.{placed}
 use Rattle.hwdb_writer.specs.Internal.Storable.{IsSound}
 use Rattle.hwdb_writer.specs.declared.entries.Setting.{Setting}
 use Rattle.hwdb_writer.specs.declared.nodes.BuiltNode.{BuiltNode}
-use Rattle.hwdb_writer.specs.declared.stored.Closed.{Closed}
 use Rattle.hwdb_writer.specs.declared.stored.Stored.{Stored}
 use Rattle.hwdb_writer.specs.declared.stored.StoredNode.{StoredNode}
 use Rattle.hwdb_writer.specs.declared.stored.StoredValue.{StoredValue}
@@ -57,19 +56,21 @@ abbrev pub all_values : List Setting → List BuiltNode → List Value
 all_values es ns = flat_map (values_at es) ns
 
 -- the nodes are closed: with their strings by number, their values, and no string but theirs and the empty one
-pub record AreKept (es : List Setting) (ns : List BuiltNode) (c : Closed) : Type 0 where
+pub record AreKept (es : List Setting) (ns : List BuiltNode) (c : Stored) : Type 0 where
   pub nodes : AreNodes (IsUnder c.interner) c.nodes.items ns
   pub values : AreValues (IsUnder c.interner) c.values.items (all_values es ns)
   pub members : SameMembers c.interner (([] ∷ []) ++ strings_below (children_in (trees_after es [] ns)))
+  pub sized : c.size ≡ min (texts_size (children_in (trees_after es [] ns))) (2 ^ 64 - 1)
 
 -- one more node is closed
-pub record IsKept (es : List Setting) (n : BuiltNode) (old new : Closed) : Type 0 where
+pub record IsKept (es : List Setting) (n : BuiltNode) (old new : Stored) : Type 0 where
   pub nodes : (ns : List BuiltNode) → AreNodes (IsUnder old.interner) old.nodes.items ns → AreNodes (IsUnder new.interner) new.nodes.items (ns ++ n ∷ [])
   pub values : (xs : List Value) → AreValues (IsUnder old.interner) old.values.items xs → AreValues (IsUnder new.interner) new.values.items (xs ++ values_at es n)
   pub members : SameMembers new.interner (old.interner ++ n.prefix.now ∷ flat_map strings_of_value (values_at es n))
+  pub sized : new.size ≡ min (old.size + (24 + 16 * n.children + 32 * n.count)) (2 ^ 64 - 1)
 
 -- the closed nodes are those of a sound tree with the values of the entries
-pub record IsTreeOf (es : List Setting) (c : Closed) : Type 0 where
+pub record IsTreeOf (es : List Setting) (c : Stored) : Type 0 where
   pub ns : List BuiltNode
   pub kept : AreKept es ns c
   pub order : IsPostOrder es ns

@@ -8,7 +8,7 @@ use Rattle.hwdb_writer.specs.Internal.Stored.{IsUnder, IsNode, AreNodes, AreValu
 use Rattle.hwdb_writer.specs.declared.stored.StoredNode.{StoredNode}
 use Rattle.hwdb_writer.proofs.MembershipLemmas.{same_trans, same_both, same_refl, same_path, same_named}
 use Rattle.hwdb_writer.proofs.StoredLemmas.{pairs_one, nodes_by, values_by, under_same}
-use Rattle.hwdb_writer.proofs.stored.Closed.push.Goals as goal
+use Rattle.hwdb_writer.proofs.stored.Stored.push.Goals as goal
 
 pub returns : goal.returns
 returns c =
@@ -38,4 +38,5 @@ returns c =
           same_trans words (mid ++ s) _ (subst (λ l. SameMembers words (mid ++ flat_map strings_of_value l)) is c.in_ok-push_values.ensures.members)
           (same_trans (mid ++ s) ((old ++ p) ++ s) _ (same_both mid (old ++ p) s s (same_named old mid n.prefix.now _ c.new.ensures.word c.in_ok-prefix.ensures.members) (same_refl s))
           (same_path _ _ (append_assoc old p s)));
+      sized = omega (arith, c.record_length-length.ensures, c.saturating_add-self.ensures);
     }
