@@ -21,7 +21,7 @@ use Rattle.hwdb_writer.specs.declared.builder.Builder.{Builder}
 use Rattle.hwdb_writer.specs.declared.stored.Stored.{Stored}
 use Rattle.hwdb_writer.specs.Internal.Stored.{AreKept, IsKept}
 use Rattle.hwdb_writer.proofs.SpineLemmas.{append_none, leaf, open_values, open_spine, with_value, Ends, before_it, value_spine, value_values, length-under}
-use Rattle.hwdb_writer.proofs.OpenLemmas.{enough, grown, kept_more, open_open, lowest, lowest_end, above_it}
+use Rattle.hwdb_writer.proofs.OpenLemmas.{enough, grown, kept_among, kept_more, open_open, lowest, lowest_end, above_it}
 
 abbrev pub root : Frame
 root = record { byte = 0; prefix = []; values = []; done = [] }
@@ -314,7 +314,7 @@ root_finished es old new fs f c is more =
     let spine = is.nodes.spine in
     record {
       nodes = nodes;
-      kept = kept_more es new.entries.now ns new.top.node new.closed c is.nodes.entries is.nodes.kept more (enough es (trees_after es [] ns) [] f.done new.top.node is.nodes.trees s.children) s.in_range;
+      kept = kept_more es ns new.top.node new.closed c is.nodes.kept (kept_among es new.entries.now new.top.node new.closed c is.nodes.entries more) is.nodes.whole (enough es (trees_after es [] ns) [] f.done new.top.node is.nodes.trees s.children) s.in_range;
       order = record { whole = k.whole; one = ap length k.trees };
       sound = subst IsSound (sym tree) (record { ordered = spine.0; root = spine.2; storable = spine.1 });
       values = ap (values_under []) tree ∙ is.closed.values;

@@ -14,6 +14,7 @@ pub mod PlaceLemmas
 pub mod TableLemmas
 pub mod LengthLemmas
 pub mod EmissionLemmas
+pub mod FewLemmas
 pub mod NumberLemmas
 pub mod WholeLemmas
 pub mod MadeLemmas

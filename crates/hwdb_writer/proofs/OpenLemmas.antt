@@ -1,5 +1,5 @@
 -- The frames that a builder's nodes are those of, when it closes, cuts and opens nodes.
-use Rattle.std.proofs.Common.{◌≡◌, ◌<◌, ◌≤◌, ℕ, suc, ◌+◌, ◌-◌, List, [], ◌∷◌, ◌++◌, length, length-append, map, take, drop, reverse, get_or, refl, sym, ◌∙◌, ap, subst, arith, append_assoc}
+use Rattle.std.proofs.Common.{Bool, true, false, ◌≡◌, ◌<◌, ◌≤◌, ℕ, suc, ◌+◌, ◌*◌, ◌^◌, ◌-◌, List, [], ◌∷◌, ◌++◌, length, length-append, map, take, drop, reverse, get_or, refl, sym, ◌∙◌, ap, subst, arith, append_assoc}
 use Rattle.std.proofs.lemmas.List.{reverse-append, reverse-reverse}
 use Rattle.std.proofs.Math.Seq.{take-append_seam, drop-append_seam}
 use Rattle.std.proofs.lemmas.Grind.{flat_map-append}
@@ -16,8 +16,9 @@ use Rattle.hwdb_writer.specs.declared.builder.OpenBranch.{OpenBranch}
 use Rattle.hwdb_writer.specs.declared.builder.Builder.{Builder}
 use Rattle.hwdb_writer.specs.declared.stored.Stored.{Stored}
 use Rattle.hwdb_writer.specs.Internal.Membership.{SameMembers}
-use Rattle.hwdb_writer.specs.Internal.Stored.{AreKept, AreValues, IsKept, IsUnder, all_values}
+use Rattle.hwdb_writer.specs.Internal.Stored.{AreKept, AreStored, AreValues, IsKept, IsUnder, all_values}
 use Rattle.hwdb_writer.proofs.EmissionLemmas.{size_more, strings_more}
+use Rattle.hwdb_writer.proofs.FewLemmas.{few_from, values_long}
 use Rattle.hwdb_writer.proofs.StoredLemmas.{none_behind}
 use Rattle.hwdb_writer.proofs.SpineLemmas.{append_none, closed_frame, close_spine, whole_frame, cut_frame, cut_spine, leaf, count-in}
 use Rattle.hwdb_writer.proofs.SoundnessLemmas.{few}
@@ -47,19 +48,52 @@ whole_more es trees [] n w c r = (c, r, tt)
 whole_more es trees (m ∷ ns) n w c r = (w.0, w.1, whole_more es (joined es trees m) ns n w.2 c r)
 
 -- one more node is closed, whose children are there
-pub kept_more : (es own : List Setting) (ns : List NodeRecord) (n : NodeRecord) (old new : Stored) → own ≡ es → AreKept es ns old → IsKept own n old new → n.children ≤ length (trees_after es [] ns) → n.first + n.count ≤ length es → AreKept es (ns ++ n ∷ []) new
-kept_more es own ns n old new e a k le most =
-    let k = subst (λ (l : List Setting). IsKept l n old new) e k in
-    let V : List Value → Type 0 = AreValues (IsUnder new.interner) new.values.items in
-    let S : List Sub → Type 0 = λ ts. SameMembers new.interner (([] ∷ []) ++ strings_below (children_in ts)) in
-    record {
-      nodes = k.nodes ns a.nodes;
-      values = subst V (sym (flat_map-append (values_at es) ns (n ∷ []) ∙ ap (λ l. all_values es ns ++ l) (none_behind (values_at es n)))) (k.values (all_values es ns) a.values);
-      members = subst S (sym (after_more es [] ns n)) (strings_more es (trees_after es [] ns) n le old.interner ([] ∷ []) new.interner a.members k.members);
-      sized =
-          let s = ap (λ ts. texts_size (children_in ts)) (after_more es [] ns n) ∙ size_more es (trees_after es [] ns) n le most in
-          omega (arith, a.sized, k.sized, s);
-    }
+module _ (es : List Setting) (ns : List NodeRecord) (n : NodeRecord) (old new : Stored) (a : AreKept es ns old) (k : IsKept es n old new) (whole : AreWhole es [] ns) (le : n.children ≤ length (trees_after es [] ns))
+    (most : n.first + n.count ≤ length es) where
+  longer : texts_size (children_in (trees_after es [] (ns ++ n ∷ []))) ≡ texts_size (children_in (trees_after es [] ns)) + (24 + 16 * n.children + 32 * n.count)
+  longer = ap (λ ts. texts_size (children_in ts)) (after_more es [] ns n) ∙ size_more es (trees_after es [] ns) n le most
+
+  full_more : (b : Bool) → old.is_full ≡ b → new.is_full ≡ true → 2 ^ 32 ≤ texts_size (children_in (trees_after es [] (ns ++ n ∷ [])))
+  full_more true was is = let f = a.full was in let l = longer in omega (arith, f, l)
+  full_more false was is =
+      let few = (a.stored was).few in
+      let many = k.full was is in
+      let bytes = few_from es [] ns whole in
+      let l = longer in
+      omega (arith, few, many, bytes, l)
+
+  stored_more : new.is_full ≡ false → AreStored es (ns ++ n ∷ []) new
+  stored_more not =
+      let more = (k.stored not).1 in
+      let before = a.stored (k.stored not).0 in
+      let all : all_values es (ns ++ n ∷ []) ≡ all_values es ns ++ values_at es n = flat_map-append (values_at es) ns (n ∷ []) ∙ ap (λ l. all_values es ns ++ l) (none_behind (values_at es n)) in
+      let V : List Value → Type 0 = AreValues (IsUnder new.interner) new.values.items in
+      let S : List Sub → Type 0 = λ ts. SameMembers new.interner (([] ∷ []) ++ strings_below (children_in ts)) in
+      let long = ap length all ∙ length-append (all_values es ns) (values_at es n) in
+      let own = values_long es n most in
+      let count = length-append ns (n ∷ []) in
+      record {
+        nodes = more.nodes ns before.nodes;
+        values = subst V (sym all) (more.values (all_values es ns) before.values);
+        members = subst S (sym (after_more es [] ns n)) (strings_more es (trees_after es [] ns) n le old.interner ([] ∷ []) new.interner before.members more.members);
+        few = omega (arith, before.few, more.few, long, own, count);
+      }
+
+  pub kept_more : AreKept es (ns ++ n ∷ []) new
+  kept_more = record {
+    sized = let l = longer in omega (arith, a.sized, k.sized, l);
+    stored = stored_more;
+    full = full_more old.is_full refl;
+  }
+
+-- the entries by another name
+pub kept_among : (es own : List Setting) (n : NodeRecord) (old new : Stored) → own ≡ es → IsKept own n old new → IsKept es n old new
+kept_among es own n old new e k = subst (λ (l : List Setting). IsKept l n old new) e k
+
+-- so few bytes are of nodes that are stored
+pub all_stored : (es : List Setting) (ns : List NodeRecord) (c : Stored) (b : Bool) → c.is_full ≡ b → AreKept es ns c → c.size < 2 ^ 32 → AreStored es ns c
+all_stored es ns c true is a lt = let f = a.full is in absurd (omega (arith, f, a.sized, lt))
+all_stored es ns c false is a lt = a.stored is
 
 -- the last of a list whose reverse begins with an element
 pub record Last {A : Type 0} (xs : List A) (x : A) (rest : List A) : Type 0 where
@@ -123,7 +157,7 @@ module _ (es : List Setting) (old new : Builder) (f g : Frame) (gs : List Frame)
       record {
         entries = ap (λ r. r.now) closes.entries ∙ is.entries;
         closed = ns ++ old.top.node ∷ [];
-        kept = kept_more es old.entries.now ns old.top.node old.closed new.closed is.entries is.kept closes.closed enough_trees s.in_range;
+        kept = kept_more es ns old.top.node old.closed new.closed is.kept (kept_among es old.entries.now old.top.node old.closed new.closed is.entries closes.closed) is.whole enough_trees s.in_range;
         whole = k.whole;
         trees = k.trees ∙ append_assoc (stack gs) g.done ((f.byte, node_of f) ∷ []);
         standing = subst (λ os. AreStanding es os (closed_frame f g gs ∷ gs)) (sym opens_is) (
@@ -162,7 +196,7 @@ module _ (es : List Setting) (old new : Builder) (at front : ℕ) (f : Frame) (f
       record {
         entries = ap (λ r. r.now) cuts.entries ∙ is.entries;
         closed = ns ++ cuts.back ∷ [];
-        kept = kept_more es old.entries.now ns cuts.back old.closed new.closed is.entries is.kept cuts.closed
+        kept = kept_more es ns cuts.back old.closed new.closed is.kept (kept_among es old.entries.now cuts.back old.closed new.closed is.entries cuts.closed) is.whole
             (enough es (trees_after es [] ns) (stack fs) f.done cuts.back is.trees (cut.children ∙ s.children)) inside;
         whole = k.whole;
         trees = k.trees;

@@ -3,14 +3,13 @@
 //!
 //! What is forgotten gets a second number, which costs a little memory. In return the registry has a fixed size, and a
 //! string is compared with at most two others. The contract says only that a string's number gives that string.
-ghost use Rattle.std.specs.Prelude.{◌≡◌, ◌++◌, ◌∷◌, [], IfOk, OnOk, IfSome};
+ghost use Rattle.std.specs.Prelude.{◌≡◌, ◌++◌, ◌∷◌, [], ◌+◌, ◌^◌, ◌≤◌, ◌<◌, length, IfOk, OnOk, IfSome};
 ghost use Rattle.std.specs.Bool.{OnTrue};
 ghost use Rattle.hwdb_writer.specs.Internal.Membership.{SameMembers};
 ghost use Rattle.hwdb_writer.specs.Internal.Stored.{Grows, IsUnder};
 ghost use Rattle.hwdb_writer.specs.Internal.Numbered.{texts, IsNumbered};
 
 use crate::keyed::KeyedStr;
-use crate::memory::narrow;
 use crate::registry::Registry;
 use std::alloc::{AllocError, Global};
 use std::marker::Model;
@@ -49,6 +48,13 @@ impl<'t> Interner<'t> {
         })
     }
 
+    /// How many strings there are.
+    pub fn len(&self) -> usize
+        ensures { result ≡ length self.now }
+    {
+        self.words.as_slice().len()
+    }
+
     /// Whether the string has the number.
     #[inline(always)]
     fn is_under(&self, number: u32, word: &KeyedStr<'t>) -> bool
@@ -75,12 +81,14 @@ impl<'t> Interner<'t> {
 
     /// Adds the string, and remembers it. Returns its number.
     fn add(&mut self, word: KeyedStr<'t>) -> Result<u32, AllocError>
+        requires few { length self.old < 2 ^ 32 }
+        ensures few { OnOk result (length self.new ≤ length self.old + 1) }
         ensures grows { OnOk result (Grows self.old self.new) }
         ensures members { OnOk result (SameMembers self.new
             (self.old ++ word.entry.word ∷ [])) }
         ensures number { IfOk result (λ n. IsUnder self.new n word.entry.word) }
     {
-        let number = narrow(self.words.as_slice().len())?;
+        let number = self.words.as_slice().len() as u32;
         self.registry.remember(&word, number);
         self.words.push(word.numbered(number))?;
         Ok(number)
@@ -88,6 +96,8 @@ impl<'t> Interner<'t> {
 
     /// The number of the string, which is added if none like it is remembered.
     pub fn intern(&mut self, word: KeyedStr<'t>) -> Result<u32, AllocError>
+        requires few { length self.old < 2 ^ 32 }
+        ensures few { OnOk result (length self.new ≤ length self.old + 1) }
         ensures grows { OnOk result (Grows self.old self.new) }
         ensures members { OnOk result (SameMembers self.new
             (self.old ++ word.entry.word ∷ [])) }
@@ -103,6 +113,8 @@ impl<'t> Interner<'t> {
     /// without a look-up.
     #[inline(always)]
     pub fn intern_near(&mut self, word: KeyedStr<'t>, near: u32) -> Result<u32, AllocError>
+        requires few { length self.old < 2 ^ 32 }
+        ensures few { OnOk result (length self.new ≤ length self.old + 1) }
         ensures grows { OnOk result (Grows self.old self.new) }
         ensures members { OnOk result (SameMembers self.new
             (self.old ++ word.entry.word ∷ [])) }

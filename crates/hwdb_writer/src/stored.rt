@@ -1,5 +1,6 @@
 //! Stored nodes and their values as a database has them, but for offsets: strings have numbers, and records have none yet.
-ghost use Rattle.std.specs.Prelude.{◌≡◌, ◌++◌, ◌∷◌, [], ◌+◌, ◌≤◌, List, OnOk, IfOk, length, map, flat_map};
+ghost use Rattle.std.specs.Prelude.{◌≡◌, ◌++◌, ◌∷◌, [], ◌+◌, ◌*◌, ◌^◌, ◌≤◌, ◌<◌, List, OnOk, IfOk, length, map, flat_map};
+ghost use Rattle.std.specs.Bool.{OnTrue, OnFalse};
 ghost use Rattle.hwdb_spec.specs.Tree.{Value};
 ghost use Rattle.hwdb_spec.specs.Written.{strings_of_value};
 ghost use Rattle.hwdb_writer.specs.declared.entries.Setting.{Setting as EntryRecord};
@@ -10,7 +11,6 @@ ghost use Rattle.hwdb_writer.specs.Internal.Stored.{Grows, AreValues, IsUnder, A
 use crate::entries::{HeadedEntry, Setting};
 use crate::interner::Interner;
 use crate::keyed::KeyedStr;
-use crate::memory::narrow;
 use crate::nodes::BuiltNode;
 use crate::records::record_length;
 use std::alloc::{AllocError, Global};
@@ -35,14 +35,18 @@ pub struct StoredNode {
     pub count: u32,
 }
 
-/// The nodes that are closed, the values of all of them one after another, and their strings. The records have `size` bytes, or more
-/// than the greatest number.
+/// The nodes that are closed, the values of all of them one after another, and their strings. The records have `size` bytes, or that is
+/// the greatest number.
+///
+/// Strings have numbers of 4 bytes. If these don't do for one more node, it isn't kept, and the list is full: its records are then too
+/// long for any database.
 #[derive(Drop)]
 pub struct Stored<'t> {
     pub nodes: Vec<StoredNode>,
     pub values: Vec<StoredValue>,
     pub interner: Interner<'t>,
     pub size: usize,
+    pub is_full: bool,
 }
 
 /// The numbers of the last value's key and path, or 0 if there is none. Most values have the key and path of the value
@@ -60,6 +64,8 @@ fn push_value<'t>(
     interner: &mut Interner<'t>,
     out: &mut Vec<StoredValue>,
 ) -> Result<(), AllocError>
+    requires few { length interner.old + 3 ≤ 2 ^ 32 }
+    ensures few { OnOk result (length interner.new ≤ length interner.old + 3) }
     ensures grows { OnOk result (Grows interner.old interner.new) }
     ensures members { OnOk result (SameMembers interner.new
         (interner.old ++ strings_of_value (value_of entry.now))) }
@@ -88,6 +94,9 @@ fn push_values<'t>(
     interner: &mut Interner<'t>,
     out: &mut Vec<StoredValue>,
 ) -> Result<(), AllocError>
+    requires few { length interner.old + 3 * length entries.now ≤ 2 ^ 32 }
+    ensures few { OnOk result
+        (length interner.new ≤ length interner.old + 3 * length entries.now) }
     ensures grows { OnOk result (Grows interner.old interner.new) }
     ensures members { OnOk result (SameMembers interner.new
         (interner.old ++ flat_map strings_of_value (map value_of entries.now))) }
@@ -130,7 +139,17 @@ impl<'t> Stored<'t> {
             values,
             interner,
             size: 0,
+            is_full: false,
         })
+    }
+
+    /// Whether there are numbers for the strings of one more node, which has so many values.
+    fn has_numbers(&self, values: usize) -> bool
+        ensures yes { OnTrue result (length self.now.interner + 3 * values + 1 ≤ 2 ^ 32) }
+        ensures no { OnFalse result (2 ^ 32 < length self.now.interner + 3 * values + 1) }
+    {
+        let strings = values.saturating_mul(3).saturating_add(self.interner.len());
+        strings <= u32::MAX as usize
     }
 
     /// Adds a node, with its values among the entries.
@@ -142,7 +161,12 @@ impl<'t> Stored<'t> {
         requires { node.first + node.count ≤ length entries.now }
         ensures { OnOk result (IsKept entries.now node.entry self.old self.new) }
     {
-        let count = narrow(node.count)?;
+        let length = record_length(node.children as usize, node.count);
+        self.size = self.size.saturating_add(length);
+        if !self.has_numbers(node.count) {
+            self.is_full = true;
+            return Ok(());
+        }
         let near = last_prefix(&self.nodes);
         let prefix = self.interner.intern_near(KeyedStr::new(node.prefix), near)?;
         let own = &entries[node.first..node.first + node.count];
@@ -150,11 +174,9 @@ impl<'t> Stored<'t> {
         self.nodes.push(StoredNode {
             byte: node.byte,
             prefix,
-            count,
+            count: node.count as u32,
             children: node.children,
         })?;
-        let length = record_length(node.children as usize, node.count);
-        self.size = self.size.saturating_add(length);
         Ok(())
     }
 }

@@ -1,5 +1,5 @@
 -- Nodes and values with strings by number, and which nodes and values these are.
-use Rattle.std.specs.Prelude.{List, [], ℕ, ◌+◌, ◌*◌, ◌-◌, ◌++◌, min, ◌∷◌, ◌^◌, ◌<◌, ◌≡◌, length, map, flat_map, slice_index_or}
+use Rattle.std.specs.Prelude.{List, [], true, false, ℕ, ◌+◌, ◌*◌, ◌-◌, ◌≤◌, ◌++◌, min, ◌∷◌, ◌^◌, ◌<◌, ◌≡◌, length, map, flat_map, slice_index_or}
 use Rattle.byteorder.specs.Endian.{little_bytes}
 use Rattle.std.specs.List.{AllZip}
 use Rattle.hwdb_spec.specs.Assignment.{ascending}
@@ -55,19 +55,31 @@ AreNodes By = AllZip (IsNode By)
 abbrev pub all_values : List Setting → List BuiltNode → List Value
 all_values es ns = flat_map (values_at es) ns
 
--- the nodes are closed: with their strings by number, their values, and no string but theirs and the empty one
-pub record AreKept (es : List Setting) (ns : List BuiltNode) (c : Stored) : Type 0 where
+-- the nodes with their strings by number, their values, and no string but theirs and the empty one
+pub record AreStored (es : List Setting) (ns : List BuiltNode) (c : Stored) : Type 0 where
   pub nodes : AreNodes (IsUnder c.interner) c.nodes.items ns
   pub values : AreValues (IsUnder c.interner) c.values.items (all_values es ns)
   pub members : SameMembers c.interner (([] ∷ []) ++ strings_below (children_in (trees_after es [] ns)))
-  pub sized : c.size ≡ min (texts_size (children_in (trees_after es [] ns))) (2 ^ 64 - 1)
+  pub few : length c.interner ≤ 1 + 3 * length (all_values es ns) + length ns
 
--- one more node is closed
-pub record IsKept (es : List Setting) (n : BuiltNode) (old new : Stored) : Type 0 where
+-- the nodes are closed, with so many bytes of records; they are stored, but for those that are too many
+pub record AreKept (es : List Setting) (ns : List BuiltNode) (c : Stored) : Type 0 where
+  pub sized : c.size ≡ min (texts_size (children_in (trees_after es [] ns))) (2 ^ 64 - 1)
+  pub stored : c.is_full ≡ false → AreStored es ns c
+  pub full : c.is_full ≡ true → 2 ^ 32 ≤ texts_size (children_in (trees_after es [] ns))
+
+-- one more node is stored
+pub record IsOneMore (es : List Setting) (n : BuiltNode) (old new : Stored) : Type 0 where
   pub nodes : (ns : List BuiltNode) → AreNodes (IsUnder old.interner) old.nodes.items ns → AreNodes (IsUnder new.interner) new.nodes.items (ns ++ n ∷ [])
   pub values : (xs : List Value) → AreValues (IsUnder old.interner) old.values.items xs → AreValues (IsUnder new.interner) new.values.items (xs ++ values_at es n)
   pub members : SameMembers new.interner (old.interner ++ n.prefix.now ∷ flat_map strings_of_value (values_at es n))
+  pub few : length new.interner ≤ length old.interner + 3 * n.count + 1
+
+-- one more node is closed: stored, or one too many
+pub record IsKept (es : List Setting) (n : BuiltNode) (old new : Stored) : Type 0 where
   pub sized : new.size ≡ min (old.size + (24 + 16 * n.children + 32 * n.count)) (2 ^ 64 - 1)
+  pub stored : new.is_full ≡ false → (old.is_full ≡ false) × IsOneMore es n old new
+  pub full : old.is_full ≡ false → new.is_full ≡ true → 2 ^ 32 < length old.interner + 3 * n.count + 1
 
 -- the closed nodes are those of a sound tree with the values of the entries
 pub record IsTreeOf (es : List Setting) (c : Stored) : Type 0 where

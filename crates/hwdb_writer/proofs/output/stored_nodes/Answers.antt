@@ -7,6 +7,7 @@ use Rattle.hwdb_writer.specs.Internal.PostOrder.{tree_of, trees_after}
 use Rattle.hwdb_writer.proofs.EmissionLemmas.{one_size, one_strings}
 use Rattle.hwdb_writer.proofs.MadeLemmas.{made}
 use Rattle.hwdb_writer.proofs.MembershipLemmas.{collected}
+use Rattle.hwdb_writer.proofs.OpenLemmas.{all_stored}
 use Rattle.hwdb_writer.proofs.SoundnessLemmas.{sound_tight}
 use Rattle.hwdb_writer.proofs.WholeLemmas.{length-written}
 use Rattle.hwdb_writer.proofs.output.stored_nodes.Goals as goal
@@ -36,15 +37,16 @@ returns-clause-stored c =
     let ns = tree.ns in
     let t = tree_of es ns in
     let words = c.in_ok-closed.closed.interner in
+    let kept = all_stored es ns c.in_ok-closed.closed c.in_ok-closed.closed.is_full refl tree.kept (omega (arith, c.if-closed-max_bytes.false, c.ranges.max_bytes.fits)) in
     let size = one_size (trees_after es [] ns) tree.order.one in
     let S : List (List ℕ) → Type 0 = λ l. SameMembers words (([] ∷ []) ++ l) in (
       es,
       ns,
       record {
         order = tree.order;
-        nodes = tree.kept.nodes;
-        values = tree.kept.values;
-        strings = collected words ([] ∷ []) (strings_of t) refl (subst S (one_strings (trees_after es [] ns) tree.order.one) tree.kept.members);
+        nodes = kept.nodes;
+        values = kept.values;
+        strings = collected words ([] ∷ []) (strings_of t) refl (subst S (one_strings (trees_after es [] ns) tree.order.one) kept.members);
         sized = omega (arith, size, tree.kept.sized, c.if-closed-max_bytes.false, c.ranges.max_bytes.fits);
       },
       made es es c.in_ok-entries.entries.items c.deref.result.now all ns ns m refl refl (sym c.deref-2.ensures.value) c.deref.ensures.value tree.sound tree.values c.in_ok-entries.ensures.same refl,

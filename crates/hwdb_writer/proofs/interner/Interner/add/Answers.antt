@@ -21,4 +21,4 @@ pub returns-clause-number : goal.returns-clause-number
 returns-clause-number c =
     let more = texts_and_one c.self.inside.words.items c.push.new.self.items _ c.args.word.word c.args.self.now c.in_ok-push.ensures.items c.numbered.ensures.word c.self.view_is in
     last_under c.args.self.now (texts c.push.new.self.items) c.args.word.word _ more
-    (c.in_ok-number.ensures ∙ ap length c.as_slice.ensures.value ∙ sym (length-map c.self.inside.words.items word_of) ∙ ap length c.self.view_is)
+    (ap length c.as_slice.ensures.value ∙ sym (length-map c.self.inside.words.items word_of) ∙ ap length c.self.view_is)

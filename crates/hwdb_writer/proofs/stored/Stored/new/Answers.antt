@@ -1,4 +1,4 @@
-use Rattle.std.proofs.Common.{List, [], refl, subst, sym}
+use Rattle.std.proofs.Common.{List, [], ap, arith, length, refl, subst, sym}
 use Rattle.hwdb_spec.specs.Written.{strings_of, text_size}
 use Rattle.hwdb_writer.specs.Internal.PostOrder.{trees_after}
 use Rattle.hwdb_writer.specs.Internal.Stored.{IsUnder, AreNodes, AreValues}
@@ -12,8 +12,12 @@ unfolding trees_after strings_of text_size
 returns c = λ es.
     let words = c.in_ok-interner.interner in
     record {
-      nodes = subst (λ (l : List StoredNode). AreNodes (IsUnder words) l []) (sym c.in_ok-nodes.ensures.items) tt;
-      values = subst (λ (l : List StoredValue). AreValues (IsUnder words) l []) (sym c.in_ok-values.ensures.items) tt;
-      members = same_path _ _ c.in_ok-interner.ensures;
       sized = refl;
+      stored = λ not. record {
+        nodes = subst (λ (l : List StoredNode). AreNodes (IsUnder words) l []) (sym c.in_ok-nodes.ensures.items) tt;
+        values = subst (λ (l : List StoredValue). AreValues (IsUnder words) l []) (sym c.in_ok-values.ensures.items) tt;
+        members = same_path _ _ c.in_ok-interner.ensures;
+        few = let one = ap length c.in_ok-interner.ensures in omega (arith, one);
+      };
+      full = λ is. absurd (cc);
     }
