@@ -3,7 +3,8 @@
  *   bench time RUNS COMMAND.. :: COMMAND.. ..   runs each command once, then each once more, and so on, RUNS times, with
  *                 standard output and error thrown away. A line for each: the least and the middle wall time in
  *                 microseconds, and the greatest memory that a run held, in KiB. If a command's status isn't 0: `failed`, and it
- *                 isn't run again. A command may have status 1 if `!` is before it
+ *                 isn't run again. A command may have status 1 if `!` is before it. With `*N` before it, it is run N times in a
+ *                 row for one time, which is their sum divided by N
  *   bench processor SECONDS RUNS COMMAND.. :: COMMAND.. ..   the same, with the time that the processor spent on the
  *                 command, its own and the system's, in place of wall time; a run that takes more than SECONDS of it has failed
  *   bench links FILE FOLDER COUNT               gives the file so many names in the folder, each ending in .hwdb
@@ -59,14 +60,15 @@ static struct bytes lines_of(const char *path) {
     return text;
 }
 
-struct command { char **words; long times[MOST_RUNS]; long memory; int most_status; int has_failed; };
+struct command { char **words; long times[MOST_RUNS]; long memory; int most_status; int in_a_row; int has_failed; };
 static struct command commands[MOST_COMMANDS];
 
 static int most_seconds;
 
 static long microseconds(struct timeval time) { return time.tv_sec * 1000000 + time.tv_usec; }
 
-static void run_once(struct command *command, int run) {
+/* One run of the command. Returns how long it took. */
+static long run_once(struct command *command) {
     struct timespec begin, end;
     struct rusage used;
     int status;
@@ -83,10 +85,16 @@ static void run_once(struct command *command, int run) {
     }
     if (wait4(child, &status, 0, &used) != child) fail("wait4");
     clock_gettime(CLOCK_MONOTONIC, &end);
-    command->times[run] = (end.tv_sec - begin.tv_sec) * 1000000 + (end.tv_nsec - begin.tv_nsec) / 1000;
-    if (most_seconds) command->times[run] = microseconds(used.ru_utime) + microseconds(used.ru_stime);
     if (used.ru_maxrss > command->memory) command->memory = used.ru_maxrss;
     if (!WIFEXITED(status) || WEXITSTATUS(status) > command->most_status) command->has_failed = 1;
+    if (most_seconds) return microseconds(used.ru_utime) + microseconds(used.ru_stime);
+    return (end.tv_sec - begin.tv_sec) * 1000000 + (end.tv_nsec - begin.tv_nsec) / 1000;
+}
+
+static long run_in_a_row(struct command *command) {
+    long sum = 0;
+    for (int i = 0; i < command->in_a_row; i++) sum += run_once(command);
+    return sum / command->in_a_row;
 }
 
 static int by_time(const void *a, const void *b) { return (*(long *)a > *(long *)b) - (*(long *)a < *(long *)b); }
@@ -95,14 +103,17 @@ static int time_all(int runs, char **words) {
     int count = 0;
     if (runs < 1 || runs > MOST_RUNS) return 1;
     while (*words && count < MOST_COMMANDS) {
-        if (!strcmp(*words, "!")) commands[count].most_status = 1, words++;
-        commands[count++].words = words;
+        struct command *command = &commands[count++];
+        command->in_a_row = **words == '*' ? atoi(*words++ + 1) : 1;
+        if (command->in_a_row < 1 || !*words) return 1;
+        if (!strcmp(*words, "!")) command->most_status = 1, words++;
+        command->words = words;
         while (*words && strcmp(*words, "::")) words++;
         if (*words) *words++ = 0;
     }
     for (int run = 0; run < runs; run++)
         for (int i = 0; i < count; i++)
-            if (!commands[i].has_failed) run_once(&commands[i], run);
+            if (!commands[i].has_failed) commands[i].times[run] = run_in_a_row(&commands[i]);
     for (int i = 0; i < count; i++) {
         qsort(commands[i].times, runs, sizeof(long), by_time);
         if (commands[i].has_failed) printf("failed\n");
