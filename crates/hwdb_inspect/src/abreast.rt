@@ -3,8 +3,8 @@ ghost use Rattle.std.specs.Prelude.{◌≡◌, All, List, OnOk};
 ghost use Rattle.hwdb_spec.specs.Assignment.{text_cmp};
 ghost use Rattle.hwdb_reader.specs.Unread.{new_file, old_file};
 ghost use Rattle.hwdb_inspect.specs.declared.trail.Segment.{Segment};
-ghost use Rattle.hwdb_inspect.specs.Internal.Spellings.{AreKeptOf, IsAbreast, IsSpelling};
-ghost use Rattle.hwdb_inspect.specs.Internal.Trails.{IsSegmentIn, path_in, path_of};
+ghost use Rattle.hwdb_inspect.specs.Internal.Spellings.{IsAbreast, IsSpelling};
+ghost use Rattle.hwdb_inspect.specs.Internal.Trails.{AreKeptOf, IsSegmentIn, path_in, path_of};
 
 use crate::meeting::compare_texts;
 use crate::spelling::Spelling;
