@@ -58,10 +58,10 @@ measured_at n (suc i) (x ∷ xs) d h m =
 -- ---- steps
 
 pub follows_on : (a b c : Trail) → Follows a b → Follows b c → Follows a c
-follows_on a b c f g = record { kept = λ before h. g.kept before (f.kept before h); copied = λ h. g.copied (f.copied h) }
+follows_on a b c f g = record { there = λ e. g.there (f.there e); kept = λ e before h. g.kept (f.there e) before (f.kept e before h); copied = λ h. g.copied (f.copied h) }
 
 pub follows_itself : (a : Trail) → Follows a a
-follows_itself a = record { kept = λ before h. h; copied = λ h. h }
+follows_itself a = record { there = λ e. e; kept = λ e before h. h; copied = λ h. h }
 
 -- so many of the segments are left
 pub cut_follows : (old new : Trail) (count : ℕ) → count ≤ length old.segments.items → new.segments.items ≡ take count old.segments.items → new.kept ≡ min old.kept count → new.copies ≡ old.copies
@@ -70,10 +70,8 @@ cut_follows old new count within is kept copies path =
     let all = old.segments.items in
     let size : length new.segments.items ≡ count = ap length is ∙ length-take-le count all within in
     record {
-      kept = λ before h. record {
-        within = omega (arith, size, kept);
-        same = λ n small. ap (take n) is ∙ take-take n count all (omega (arith, small, kept)) ∙ h.same n (omega (arith, small, kept));
-      };
+      there = λ e. omega (arith, size, kept);
+      kept = λ e before h n small. ap (take n) is ∙ take-take n count all (omega (arith, small, kept)) ∙ h n (omega (arith, small, kept));
       copied = λ h. record {
         copies = copies ∙ h.copies;
         path = path h ∙ ap path_in (sym is);
@@ -88,12 +86,8 @@ push_follows old new s is kept copies path from =
     let all = old.segments.items in
     let size : length new.segments.items ≡ length all + 1 = ap length is ∙ length-append all (s ∷ []) in
     record {
-      kept = λ before h.
-          let short = h.within in
-          record {
-            within = omega (arith, size, kept, short);
-            same = λ n small. ap (take n) is ∙ take-append-le n all (s ∷ []) (omega (arith, small, kept, short)) ∙ h.same n (omega (arith, small, kept));
-          };
+      there = λ e. omega (arith, size, kept, e);
+      kept = λ e before h n small. ap (take n) is ∙ take-append-le n all (s ∷ []) (omega (arith, small, kept, e)) ∙ h n (omega (arith, small, kept));
       copied = λ h.
           let held = ap length h.path in
           record {

@@ -1,10 +1,10 @@
 //! How far two walks side by side have come the same way. While their ways have the same segments, neither is read.
-ghost use Rattle.std.specs.Prelude.{◌≡◌, All, List, OnOk};
+ghost use Rattle.std.specs.Prelude.{◌≡◌, All, List, min, OnOk};
 ghost use Rattle.hwdb_spec.specs.Assignment.{text_cmp};
 ghost use Rattle.hwdb_reader.specs.Unread.{new_file, old_file};
 ghost use Rattle.hwdb_inspect.specs.declared.trail.Segment.{Segment};
-ghost use Rattle.hwdb_inspect.specs.Internal.Spellings.{AreKeptOf, IsAbreast, IsSpelling};
-ghost use Rattle.hwdb_inspect.specs.Internal.Trails.{IsSegmentIn, path_in, path_of};
+ghost use Rattle.hwdb_inspect.specs.Internal.Spellings.{IsAbreast, IsSpelling};
+ghost use Rattle.hwdb_inspect.specs.Internal.Trails.{AreKeptOf, IsSegmentIn, path_in, path_of};
 
 use crate::meeting::compare_texts;
 use crate::spelling::Spelling;
@@ -16,7 +16,7 @@ use std::cmp::Ordering;
 /// What is known of the ways of two walks.
 #[derive(Drop)]
 pub(crate) struct Abreast {
-    /// So many of the first segments have the same bytes.
+    /// So many of the first segments have the same bytes. A lesser number is right too: then more is compared.
     common: usize,
     /// How the paths compare.
     pub order: Ordering,
@@ -43,7 +43,9 @@ impl Abreast {
     fn keep(&mut self, old: &Trail<'_>, new: &Trail<'_>)
         requires { (xs ys : List Segment) × IsAbreast xs ys self.old × AreKeptOf xs old.now
             × AreKeptOf ys new.now }
-        ensures { IsAbreast old.now.segments.items new.now.segments.items self.new }
+        ensures abreast { IsAbreast old.now.segments.items new.now.segments.items self.new }
+        ensures common { self.new.common ≡ min self.old.common (min old.now.kept new.now.kept) }
+        ensures order { self.new.order ≡ self.old.order }
     {
         self.common = self.common.min(old.kept.min(new.kept));
         self.old_read.cut(old.kept);
@@ -54,6 +56,7 @@ impl Abreast {
     fn read_both(&mut self, old: &[Segment<'_>], new: &[Segment<'_>]) -> Result<(), AllocError>
         requires { IsAbreast old.now new.now self.old }
         ensures abreast { OnOk result (IsAbreast old.now new.now self.new) }
+        ensures common { self.new.common ≡ self.old.common }
         ensures order { OnOk result
             (self.new.order ≡ text_cmp (path_in old.now) (path_in new.now)) }
     {

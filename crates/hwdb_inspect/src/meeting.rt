@@ -8,8 +8,7 @@ ghost use Rattle.hwdb_reader.specs.Unread.{IsFrom, new_file, old_file, text_of};
 ghost use Rattle.hwdb_reader.specs.Views.{tree_of};
 ghost use Rattle.hwdb_inspect.specs.Internal.Forms.{change_form};
 ghost use Rattle.hwdb_inspect.specs.Internal.Merging.{by_place, merged};
-ghost use Rattle.hwdb_inspect.specs.Internal.Spellings.{AreKeptOf};
-ghost use Rattle.hwdb_inspect.specs.Internal.Trails.{path_of};
+ghost use Rattle.hwdb_inspect.specs.Internal.Trails.{AreKeptOf, path_of};
 ghost use Rattle.hwdb_inspect.specs.Internal.Meeting.{AreFrom, AreOf, IsMet, IsNext, IsUnderWay, changes_at, changes_by, left_of, unread_of, new_at, old_at, to_meet};
 
 use crate::abreast::Abreast;

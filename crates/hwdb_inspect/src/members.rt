@@ -6,7 +6,7 @@ ghost use Rattle.hwdb_reader.specs.Unread.{IsFrom, file_at, file_in, text_of};
 ghost use Rattle.hwdb_reader.specs.Views.{entered_tree, tree_of};
 ghost use Rattle.hwdb_query.specs.Internal.Members.{own_members};
 ghost use Rattle.hwdb_inspect.specs.Views.{assignment_of};
-ghost use Rattle.hwdb_inspect.specs.Internal.Trails.{IsCopied, IsKeptFrom, path_of};
+ghost use Rattle.hwdb_inspect.specs.Internal.Trails.{AreKeptOf, AreThere, IsCopied, path_of};
 ghost use Rattle.hwdb_inspect.specs.Internal.Meeting.{AreOf, IsUnderWay, after_next, head_of, left_of, member_of, unread_of};
 
 use crate::trail::push_path;
@@ -156,8 +156,9 @@ impl<'a> Members<'a> {
         ensures left { OnOk result (left_of self.new ≡ after_next self.old) }
         ensures end { OnOk result (IfNone self.new.next (self.new.walk.at ≡ None)) }
         ensures file { OnOk result ((f : List ℕ) → AreOf f self.old → AreOf f self.new) }
+        ensures there { OnOk result (AreThere self.new.walk.trail) }
         ensures kept { OnOk result
-            (IsKeptFrom self.old.walk.trail.segments.items self.new.walk.trail) }
+            (AreKeptOf self.old.walk.trail.segments.items self.new.walk.trail) }
         ensures copied { OnOk result (IsCopied self.old.walk.trail → IsCopied self.new.walk.trail) }
     {
         self.walk.trail.kept = self.walk.trail.segments.len();

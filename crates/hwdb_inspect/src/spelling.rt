@@ -1,5 +1,5 @@
 //! A path that is read bit by bit, while the walk that it belongs to goes on.
-ghost use Rattle.std.specs.Prelude.{◌≡◌, ◌≤◌, List, length, OnOk};
+ghost use Rattle.std.specs.Prelude.{◌≡◌, ◌≤◌, List, length, take, OnOk};
 ghost use Rattle.hwdb_inspect.specs.declared.trail.Segment.{Segment};
 ghost use Rattle.hwdb_inspect.specs.Internal.Trails.{path_in};
 ghost use Rattle.hwdb_inspect.specs.Internal.Spellings.{IsSpelling};
@@ -26,9 +26,10 @@ impl Spelling {
         }
     }
 
-    /// Keeps no more than the bytes of so many segments.
+    /// Keeps the bytes of the first segments, at most of so many.
     pub(crate) fn cut(&mut self, count: usize)
         ensures few { length self.new.froms.items ≤ count }
+        ensures froms { self.new.froms.items ≡ take count self.old.froms.items }
         ensures spelling { (way : List Segment)
             → IsSpelling way self.old → IsSpelling way self.new }
     {

@@ -1,5 +1,5 @@
 //! The way from a database's root to a node, as a list of segments. Who asks for no path reads none of them.
-ghost use Rattle.std.specs.Prelude.{◌≡◌, ◌≤◌, ◌++◌, ℕ, All, List, [], length, take, true, OnOk};
+ghost use Rattle.std.specs.Prelude.{◌≡◌, ◌≤◌, ◌++◌, ℕ, All, List, [], length, min, take, true, OnOk};
 ghost use Rattle.hwdb_spec.specs.Tree.{prefix_of};
 ghost use Rattle.hwdb_reader.specs.Unread.{file_at, new_file, old_file, text_of};
 ghost use Rattle.hwdb_reader.specs.Views.{tree_of};
@@ -22,7 +22,7 @@ pub(crate) struct Segment<'a> {
 #[derive(Drop)]
 pub(crate) struct Trail<'a> {
     pub segments: Vec<Segment<'a>>,
-    /// How many of the first segments were kept while the walk went on.
+    /// How many of the first segments were kept while the walk went on. A lesser number is right too: then more is read again.
     pub kept: usize,
     /// Whether the path's bytes are held, too.
     copies: bool,
@@ -61,7 +61,7 @@ pub(crate) fn push_path(text: &mut Vec<u8>, segments: &[Segment<'_>]) -> Result<
     Ok(())
 }
 
-/// Whether two segments have the same byte.
+/// Whether two segments have the same byte. A wrong `false` only costs time, here and below: then more is read.
 fn have_one_byte(old: &Segment<'_>, new: &Segment<'_>) -> bool
     ensures { result ≡ true → byte_in old.now.byte ≡ byte_in new.now.byte }
 {
@@ -84,7 +84,7 @@ fn are_same(twins: &Twins<'_, '_>, old: &Segment<'_>, new: &Segment<'_>) -> bool
     false
 }
 
-/// How many of the first segments have the same bytes, if so many have.
+/// How many of the first segments have the same bytes, if so many have. A lesser number is right too.
 pub(crate) fn alike(
     twins: &Twins<'_, '_>,
     from: usize,
@@ -111,6 +111,8 @@ impl<'a> Trail<'a> {
     /// The way to no node. Says whether the path's bytes are to be held.
     pub(crate) fn new(alloc: Global, copies: bool) -> Trail<'a>
         ensures segments { result.segments.items ≡ [] }
+        ensures kept { result.kept ≡ 0 }
+        ensures copies { result.copies ≡ copies }
         ensures copied { copies ≡ true → IsCopied result }
     {
         Trail {
@@ -149,6 +151,8 @@ impl<'a> Trail<'a> {
     pub(crate) fn push(&mut self, byte: Option<u8>, node: Node<'a>) -> Result<(), AllocError>
         ensures longer { OnOk result (IsLonger self.old.segments.items self.new.segments.items
             byte (prefix_of (tree_of node.entry))) }
+        ensures kept { self.new.kept ≡ self.old.kept }
+        ensures copies { self.new.copies ≡ self.old.copies }
         ensures follows { OnOk result (Follows self.old self.new) }
         ensures file { OnOk result ((f : List ℕ) → file_at node.entry ≡ f
             → All (IsSegmentIn f) self.old.segments.items
@@ -184,6 +188,8 @@ impl<'a> Trail<'a> {
     pub(crate) fn cut(&mut self, count: usize)
         requires { count ≤ length self.old.segments.items }
         ensures segments { self.new.segments.items ≡ take count self.old.segments.items }
+        ensures kept { self.new.kept ≡ min self.old.kept count }
+        ensures copies { self.new.copies ≡ self.old.copies }
         ensures follows { Follows self.old self.new }
     {
         self.cut_path(count);

@@ -3,7 +3,6 @@ use Rattle.std.specs.Prelude.{List, ℕ, [], ◌∷◌, ◌+◌, ◌≤◌, ◌�
 use Rattle.hwdb_inspect.specs.declared.abreast.Abreast.{Abreast}
 use Rattle.hwdb_inspect.specs.declared.spelling.Spelling.{Spelling}
 use Rattle.hwdb_inspect.specs.declared.trail.Segment.{Segment}
-use Rattle.hwdb_inspect.specs.declared.trail.Trail.{Trail}
 use Rattle.hwdb_inspect.specs.Internal.Trails.{AreAlike, bytes_of, path_in}
 
 -- these say how many bytes are before each of the first segments
@@ -17,10 +16,6 @@ pub record IsSpelling (way : List Segment) (s : Spelling) : Type 0 where
   pub within : length s.froms.items ≤ length way
   pub bytes : s.bytes.items ≡ path_in (take (length s.froms.items) way)
   pub froms : AreFroms 0 s.froms.items way
-
--- the first segments, so many as were kept, are the first of these
-abbrev pub AreKeptOf : List Segment → Trail → Type 0
-AreKeptOf before t = (n : ℕ) → n ≤ t.kept → take n t.segments.items ≡ take n before
 
 -- what is known of two ways is so
 pub record IsAbreast (old new : List Segment) (a : Abreast) : Type 0 where

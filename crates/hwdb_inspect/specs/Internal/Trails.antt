@@ -37,13 +37,17 @@ pub record IsCopied (t : Trail) : Type 0 where
   pub measured : AreMeasured 0 t.segments.items
 
 -- the first segments, so many as were kept, are the first of these
-pub record IsKeptFrom (before : List Segment) (t : Trail) : Type 0 where
-  pub within : t.kept ≤ length t.segments.items
-  pub same : (n : ℕ) → n ≤ t.kept → take n t.segments.items ≡ take n before
+abbrev pub AreKeptOf : List Segment → Trail → Type 0
+AreKeptOf before t = (n : ℕ) → n ≤ t.kept → take n t.segments.items ≡ take n before
+
+-- so many segments as were kept are there
+abbrev pub AreThere : Trail → Type 0
+AreThere t = t.kept ≤ length t.segments.items
 
 -- one comes from the other by steps that say what they keep
 pub record Follows (old new : Trail) : Type 0 where
-  pub kept : (before : List Segment) → IsKeptFrom before old → IsKeptFrom before new
+  pub there : AreThere old → AreThere new
+  pub kept : AreThere old → (before : List Segment) → AreKeptOf before old → AreKeptOf before new
   pub copied : IsCopied old → IsCopied new
 
 -- a segment's prefix is one of the database with these bytes

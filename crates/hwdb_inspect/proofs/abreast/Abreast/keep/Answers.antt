@@ -4,8 +4,8 @@ use Rattle.hwdb_inspect.proofs.SpellingLemmas.{kept_spelling}
 use Rattle.hwdb_inspect.proofs.TrailLemmas.{passed_alike}
 use Rattle.hwdb_inspect.proofs.abreast.Abreast.keep.Goals as goal
 
-pub returns : goal.returns
-returns c =
+pub returns-clause-abreast : goal.returns-clause-abreast
+returns-clause-abreast c =
     let known = c.requires in
     let xs = known.0 in
     let ys = known.1 in
@@ -20,3 +20,6 @@ returns c =
       old_read = kept_spelling xs old.segments.items c.cut.new.self (known.3 _ c.cut.ensures.few) (c.cut.ensures.spelling xs are.old_read);
       new_read = kept_spelling ys new.segments.items c.cut-2.new.self (known.4 _ c.cut-2.ensures.few) (c.cut-2.ensures.spelling ys are.new_read);
     }
+
+pub returns-clause-common : goal.returns-clause-common
+returns-clause-common c = c.min-self.ensures ∙ ap (min c.args.self.now.common) c.min.ensures

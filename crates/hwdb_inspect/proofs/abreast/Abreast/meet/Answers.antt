@@ -8,7 +8,7 @@ use Rattle.hwdb_inspect.proofs.abreast.Abreast.meet.Goals as goal
 
 pub alike-self-requires-clause-alike : goal.alike-self-requires-clause-alike
 alike-self-requires-clause-alike c =
-    subst (λ (g : List Segment × List Segment). AreAlike c.keep.new.self.common g.0 g.1) (λ i. (sym c.deref.ensures.value i, sym c.deref-2.ensures.value i)) c.keep.ensures.alike
+    subst (λ (g : List Segment × List Segment). AreAlike c.keep.new.self.common g.0 g.1) (λ i. (sym c.deref.ensures.value i, sym c.deref-2.ensures.value i)) c.keep.ensures.abreast.alike
 
 pub returns-then-self-len-2-clause-order : goal.returns-then-self-len-2-clause-order
 returns-then-self-len-2-clause-order c =

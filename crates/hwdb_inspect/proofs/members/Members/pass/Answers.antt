@@ -1,5 +1,5 @@
 use Rattle.std.proofs.Common.{◌≡◌, ◌∙◌, refl, arith, sym, subst, [], IfNone, IfSome, List, Option, ℕ}
-use Rattle.hwdb_inspect.specs.Internal.Trails.{IsCopied, IsKeptFrom}
+use Rattle.hwdb_inspect.specs.Internal.Trails.{AreKeptOf, AreThere, IsCopied}
 use Rattle.hwdb_inspect.specs.Internal.Walks.{IsAtOne, IsOf, IsWalkOf}
 use Rattle.hwdb_reader.specs.Unread.{IsFrom, file_in}
 use Rattle.hwdb_reader.specs.declared.view.Inside.{Inside}
@@ -37,12 +37,17 @@ nodes-preserved c = record {
   file = λ f are.
       let held : IsOf f c.look.new.self.walk = subst (λ (w : Walk). IsOf f w) (sym c.look.ensures.same) (c.nodes.invariant.file f are) in
       record { stack = c.in_ok-next.ensures.files f held.stack; at = c.in_ok-next.ensures.file f held.stack; segments = c.in_ok-next.ensures.segments f held.stack held.segments };
-  kept = c.in_ok-next.ensures.follows.kept _ (subst (λ (w : Walk). IsKeptFrom c.args.self.now.walk.trail.segments.items w.trail) (sym c.look.ensures.same) c.nodes.invariant.kept);
+  there = c.in_ok-next.ensures.follows.there (subst (λ (w : Walk). AreThere w.trail) (sym c.look.ensures.same) c.nodes.invariant.there);
+  kept = c.in_ok-next.ensures.follows.kept (subst (λ (w : Walk). AreThere w.trail) (sym c.look.ensures.same) c.nodes.invariant.there)
+      c.args.self.now.walk.trail.segments.items (subst (λ (w : Walk). AreKeptOf c.args.self.now.walk.trail.segments.items w.trail) (sym c.look.ensures.same) c.nodes.invariant.kept);
   copied = λ h. c.in_ok-next.ensures.follows.copied (subst (λ (w : Walk). IsCopied w.trail) (sym c.look.ensures.same) (c.nodes.invariant.copied h));
 }
 
+pub returns-then-look-clause-there : goal.returns-then-look-clause-there
+returns-then-look-clause-there c = subst (λ (w : Walk). AreThere w.trail) (sym c.look.ensures.same) c.nodes.invariant.there
+
 pub returns-then-look-clause-kept : goal.returns-then-look-clause-kept
-returns-then-look-clause-kept c = subst (λ (w : Walk). IsKeptFrom c.args.self.now.walk.trail.segments.items w.trail) (sym c.look.ensures.same) c.nodes.invariant.kept
+returns-then-look-clause-kept c = subst (λ (w : Walk). AreKeptOf c.args.self.now.walk.trail.segments.items w.trail) (sym c.look.ensures.same) c.nodes.invariant.kept
 
 pub returns-then-look-clause-copied : goal.returns-then-look-clause-copied
 returns-then-look-clause-copied c h = subst (λ (w : Walk). IsCopied w.trail) (sym c.look.ensures.same) (c.nodes.invariant.copied h)
@@ -68,7 +73,8 @@ nodes-init c =
           let old = way.walk in
           record { walk = record { stands = old.stands; small = old.small; counted = old.counted; deepest = old.deepest; reached = old.reached }; end = way.end };
       left = refl;
-      kept = record { within = omega (arith, read, ok); same = λ n small. refl };
+      there = omega (arith, read, ok);
+      kept = λ n small. refl;
       copied = λ h. record { copies = h.copies; path = h.path; measured = h.measured };
       file = λ f are. let old = are.walk in record { stack = old.stack; at = old.at; segments = old.segments };
     }

@@ -2,14 +2,15 @@ use Rattle.std.proofs.Common.{◌≡◌, ◌+◌, List, ℕ}
 use Rattle.hwdb_spec.specs.Tree.{Tree}
 use Rattle.hwdb_inspect.specs.Internal.Walks.{IsOf, entered_one, still_left}
 use Rattle.hwdb_inspect.specs.Internal.Meeting.{AreOf, IsUnderWay, after_next}
-use Rattle.hwdb_inspect.specs.Internal.Trails.{IsCopied, IsKeptFrom}
+use Rattle.hwdb_inspect.specs.Internal.Trails.{AreKeptOf, AreThere, IsCopied}
 use Rattle.hwdb_inspect.proofs.members.Members.pass.Given as goal
 
 abbrev pub invariant-nodes : goal.invariant-nodes
 invariant-nodes l = record {
   walk : (t : Tree) → IsUnderWay t l.fn.self → IsUnderWay t l.self;
   left : after_next l.self ≡ after_next l.fn.self;
-  kept : IsKeptFrom l.fn.self.walk.trail.segments.items l.self.walk.trail;
+  there : AreThere l.self.walk.trail;
+  kept : AreKeptOf l.fn.self.walk.trail.segments.items l.self.walk.trail;
   copied : IsCopied l.fn.self.walk.trail → IsCopied l.self.walk.trail;
   file : (f : List ℕ) → AreOf f l.fn.self → IsOf f l.self.walk;
 }
