@@ -36,8 +36,8 @@ SECONDS ?= 300
 WARNINGS := -std=c11 -Wall -Wextra -Werror
 HARDENED := -Wl,-z,relro -Wl,-z,now -Wl,-z,noexecstack -Wl,--no-undefined
 
-.PHONY: all program lib linked-lib hardened-lib kit unproved completions demo check scripts timed check-edits check-survivors fuzz check-peer \
-	check-package bench install uninstall deb dist clean
+.PHONY: all program lib linked-lib hardened-lib kit unproved completions demo check check-edits check-survivors fuzz check-peer check-package bench \
+	install uninstall deb dist clean
 
 # The library over what the program's proofs built; c/over-proved proves its calls.
 all: program
@@ -89,45 +89,9 @@ completions: $(PROGRAM)
 demo: program
 	out/hwdb ask examples/workshop.hwdb usb:v1209p0007d0101
 
+# All of the gate; `tests/gate SCRIPT..` runs some of its scripts on what is built.
 check: kit
-	rt ci
-	mkdir -p out
-	cp crates/hwdb/out/hwdb out/hwdb
-	$(MAKE) --no-print-directory --jobs=4 --output-sync=target scripts
-	$(MAKE) --no-print-directory --jobs=2 --output-sync=target timed
-
-# What tries the built program and library, in lanes, the longest first.
-scripts: try-memory try-wrong-bodies try-definitions try-reading try-over-proved try-random try-rows try-crash try-documents \
-	try-definitions-page try-refused try-words try-command-line try-installed try-library try-readme try-runs try-folders try-sides \
-	try-refusals try-footprint try-changed try-reload try-streams try-colours try-near try-mistakes try-device try-test-files try-status \
-	try-text try-fuzz
-
-# What looks at the processor's times, after all others.
-timed: try-growth try-hostile
-
-try-definitions:
-	tests/proofs/definitions hwdb_reader::laws::law_faultless hwdb_tool::one_outcome::listings_give_one_reading
-
-# One round of the wrong bodies, another one after each commit.
-try-wrong-bodies:
-	tests/proofs/wrong-bodies --some
-
-# The C library, over what `rt ci` proved.
-try-over-proved:
-	c/over-proved
-	$(MAKE) linked-lib
-
-try-installed try-library try-fuzz: try-over-proved
-
-# Not those of tests/peer, which need a network.
-try-device try-near: try-%:
-	tests/run/$* out/hwdb
-
-try-documents try-definitions-page try-reading try-refused: try-%:
-	tests/*/$*
-
-try-%:
-	tests/*/$* out/hwdb
+	tests/gate
 
 check-edits:
 	tests/proofs/wrong-bodies $(CRATES)
