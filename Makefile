@@ -1,8 +1,9 @@
 # `make` builds what `make install` installs, and proves it on the way: `make program` out/hwdb, `make lib` the C library,
 # out/libhwdb.so.0 and out/libhwdb.a, and out/libhwdb-udev.so.0 with libudev's calls over it.
-# `make unproved` builds out/hwdb-unproved in a minute or two, without a proof, and runs it; it says of itself that it isn't proved.
+# `make unproved` builds out/hwdb-unproved in two or three minutes, without a proof, and runs it; it says of itself that it isn't proved.
 # `make completions` writes the completions and README's table of commands from the program's help.
-# `make demo` runs the program on a file of our own, `make check` is the whole gate, `make check-edits` tries more wrong bodies,
+# `make demo` asks a file of our own, by the proved program if it is built, else by the one without proofs; it takes three minutes at most.
+# `make check` is the whole gate, `make check-edits` tries more wrong bodies,
 # `make check-survivors` those that the prover accepts, `make check-peer` compares with Debian's own files, `make bench` measures on them.
 # `make fuzz` gives the C library's calls changed files for five minutes, or for as long as SECONDS says.
 # `make install` and `make uninstall` go by the folders below and need no toolchain, `make deb` makes Debian packages in out/, `make
@@ -33,6 +34,8 @@ CFLAGS ?= -O2
 LIBRARIES ?= out
 # How long `make fuzz` runs.
 SECONDS ?= 300
+# What `make demo` and `make unproved` ask.
+ASKED := ask examples/workshop.hwdb usb:v1209p0007d0101
 WARNINGS := -std=c11 -Wall -Wextra -Werror
 HARDENED := -Wl,-z,relro -Wl,-z,now -Wl,-z,noexecstack -Wl,--no-undefined
 
@@ -80,14 +83,18 @@ hardened-lib: out/libhwdb.so.0
 
 unproved: kit
 	tests/proofs/unproved out/hwdb-unproved
-	out/hwdb-unproved ask examples/workshop.hwdb usb:v1209p0007d0101
+	out/hwdb-unproved $(ASKED)
 
 # The completions, and README's table of commands.
 completions: $(PROGRAM)
 	completions/from-help '$(PROGRAM)'
 
-demo: program
-	out/hwdb ask examples/workshop.hwdb usb:v1209p0007d0101
+# A first answer, before anything is proved.
+demo: kit
+	@if [ -x out/hwdb ]; then set -x; out/hwdb $(ASKED); else \
+		echo 'make demo: builds the program without its proofs, in two or three minutes. After that `make` proves it, in some 40.'; \
+		$(MAKE) --no-print-directory unproved; \
+	fi
 
 # All of the gate; `tests/gate SCRIPT..` runs some of its scripts on what is built.
 check: kit
