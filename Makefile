@@ -105,7 +105,7 @@ check: kit
 scripts: try-memory try-wrong-bodies try-definitions try-reading try-over-proved try-random try-rows try-crash try-documents \
 	try-definitions-page try-refused try-words try-command-line try-installed try-library try-readme try-runs try-folders try-sides \
 	try-refusals try-footprint try-changed try-reload try-streams try-colours try-near try-mistakes try-device try-test-files try-status \
-	try-text try-fuzz
+	try-text try-protocol try-bindings try-fuzz
 
 # What looks at the processor's times, after all others.
 timed: try-growth try-hostile
@@ -122,7 +122,7 @@ try-over-proved:
 	c/over-proved
 	$(MAKE) linked-lib
 
-try-installed try-library try-fuzz: try-over-proved
+try-installed try-library try-bindings try-fuzz: try-over-proved
 
 # Not those of tests/peer, which need a network.
 try-device try-near: try-%:
