@@ -47,9 +47,14 @@ all: program
 	c/over-proved
 	$(MAKE) linked-lib
 
+# What building needs, before anything is proved.
 kit:
 	@command -v rt >/dev/null || { echo "make: building needs the Rattle toolchain: the kit rattle-kit-13f, with its command rt on" \
 		"the path (README.md, 'Install')" >&2; exit 1; }
+	@missing=; for tool in python3 $(firstword $(CC)) ld objcopy ar; do \
+		command -v "$$tool" >/dev/null || missing="$$missing $$tool"; \
+	done; \
+	[ -z "$$missing" ] || { echo "make: building needs what isn't on the path:$$missing (README.md, 'Install')" >&2; exit 1; }
 
 program: kit
 	cd crates/hwdb && rt run -- ask /dev/null none

@@ -250,7 +250,7 @@ def thinkpad(root):
 def convertible(root):
     """A laptop with the newer devices: over i2c, with a sensor that tells how it is held, and mice over Bluetooth."""
     m = Machine(root)
-    m.dmi("dmi:bvnInsyde:bvrF.41:bd11/29/2019:br15.41:efr94.49:svnHP:pnHPSpectrex360Convertible13-ae0xx:pvrTypeÄ1(ProductConfigurationId):"
+    m.dmi("dmi:bvnInsyde:bvrF.41:bd11/29/2019:br15.41:efr94.49:svnHP:pnHPSpectrex360Convertible13-ae0xx:pvrType1ProductConfigId:"
           "rvnHP:rn83B9:rvr56.43:cvnHP:ct31:cvrChassisVersion:sku2PG63EA#ABD:",
           sys_vendor="HP", product_name="HP Spectre x360 Convertible 13-ae0xx", chassis_asset_tag="Chassis Asset Tag", chassis_type="31")
     m.at_keyboard(4)
