@@ -205,6 +205,8 @@ int fchmod(int file, mode_t mode) {
     return result;
 }
 
+int chmod(const char *path, mode_t mode) { MAKE("chmod", path, syscall(SYS_fchmodat, AT_FDCWD, path, mode)); }
+
 int flock(int file, int operation) {
     MAKE("flock", path_of(file), syscall(SYS_flock, file, operation));
 }

@@ -8,6 +8,7 @@ ghost use Rattle.hwdb_spec.specs.Refusals.{IsUnlisted};
 
 use crate::identity::Identity;
 use crate::ignored::{ignored_in, text_folder};
+use crate::new_folders::make_folders;
 use crate::parts::{Lockable, clear_parts, is_ours};
 use crate::raw::StdFiles;
 use crate::reads::{
@@ -170,7 +171,7 @@ where
         ensures { self.new.failed ≡ self.old.failed }
     {
         let place = self.root.folder_of(self.rt, folder)?;
-        fs::create_dir_all(self.rt, place)
+        make_folders(self.rt, place)
     }
 
     /// Removes what killed updates left in a folder. What can't be removed stays.

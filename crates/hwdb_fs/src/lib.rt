@@ -12,6 +12,7 @@
 //! | `identity` | what tells a file from one that replaced it |
 //! | `devices` | the file system as it is asked for devices |
 //! | `overlay` | a file system with another database in its place |
+//! | `new_folders` | folders that are made, with their mode |
 //! | `parts` | new files of updates: whose they are, and what killed updates left |
 //! | `roots` | where a path below a root leads; `place` is such a place |
 //! | `memory` | a store in memory as such a system, for tests |
@@ -27,6 +28,7 @@ mod laws;
 mod left_out;
 mod machine;
 mod memory;
+mod new_folders;
 mod one_file;
 mod overlay;
 mod parts;
