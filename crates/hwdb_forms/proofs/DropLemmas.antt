@@ -38,9 +38,11 @@ ruled forms all last t nowhere l e f =
 
 -- the last ones of Rust's
 pub last_are : (l r : List (Bor (List ℕ))) (n : ℕ) → r ≡ drop n l → AreLast (views l) (views r)
-last_are l r n e =
-    (views (take n l), ap views (sym (take-append-drop n l)) ∙ map-append (λ text. token_at text.now) (take n l) (drop n l)
-    ∙ ap (λ (ts : List Token). views (take n l) ++ ts) (ap views (sym e)))
+last_are l r n e = (
+  views (take n l),
+  ap views (sym (take-append-drop n l)) ∙ map-append (λ text. token_at text.now) (take n l) (drop n l)
+      ∙ ap (λ (ts : List Token). views (take n l) ++ ts) (ap views (sym e)),
+)
 
 pub all_are : (l : List (Bor (List ℕ))) → AreLast (views l) (views l)
 all_are l = ([], refl)

@@ -93,12 +93,7 @@ fn begins_at_once(alloc: Global, pattern: &[u8], count: usize) -> Result<bool, A
 }
 
 /// Whether a text that is asked begins with what so many of a pattern's first tokens match.
-fn begins(
-    alloc: Global,
-    pattern: &[u8],
-    tokens: &[&[u8]],
-    count: usize,
-) -> Result<bool, AllocError>
+fn begins(alloc: Global, pattern: &[u8], tokens: &[&[u8]], count: usize) -> Result<bool, AllocError>
     requires tokens { views tokens.now ≡ tokens_of pattern.now }
     requires count { count ≤ length tokens.now }
     ensures { IfOk result (λ met. met

@@ -246,12 +246,7 @@ fn goes_on(fields: &[&[&[Piece]]], whole: bool, text: &[u8]) -> bool {
 }
 
 /// How many of the text's first bytes go through one of the ways: the first one after which the text goes on through the fields.
-fn through_ways(
-    field: &[&[Piece]],
-    rest: &[&[&[Piece]]],
-    whole: bool,
-    text: &[u8],
-) -> Option<usize>
+fn through_ways(field: &[&[Piece]], rest: &[&[&[Piece]]], whole: bool, text: &[u8]) -> Option<usize>
     ensures { IfSome result
         (IsThroughField (map (λ way. map piece_of way.now) field.now) text.now) }
 {

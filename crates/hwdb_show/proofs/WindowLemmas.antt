@@ -70,11 +70,14 @@ pub below_byte : MarkIsBelowByte
 below_byte text at h =
     let k = at - window_start text at in
     let w = window text at in
-    let rest = back_cut text at ++ byte "\n" ∷ [] in
-    (codes "    " ++ above_mark text at, shown (drop (suc k) w) ++ rest,
-    ap (λ (l : List ℕ). codes "    " ++ (front_cut text at ++ (l ++ rest))) (shown_at w k (in_window text at h))
-    ∙ ap (λ (l : List ℕ). codes "    " ++ l) (regroup (front_cut text at) (shown (take k w)) (shown_byte (get_or w k 0)) (shown (drop (suc k) w)) rest)
-    ∙ ap (λ (b : ℕ). (codes "    " ++ above_mark text at) ++ (shown_byte b ++ (shown (drop (suc k) w) ++ rest))) (byte_there text at h), refl)
+    let rest = back_cut text at ++ byte "\n" ∷ [] in (
+      codes "    " ++ above_mark text at,
+      shown (drop (suc k) w) ++ rest,
+      ap (λ (l : List ℕ). codes "    " ++ (front_cut text at ++ (l ++ rest))) (shown_at w k (in_window text at h))
+          ∙ ap (λ (l : List ℕ). codes "    " ++ l) (regroup (front_cut text at) (shown (take k w)) (shown_byte (get_or w k 0)) (shown (drop (suc k) w)) rest)
+          ∙ ap (λ (b : ℕ). (codes "    " ++ above_mark text at) ++ (shown_byte b ++ (shown (drop (suc k) w) ++ rest))) (byte_there text at h),
+      refl,
+    )
 
 -- ---- a line that is shown whole
 fit_window : (text : List ℕ) (at : ℕ) → length text ≤ 160 → window text at ≡ text
@@ -119,8 +122,10 @@ end_by text true e =
 pub at_end : MarkIsAtEnd
 at_end text =
     let at = length text in
-    let e = end_by text (nat_lt 160 (length text)) refl in
-    (codes "    " ++ above_mark text at,
-    ap (λ (l : List ℕ). codes "    " ++ (front_cut text at ++ (shown (window text at) ++ (l ++ byte "\n" ∷ [])))) (no_back text at e.1)
-    ∙ ap (λ (l : List ℕ). codes "    " ++ (front_cut text at ++ (shown l ++ byte "\n" ∷ []))) (sym (all_above text at e.0))
-    ∙ ap (λ (l : List ℕ). codes "    " ++ l) (sym (append_assoc (front_cut text at) (shown (take (at - window_start text at) (window text at))) (byte "\n" ∷ []))), refl)
+    let e = end_by text (nat_lt 160 (length text)) refl in (
+      codes "    " ++ above_mark text at,
+      ap (λ (l : List ℕ). codes "    " ++ (front_cut text at ++ (shown (window text at) ++ (l ++ byte "\n" ∷ [])))) (no_back text at e.1)
+          ∙ ap (λ (l : List ℕ). codes "    " ++ (front_cut text at ++ (shown l ++ byte "\n" ∷ []))) (sym (all_above text at e.0))
+          ∙ ap (λ (l : List ℕ). codes "    " ++ l) (sym (append_assoc (front_cut text at) (shown (take (at - window_start text at) (window text at))) (byte "\n" ∷ []))),
+      refl,
+    )

@@ -82,7 +82,11 @@ fn first_bytes(text: &[u8], most: usize) -> &[u8]
 fn bytes_after(text: &[u8], start: usize) -> &[u8]
     ensures { result.now ≡ drop start text.now }
 {
-    if start < text.len() { &text[start..] } else { &[] }
+    if start < text.len() {
+        &text[start..]
+    } else {
+        &[]
+    }
 }
 
 /// After how many bytes of a line begins what is shown of it.
