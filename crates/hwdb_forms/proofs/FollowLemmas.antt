@@ -38,12 +38,12 @@ small_token : (b : ℕ) (rest : List ℕ) → (b == 91) ≡ false → token_size
 unfolding token_at
 small_token b rest e = small (b == 42) (b == 63) (b == 91) _ b e
 
-plain_next : (b : ℕ) (rest : List ℕ) → (b == 91) ≡ false → tokens (b ∷ rest) ≡ token_at (b ∷ []) ∷ tokens rest
+pub plain_next : (b : ℕ) (rest : List ℕ) → (b == 91) ≡ false → tokens (b ∷ rest) ≡ token_at (b ∷ []) ∷ tokens rest
 unfolding tokens_from
 plain_next b rest e =
     ap (λ (n : ℕ). token_at (b ∷ rest) ∷ tokens_from n rest) (small_token b rest e) ∙ ap (λ (t : Token). t ∷ tokens rest) (same_token b rest [] e)
 
-tokens_after : (plain more : List ℕ) → has 91 plain ≡ false → tokens (plain ++ more) ≡ tokens plain ++ tokens more
+pub tokens_after : (plain more : List ℕ) → has 91 plain ≡ false → tokens (plain ++ more) ≡ tokens plain ++ tokens more
 unfolding tokens_from
 tokens_after [] more e = refl
 tokens_after (b ∷ plain) more e =
@@ -114,7 +114,7 @@ unopened_pushed (x ∷ l) b h e =
     let parts = or_neither (x == 91) (has 91 l) h in
     ap (λ c. c || has 91 (l ++ b ∷ [])) parts.0 ∙ unopened_pushed l b parts.1 e
 
-star_after : (l : List ℕ) → has 91 l ≡ false → tokens (l ++ 42 ∷ []) ≡ tokens l ++ star ∷ []
+pub star_after : (l : List ℕ) → has 91 l ≡ false → tokens (l ++ 42 ∷ []) ≡ tokens l ++ star ∷ []
 unfolding tokens_from token_at
 star_after l h = tokens_after l (42 ∷ []) h
 

@@ -14,3 +14,4 @@ pub mod ExpectedLemmas
 pub mod LikeLemmas
 pub mod GuessLemmas
 pub mod AlikeLemmas
+pub mod DropLemmas

@@ -119,6 +119,10 @@ pub record IsAfter (front : List ℕ) (f : Following) : Type 0 where
   pub unopened : f.is_plain ≡ true → has 91 front ≡ false
   pub plain : f.is_plain ≡ true → (byte : ℕ) → tokens (front ++ byte ∷ []) ≡ views f.tokens.items ++ token_at (byte ∷ []) ∷ []
 
+-- some tokens are the last of others
+abbrev pub AreLast : (all last : List Token) → Type 0
+AreLast all last = (front : List Token) × (all ≡ front ++ last)
+
 -- how many bytes a piece has, if each of its texts has as many
 abbrev pub piece_size : Forms.Piece → ℕ
 piece_size (fixed bytes) = length bytes

@@ -1,11 +1,11 @@
 //! What can be written at a place of a pattern.
-ghost use Rattle.std.specs.Prelude.{◌≡◌, ◌≤◌, ◌++◌, ◌∷◌, [], false, true, filter, length, map, take, IfOk};
+ghost use Rattle.std.specs.Prelude.{◌≡◌, ◌≤◌, ◌++◌, ◌∷◌, [], false, true, drop, filter, length, map, not, take, IfOk};
 ghost use Rattle.hwdb_spec.specs.Lines.{has};
 ghost use Rattle.hwdb_spec.specs.Patterns.{star, token_at, tokens};
 ghost use Rattle.hwdb_spec.specs.Forms;
 ghost use Rattle.hwdb_spec.specs.FormTable;
 ghost use Rattle.hwdb_spec.specs.FormTable.{asked};
-ghost use Rattle.hwdb_forms.specs.Internal.{AreEnough, IsAfter, IsAskedAfter, form_of, views};
+ghost use Rattle.hwdb_forms.specs.Internal.{AreEnough, AreLast, IsAfter, IsAskedAfter, form_of, views};
 
 use crate::alike::alike_in_forms;
 use crate::beginnings::{free, free_prefixes};
@@ -19,7 +19,10 @@ use hwdb_pattern::token_texts;
 use std::alloc::{AllocError, Global};
 
 /// How many tokens there is room for at first. Most patterns have fewer.
-const ROOM: usize = 64;
+pub(crate) const ROOM: usize = 64;
+
+/// How many of the last tokens are tried before all: with a few more than a field's name has, most that can't match are seen.
+const LAST: usize = 6;
 
 /// What is known of the beginning of a pattern: it is the same for each byte after it.
 #[derive(Drop)]
@@ -33,7 +36,7 @@ struct Following<'a> {
 }
 
 /// How many bytes are before the first `[` of a text.
-fn plain_size(text: &[u8]) -> usize
+pub(crate) fn plain_size(text: &[u8]) -> usize
     ensures plain { has 91 (take result text.now) ≡ false }
     ensures within { result ≤ length text.now }
 {
@@ -166,6 +169,71 @@ fn begins_anew(alloc: Global, forms: &[FormRow], front: &[u8], byte: u8) -> Resu
     Ok(met)
 }
 
+/// The last of some tokens, at most so many.
+fn last_tokens<'s, 't>(tokens: &'s [&'t [u8]], most: usize) -> &'s [&'t [u8]]
+    ensures { AreLast (views tokens.now) (views result.now) }
+{
+    if tokens.len() > most {
+        &tokens[tokens.len() - most..]
+    } else {
+        tokens
+    }
+}
+
+/// Whether no text of the forms has what some tokens match, and after that what begins the text.
+fn is_nowhere<'t>(
+    alloc: Global,
+    forms: &[FormRow],
+    tokens: &[&'t [u8]],
+    text: &'t [u8],
+) -> Result<bool, AllocError>
+    ensures { IfOk result (λ nowhere. nowhere ≡ not (Forms.can_match (map form_of forms.now)
+        (star ∷ (views tokens.now ++ (token_at text.now ∷ star ∷ []))))) }
+{
+    let mut all: Vec<&'t [u8]> = Vec::with_capacity(alloc, ROOM)?;
+    all.push(b"*")?;
+    all.extend_from_slice(tokens)?;
+    all.push(text)?;
+    all.push(b"*")?;
+    let met = match_one(alloc, forms, &all)?;
+    Ok(!met)
+}
+
+/// Whether it is seen by so many of the last tokens that no text of the forms begins with what all match, and then what begins the
+/// text.
+fn is_ruled_out_by<'t>(
+    alloc: Global,
+    forms: &[FormRow],
+    tokens: &[&'t [u8]],
+    most: usize,
+    text: &'t [u8],
+) -> Result<bool, AllocError>
+    ensures { IfOk result (λ ruled. ruled ≡ true → Forms.can_begin (map form_of forms.now)
+        (views tokens.now ++ token_at text.now ∷ []) ≡ false) }
+{
+    let last = last_tokens(tokens, most);
+    let nowhere = is_nowhere(alloc, forms, last, text)?;
+    Ok(nowhere)
+}
+
+/// Whether it is seen by the last tokens that no text of the forms begins with what all match, and then what begins the text.
+fn is_ruled_out<'t>(
+    alloc: Global,
+    forms: &[FormRow],
+    tokens: &[&'t [u8]],
+    text: &'t [u8],
+) -> Result<bool, AllocError>
+    ensures { IfOk result (λ ruled. ruled ≡ true → Forms.can_begin (map form_of forms.now)
+        (views tokens.now ++ token_at text.now ∷ []) ≡ false) }
+{
+    let ruled = is_ruled_out_by(alloc, forms, tokens, 1, text)?;
+    if ruled {
+        return Ok(true);
+    }
+    let ruled = is_ruled_out_by(alloc, forms, tokens, LAST, text)?;
+    Ok(ruled)
+}
+
 /// Whether a text that udev asks begins with what the beginning of a pattern and the byte after it match.
 fn begins(alloc: Global, known: &Following<'_>, front: &[u8], byte: u8) -> Result<bool, AllocError>
     requires { IsAfter front.now known.now }
@@ -177,6 +245,10 @@ fn begins(alloc: Global, known: &Following<'_>, front: &[u8], byte: u8) -> Resul
             return Ok(true);
         }
         let own = [byte];
+        let ruled = is_ruled_out(alloc, &known.forms, &known.tokens, &own)?;
+        if ruled {
+            return Ok(false);
+        }
         let met = begins_with(alloc, &known.forms, &known.tokens, &own)?;
         Ok(met)
     } else {
@@ -273,5 +345,22 @@ pub fn expected(alloc: Global, front: &[u8]) -> Result<Vec<u8>, AllocError>
         byte += 1;
     }
     put_expected(alloc, &known, front, &mut last, byte, &mut bytes)?;
+    Ok(bytes)
+}
+
+/// As `expected`, of the bytes below an end.
+pub fn expected_below(alloc: Global, front: &[u8], end: u8) -> Result<Vec<u8>, AllocError>
+    ensures { IfOk result (λ bytes. bytes.items
+        ≡ filter (Forms.is_expected asked front.now) (Forms.all_bytes_from end 0)) }
+{
+    let known = known_after(alloc, front)?;
+    let met = begins(alloc, &known, front, 0)?;
+    let mut last = Asked { byte: 0, met };
+    let mut bytes = Vec::new(alloc);
+    let mut byte = 0u8;
+    while byte < end {
+        put_expected(alloc, &known, front, &mut last, byte, &mut bytes)?;
+        byte += 1;
+    }
     Ok(bytes)
 }

@@ -1,5 +1,5 @@
 //! What is said of a pattern.
-ghost use Rattle.std.specs.Prelude.{◌≡◌, ◌↔◌, ◌≤◌, ◌++◌, ◌∷◌, [], length, map, take, IfOk};
+ghost use Rattle.std.specs.Prelude.{◌≡◌, ◌↔◌, ◌≤◌, ◌++◌, ◌∷◌, [], length, map, take, true, IfOk};
 ghost use Rattle.hwdb_spec.specs.Patterns.{star, tokens as tokens_of};
 ghost use Rattle.hwdb_spec.specs.Forms.{CanMatch, judged};
 ghost use Rattle.hwdb_spec.specs.Forms;
@@ -8,6 +8,7 @@ ghost use Rattle.hwdb_spec.specs.Surroundings;
 ghost use Rattle.hwdb_forms.specs.Internal.{form_of, views};
 
 use crate::beginnings::{free, free_prefixes};
+use crate::expecting::{ROOM, plain_size};
 use crate::guesses::is_fine_at_once;
 use crate::pieces::FormRow;
 use crate::rows::meets_form;
@@ -72,15 +73,50 @@ pub(crate) fn can_begin(alloc: Global, front: &[&[u8]]) -> Result<bool, AllocErr
     Ok(met)
 }
 
-/// How many of the tokens, at most, a text that is asked begins with.
-fn front_length(alloc: Global, tokens: &[&[u8]]) -> Result<usize, AllocError>
+/// Whether it is seen byte by byte that a text that is asked begins with what so many of a pattern's first tokens match.
+fn begins_at_once(alloc: Global, pattern: &[u8], count: usize) -> Result<bool, AllocError>
+    ensures { IfOk result (λ seen. seen ≡ true
+        → Forms.can_begin FormTable.asked (take count (tokens_of pattern.now)) ≡ true) }
+{
+    if count > pattern.len() {
+        return Ok(false);
+    }
+    let front = &pattern[..count];
+    if plain_size(front) < count {
+        return Ok(false);
+    }
+    let mut text = Vec::with_capacity(alloc, ROOM)?;
+    text.extend_from_slice(front)?;
+    text.push(b'*')?;
+    let seen = is_fine_at_once(&text);
+    Ok(seen)
+}
+
+/// Whether a text that is asked begins with what so many of a pattern's first tokens match.
+fn begins(alloc: Global, pattern: &[u8], tokens: &[&[u8]], count: usize) -> Result<bool, AllocError>
+    requires tokens { views tokens.now ≡ tokens_of pattern.now }
+    requires count { count ≤ length tokens.now }
+    ensures { IfOk result (λ met. met
+        ≡ Forms.can_begin FormTable.asked (take count (views tokens.now))) }
+{
+    let seen = begins_at_once(alloc, pattern, count)?;
+    if seen {
+        return Ok(true);
+    }
+    let met = can_begin(alloc, &tokens[..count])?;
+    Ok(met)
+}
+
+/// How many of a pattern's tokens, at most, a text that is asked begins with.
+fn front_length(alloc: Global, pattern: &[u8], tokens: &[&[u8]]) -> Result<usize, AllocError>
+    requires { views tokens.now ≡ tokens_of pattern.now }
     ensures { IfOk result (λ front. front ≡ Forms.front_length FormTable.asked (views tokens.now)) }
 {
     let mut low = 0;
     let mut high = tokens.len();
     while low < high {
         let middle = high - (high - low) / 2;
-        if can_begin(alloc, &tokens[..middle])? {
+        if begins(alloc, pattern, tokens, middle)? {
             low = middle;
         } else {
             high = middle - 1;
@@ -145,7 +181,7 @@ fn judge_tokens(alloc: Global, pattern: &[u8]) -> Result<Judgement, AllocError>
     if is_unknown(alloc, pattern, &tokens)? {
         return Ok(Judgement::UnknownPrefix);
     }
-    let front = front_length(alloc, &tokens)?;
+    let front = front_length(alloc, pattern, &tokens)?;
     Ok(Judgement::Dead(front_size(pattern, front)))
 }
 

@@ -202,8 +202,13 @@ fn first_byte(pieces: &[Piece]) -> u8 {
     }
 }
 
+/// The byte at which any number of bytes end: the first one of the pieces after them. If `whole`, they end at none.
+fn stop_at(whole: bool, pieces: &[Piece]) -> u8 {
+    if whole { b'\n' } else { first_byte(pieces) }
+}
+
 /// How many of the text's first bytes go through the pieces. A lone star goes through all.
-fn through_way(way: &[Piece], text: &[u8]) -> Option<usize>
+fn through_way(way: &[Piece], whole: bool, text: &[u8]) -> Option<usize>
     ensures { IfSome result (IsThroughWay (map piece_of way.now) text.now) }
 {
     let mut done = 0;
@@ -214,7 +219,7 @@ fn through_way(way: &[Piece], text: &[u8]) -> Option<usize>
             return Some(at);
         }
         let piece = way[done];
-        match through_piece(piece, first_byte(&way[done + 1..]), rest) {
+        match through_piece(piece, stop_at(whole, &way[done + 1..]), rest) {
             Some(taken) => {
                 at += taken;
                 done += 1;
@@ -226,9 +231,9 @@ fn through_way(way: &[Piece], text: &[u8]) -> Option<usize>
 }
 
 /// Whether some of the text's first bytes go through one of the ways.
-fn goes_through(field: &[&[Piece]], text: &[u8]) -> bool {
+fn goes_through(field: &[&[Piece]], whole: bool, text: &[u8]) -> bool {
     for way in field {
-        if through_way(way, text).is_some() {
+        if through_way(way, whole, text).is_some() {
             return true;
         }
     }
@@ -236,18 +241,18 @@ fn goes_through(field: &[&[Piece]], text: &[u8]) -> bool {
 }
 
 /// Whether some of the text's first bytes go through the first of the fields, or there is no field.
-fn goes_on(fields: &[&[&[Piece]]], text: &[u8]) -> bool {
-    fields.is_empty() || goes_through(fields[0], text)
+fn goes_on(fields: &[&[&[Piece]]], whole: bool, text: &[u8]) -> bool {
+    fields.is_empty() || goes_through(fields[0], whole, text)
 }
 
 /// How many of the text's first bytes go through one of the ways: the first one after which the text goes on through the fields.
-fn through_ways(field: &[&[Piece]], rest: &[&[&[Piece]]], text: &[u8]) -> Option<usize>
+fn through_ways(field: &[&[Piece]], rest: &[&[&[Piece]]], whole: bool, text: &[u8]) -> Option<usize>
     ensures { IfSome result
         (IsThroughField (map (λ way. map piece_of way.now) field.now) text.now) }
 {
     for way in field {
-        if let Some(taken) = through_way(way, text) {
-            if goes_on(rest, &text[taken..]) {
+        if let Some(taken) = through_way(way, whole, text) {
+            if goes_on(rest, whole, &text[taken..]) {
                 return Some(taken);
             }
         }
@@ -256,26 +261,31 @@ fn through_ways(field: &[&[Piece]], rest: &[&[&[Piece]]], text: &[u8]) -> Option
 }
 
 /// As `through_ways`. What comes after a single way isn't asked: there is no other one.
-fn through_field(field: &[&[Piece]], rest: &[&[&[Piece]]], text: &[u8]) -> Option<usize>
+fn through_field(
+    field: &[&[Piece]],
+    rest: &[&[&[Piece]]],
+    whole: bool,
+    text: &[u8],
+) -> Option<usize>
     ensures { IfSome result
         (IsThroughField (map (λ way. map piece_of way.now) field.now) text.now) }
 {
     if field.len() == 1 {
-        through_ways(field, &[], text)
+        through_ways(field, &[], whole, text)
     } else {
-        through_ways(field, rest, text)
+        through_ways(field, rest, whole, text)
     }
 }
 
 /// Whether it is seen byte by byte that the text matches some text of the fields.
-fn meets_fields(fields: &[&[&[Piece]]], text: &[u8]) -> bool
+fn meets_fields(fields: &[&[&[Piece]]], whole: bool, text: &[u8]) -> bool
     ensures { result ≡ true
         → Forms.head (Forms.fields_row (fields_of fields.now) (tokens text.now)) ≡ true }
 {
     let mut done = 0;
     let mut at = 0;
     while done < fields.len() {
-        match through_field(fields[done], &fields[done + 1..], &text[at..]) {
+        match through_field(fields[done], &fields[done + 1..], whole, &text[at..]) {
             Some(taken) => {
                 at += taken;
                 done += 1;
@@ -296,6 +306,18 @@ pub(crate) fn ends(text: &[u8]) -> bool
     is_lone_star(text)
 }
 
+/// Whether it is seen byte by byte that the text matches some text of the fields. Any number of bytes end where the next piece may
+/// begin, or at a star at the end.
+fn meets_either_way(fields: &[&[&[Piece]]], text: &[u8]) -> bool
+    ensures { result ≡ true
+        → Forms.head (Forms.fields_row (fields_of fields.now) (tokens text.now)) ≡ true }
+{
+    if meets_fields(fields, false, text) {
+        return true;
+    }
+    meets_fields(fields, true, text)
+}
+
 /// Whether it is seen byte by byte that the pattern matches a text of the form.
 pub(crate) fn meets_plainly(form: FormRow, pattern: &[u8]) -> bool
     ensures { result ≡ true → Forms.meets_form (tokens pattern.now) (form_of form) ≡ true }
@@ -303,5 +325,5 @@ pub(crate) fn meets_plainly(form: FormRow, pattern: &[u8]) -> bool
     if !begins_plainly(form.prefix, pattern) {
         return false;
     }
-    meets_fields(form.fields, &pattern[form.prefix.len()..])
+    meets_either_way(form.fields, &pattern[form.prefix.len()..])
 }

@@ -1,16 +1,19 @@
 //! Patterns that match no text that udev asks.
-ghost use Rattle.std.specs.Prelude.{◌≡◌, ◌++◌, List, ℕ, ◌∷◌, map, take, IfOk, OnOk};
+ghost use Rattle.std.specs.Prelude.{◌≡◌, ◌<◌, ◌++◌, List, ℕ, ◌∷◌, length, map, take, IfOk, OnOk};
 ghost use Rattle.std.specs.Option.{option_map};
 ghost use Rattle.hwdb_spec.specs.Unmatched;
 
 use crate::runs::{push_runs, runs_of};
-use hwdb_forms::{expected, judge, likely_prefix};
+use hwdb_forms::{expected, expected_below, judge, likely_prefix};
 use hwdb_spec::Judgement;
 use hwdb_text::{LONGEST_MATCH, begins_with};
 use std::alloc::{AllocError, Global};
 
 /// A front of more bytes isn't looked at for what could come after it (our choice).
 const LONGEST_FRONT: usize = 256;
+
+/// The bytes below this are looked at first. Where any byte may be, these are of more runs than are named.
+const FIRST: u8 = 64;
 
 /// What is said of a clean text, if it is a pattern. The only error, here and below, is `AllocError`.
 #[tactic(auto, unfolding(hwdb_spec::specs::Unmatched::judgement_of))]
@@ -73,6 +76,31 @@ fn expected_after(alloc: Global, front: &[u8]) -> Result<Vec<u8>, AllocError>
     expected(alloc, front)
 }
 
+/// The runs of the first bytes that could be after a front. If they are too many to be named, so are all.
+#[tactic(auto, unfolding(hwdb_spec::specs::Unmatched::expected_after))]
+fn first_runs(alloc: Global, front: &[u8]) -> Result<Vec<(u8, u8)>, AllocError>
+    ensures { IfOk result (λ first. 3 < length first.items → Unmatched.runs_hint first.items
+        ≡ Unmatched.runs_hint (Unmatched.runs (Unmatched.expected_after front.now))) }
+{
+    let bytes = expected_below(alloc, front, FIRST)?;
+    let first = runs_of(alloc, &bytes)?;
+    Ok(first)
+}
+
+/// Adds what to do about a pattern that goes wrong after this front, which isn't too long.
+fn push_expected(alloc: Global, text: &mut Vec<u8>, front: &[u8]) -> Result<(), AllocError>
+    ensures { OnOk result (text.new.items ≡ text.old.items
+        ++ Unmatched.runs_hint (Unmatched.runs (Unmatched.expected_after front.now))) }
+{
+    let first = first_runs(alloc, front)?;
+    if first.len() > 3 {
+        return push_runs(text, &first);
+    }
+    let bytes = expected_after(alloc, front)?;
+    let runs = runs_of(alloc, &bytes)?;
+    push_runs(text, &runs)
+}
+
 /// Adds what to do about a pattern that goes wrong after this front.
 fn push_place_hint(alloc: Global, text: &mut Vec<u8>, front: &[u8]) -> Result<(), AllocError>
     ensures { OnOk result (text.new.items ≡ text.old.items ++ Unmatched.place_hint front.now) }
@@ -80,9 +108,7 @@ fn push_place_hint(alloc: Global, text: &mut Vec<u8>, front: &[u8]) -> Result<()
     if front.len() > LONGEST_FRONT {
         return push_runs(text, &[]);
     }
-    let bytes = expected_after(alloc, front)?;
-    let runs = runs_of(alloc, &bytes)?;
-    push_runs(text, &runs)
+    push_expected(alloc, text, front)
 }
 
 /// The beginning that was likely meant by that of a pattern.

@@ -67,8 +67,9 @@ fn push_report(
     ensures { OnOk result (text.new.items ≡ text.old.items ++ report path.now line.now fault) }
 {
     push_fault_line(text, path, fault)?;
-    push_shown_line(text, line)?;
-    push_mark_line(alloc, text, line, fault_place(fault.kind, line))?;
+    let place = fault_place(fault.kind, line);
+    push_shown_line(text, line, place)?;
+    push_mark_line(alloc, text, line, place)?;
     push_hint_line(text, hint_of(fault.kind))
 }
 

@@ -173,13 +173,9 @@ fn push_warning(
         ≡ text.old.items ++ warning_report path.now (read_line line.now) kind) }
 {
     push_warning_line(text, path, line.number, kind)?;
-    push_shown_line(text, line.text)?;
-    push_mark_line(
-        alloc,
-        text,
-        line.text,
-        warning_place(kind, line.text, line.clean),
-    )?;
+    let place = warning_place(kind, line.text, line.clean);
+    push_shown_line(text, line.text, place)?;
+    push_mark_line(alloc, text, line.text, place)?;
     push_hint_line(alloc, text, kind, line.clean)
 }
 

@@ -31,7 +31,7 @@ fn push_said_line(text: &mut Vec<u8>, at: &PatternAt<'_>, said: &[u8]) -> Result
 fn push_marked(alloc: Global, text: &mut Vec<u8>, line: &[u8], at: usize) -> Result<(), AllocError>
     ensures { OnOk result (text.new.items ≡ text.old.items ++ marked line.now at) }
 {
-    push_shown_line(text, line)?;
+    push_shown_line(text, line, at)?;
     push_mark_line(alloc, text, line, at)
 }
 
@@ -40,7 +40,7 @@ fn push_match(text: &mut Vec<u8>, at: &PatternAt<'_>) -> Result<(), AllocError>
     ensures { OnOk result (text.new.items ≡ text.old.items ++ match_report (pattern_at at.now)) }
 {
     push_said_line(text, at, b"the pattern matches")?;
-    push_shown_line(text, at.pattern)
+    push_shown_line(text, at.pattern, 0)
 }
 
 /// Adds the report of a pattern that doesn't match: why it stops, and the pattern and the device, each with a mark.

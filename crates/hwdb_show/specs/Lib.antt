@@ -1,2 +1,3 @@
 pub mod JsonTokens
+pub mod Laws
 pub mod Lemmas

@@ -5,12 +5,15 @@
 //! | `shown` | lines as they are shown, and the mark below them |
 //! | `colours` | texts in colour |
 //! | `json_values` | values of JSON, token by token |
+//! | `laws` | what is proved of the definitions alone |
 #![tactic(auto)]
 
 mod colours;
 mod json_values;
+mod laws;
 mod shown;
 
 pub use colours::{colours_are_taken_out, painted};
 pub use json_values::{ended, put_bytes, put_count, put_flag, put_member, put_number, put_text};
+pub use laws::{lines_are_shown, marks_are_below};
 pub use shown::{push_byte, push_mark_line, push_shown, push_shown_line};

@@ -1,13 +1,17 @@
 //! Lines as they are shown, and the mark below them.
-ghost use Rattle.std.specs.Prelude.{◌≡◌, ◌++◌, ◌∷◌, [], codes, take, IfOk, OnOk};
+ghost use Rattle.std.specs.Prelude.{◌≡◌, ◌≤◌, ◌++◌, ◌∷◌, [], codes, drop, take, IfOk, OnOk};
 ghost use Rattle.hex.specs.Hex.{encode_lower};
 ghost use Rattle.hwdb_spec.specs.Patterns.{in_span};
-ghost use Rattle.hwdb_spec.specs.Reports.{shown_byte, shown, max_shown, shown_line, spaces, mark_line};
+ghost use Rattle.hwdb_spec.specs.Reports;
+ghost use Rattle.hwdb_spec.specs.Reports.{back_cut, front_cut, mark_line, shown, shown_byte, shown_line, spaces};
 
 use std::alloc::{AllocError, Global};
 
 /// At most how many bytes of a line are shown (our choice).
 const SHOWN: usize = 160;
+
+/// How many bytes before the place are shown of a line whose front is cut (our choice).
+const BEFORE: usize = 80;
 
 /// The digits of a byte that isn't printable.
 const DIGITS: [u8; 16] = *b"0123456789abcdef";
@@ -63,40 +67,95 @@ fn push_spaces(text: &mut Vec<u8>, other: &[u8]) -> Result<(), AllocError>
     Ok(())
 }
 
-/// The first bytes of a line: those that are shown.
-fn first_bytes(line: &[u8]) -> &[u8]
-    ensures { result.now ≡ take max_shown line.now }
+/// The first bytes of a text, at most so many.
+fn first_bytes(text: &[u8], most: usize) -> &[u8]
+    ensures { result.now ≡ take most text.now }
 {
-    if line.len() > SHOWN {
-        &line[..SHOWN]
+    if text.len() > most {
+        &text[..most]
     } else {
-        line
+        text
     }
 }
 
-/// Adds the line that shows a line: four spaces, its first bytes, and `...` if it goes on.
-pub fn push_shown_line(text: &mut Vec<u8>, line: &[u8]) -> Result<(), AllocError>
-    ensures { OnOk result (text.new.items ≡ text.old.items ++ shown_line line.now) }
+/// What is after so many bytes of a text.
+fn bytes_after(text: &[u8], start: usize) -> &[u8]
+    ensures { result.now ≡ drop start text.now }
 {
-    text.extend_from_slice(b"    ")?;
-    push_shown(text, first_bytes(line))?;
-    if line.len() > SHOWN {
+    if start < text.len() {
+        &text[start..]
+    } else {
+        &[]
+    }
+}
+
+/// After how many bytes of a line begins what is shown of it.
+fn window_start(line: &[u8], at: usize) -> usize
+    ensures start { result ≡ Reports.window_start line.now at }
+    ensures within { result ≤ at }
+{
+    if line.len() <= SHOWN {
+        return 0;
+    }
+    if at < SHOWN {
+        return 0;
+    }
+    at - BEFORE
+}
+
+/// The bytes of a line that are shown.
+fn window(line: &[u8], at: usize) -> &[u8]
+    ensures { result.now ≡ Reports.window line.now at }
+{
+    first_bytes(bytes_after(line, window_start(line, at)), SHOWN)
+}
+
+/// Adds `...` in place of what isn't shown of a line before these bytes.
+fn push_front_cut(text: &mut Vec<u8>, line: &[u8], at: usize) -> Result<(), AllocError>
+    ensures { OnOk result (text.new.items ≡ text.old.items ++ front_cut line.now at) }
+{
+    if window_start(line, at) > 0 {
         text.extend_from_slice(b"...")?;
     }
+    Ok(())
+}
+
+/// Adds `...` in place of what isn't shown of a line after these bytes.
+fn push_back_cut(text: &mut Vec<u8>, line: &[u8], at: usize) -> Result<(), AllocError>
+    ensures { OnOk result (text.new.items ≡ text.old.items ++ back_cut line.now at) }
+{
+    if bytes_after(line, window_start(line, at)).len() > SHOWN {
+        text.extend_from_slice(b"...")?;
+    }
+    Ok(())
+}
+
+/// Adds the line that shows a line with a place: four spaces, and the bytes around the place.
+pub fn push_shown_line(text: &mut Vec<u8>, line: &[u8], at: usize) -> Result<(), AllocError>
+    ensures { OnOk result (text.new.items ≡ text.old.items ++ shown_line line.now at) }
+{
+    text.extend_from_slice(b"    ")?;
+    push_front_cut(text, line, at)?;
+    push_shown(text, window(line, at))?;
+    push_back_cut(text, line, at)?;
     text.push(b'\n')?;
     Ok(())
 }
 
-/// What is above and before the mark, as it is shown: the line's bytes before a place.
-fn shown_before(alloc: Global, line: &[u8], at: usize) -> Result<Vec<u8>, AllocError>
-    ensures { IfOk result (λ above. above.items ≡ shown (take at line.now)) }
+/// What is above and before the mark, as it is shown.
+fn above_mark(alloc: Global, line: &[u8], at: usize) -> Result<Vec<u8>, AllocError>
+    ensures { IfOk result (λ above. above.items ≡ Reports.above_mark line.now at) }
 {
     let mut above = Vec::new(alloc);
-    push_shown(&mut above, if at < line.len() { &line[..at] } else { line })?;
+    push_front_cut(&mut above, line, at)?;
+    push_shown(
+        &mut above,
+        first_bytes(window(line, at), at - window_start(line, at)),
+    )?;
     Ok(above)
 }
 
-/// Adds the mark below a line's byte at a place, if that byte is shown.
+/// Adds the mark below the byte of a line's place.
 pub fn push_mark_line(
     alloc: Global,
     text: &mut Vec<u8>,
@@ -105,10 +164,7 @@ pub fn push_mark_line(
 ) -> Result<(), AllocError>
     ensures { OnOk result (text.new.items ≡ text.old.items ++ mark_line line.now at) }
 {
-    if at >= SHOWN {
-        return Ok(());
-    }
-    let above = shown_before(alloc, line, at)?;
+    let above = above_mark(alloc, line, at)?;
     text.extend_from_slice(b"    ")?;
     push_spaces(text, &above)?;
     text.extend_from_slice(b"^\n")?;

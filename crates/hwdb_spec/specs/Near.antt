@@ -218,13 +218,13 @@ why_text pattern device met wanted left =
 abbrev pub said_line : PatternAt → List ℕ → List ℕ
 said_line at said = place_text at.path at.line ++ codes ": " ++ (said ++ byte "\n" ∷ [])
 
--- the report of a pattern that matches
+-- the report of a pattern that matches; what is shown of it begins at its front
 abbrev pub match_report : PatternAt → List ℕ
-match_report at = said_line at (codes "the pattern matches") ++ shown_line at.pattern
+match_report at = said_line at (codes "the pattern matches") ++ shown_line at.pattern 0
 
 -- a line as it is shown, and the mark below its byte after so many others
 abbrev pub marked : List ℕ → ℕ → List ℕ
-marked text at = shown_line text ++ mark_line text at
+marked text at = shown_line text at ++ mark_line text at
 
 -- the report of a pattern that stops there: why, and the pattern and the device, each with a mark below its byte
 abbrev pub stop_report : (device : List ℕ) → PatternAt → Front → List ℕ

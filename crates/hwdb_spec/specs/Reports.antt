@@ -1,6 +1,6 @@
 -- What `check` prints of the faults of text files: for each where it is, its line, and the place in that line. And what
 -- to do about it. Our choice.
-use Rattle.std.specs.Prelude.{ℕ, List, [], ◌∷◌, ◌++◌, ◌==◌, if◌then◌else◌, codes, flat_map, length, map, nat_lt, take}
+use Rattle.std.specs.Prelude.{ℕ, List, [], ◌∷◌, ◌++◌, ◌+◌, ◌-◌, ◌==◌, if◌then◌else◌, codes, drop, flat_map, length, map, nat_lt, take}
 use Rattle.std.specs.List.{position_or_len, prefix_len}
 use Rattle.hex.specs.Hex.{encode_lower}
 use Rattle.hwdb_spec.specs.Lines.{Line, byte, is, is_indent, max_pattern}
@@ -22,22 +22,42 @@ shown_byte b = if in_span b (32, 126) then b ∷ [] else codes "\\x" ++ encode_l
 abbrev pub shown : List ℕ → List ℕ
 shown text = flat_map shown_byte text
 
--- `...` in place of what isn't shown of a line
-abbrev pub cut_text : List ℕ → List ℕ
-cut_text text = if nat_lt max_shown (length text) then codes "..." else []
+-- how many bytes before the place are shown of a line whose front is cut: 80
+abbrev pub shown_before : ℕ
+shown_before = 80
 
--- the line that shows a line: four spaces, and its first bytes
-abbrev pub shown_line : List ℕ → List ℕ
-shown_line text = codes "    " ++ (shown (take max_shown text) ++ (cut_text text ++ byte "\n" ∷ []))
+-- After how many bytes of a line begins what is shown of it. It is the line's front if the line fits, or if its place is
+-- among the first bytes that are shown. Else it is so many bytes before the place.
+abbrev pub window_start : (text : List ℕ) (at : ℕ) → ℕ
+window_start text at = if nat_lt max_shown (length text) then (if nat_lt at max_shown then 0 else at - shown_before) else 0
+
+-- the bytes of a line that are shown
+abbrev pub window : (text : List ℕ) (at : ℕ) → List ℕ
+window text at = take max_shown (drop (window_start text at) text)
+
+-- `...` in place of what isn't shown of a line before these bytes
+abbrev pub front_cut : (text : List ℕ) (at : ℕ) → List ℕ
+front_cut text at = if nat_lt 0 (window_start text at) then codes "..." else []
+
+-- `...` in place of what isn't shown of a line after these bytes
+abbrev pub back_cut : (text : List ℕ) (at : ℕ) → List ℕ
+back_cut text at = if nat_lt (window_start text at + max_shown) (length text) then codes "..." else []
+
+-- the line that shows a line with a place: four spaces, and the bytes that are shown of it
+abbrev pub shown_line : (text : List ℕ) (at : ℕ) → List ℕ
+shown_line text at = codes "    " ++ (front_cut text at ++ (shown (window text at) ++ (back_cut text at ++ byte "\n" ∷ [])))
 
 -- as many spaces as a text has bytes
 abbrev pub spaces : List ℕ → List ℕ
 spaces text = map (λ b. byte " ") text
 
--- the line below a shown line, with a `^` below the byte that is after so many others; no line if that byte isn't
--- shown
-abbrev pub mark_line : List ℕ → ℕ → List ℕ
-mark_line text at = if nat_lt at max_shown then codes "    " ++ (spaces (shown (take at text)) ++ codes "^\n") else []
+-- what is shown of a line before its place
+abbrev pub above_mark : (text : List ℕ) (at : ℕ) → List ℕ
+above_mark text at = front_cut text at ++ shown (take (at - window_start text at) (window text at))
+
+-- the line below a shown line, with a `^` below the byte of its place
+abbrev pub mark_line : (text : List ℕ) (at : ℕ) → List ℕ
+mark_line text at = codes "    " ++ (spaces (above_mark text at) ++ codes "^\n")
 
 -- After how many bytes of its line a fault is: where the property begins, at the line's first byte, or at the first
 -- byte 0. Or it is at the first byte that is too much.
@@ -66,7 +86,9 @@ hint_line hint = codes "    hint: " ++ (hint ++ byte "\n" ∷ [])
 
 -- the report of a fault: its line as `update` prints it, the text of its line, the mark, and what to do
 abbrev pub report : (path text : List ℕ) → Fault → List ℕ
-report path text f = fault_line path f ++ (shown_line text ++ (mark_line text (fault_place f.kind text) ++ hint_line (fault_hint f.kind)))
+report path text f =
+    let place = fault_place f.kind text in
+    fault_line path f ++ (shown_line text place ++ (mark_line text place ++ hint_line (fault_hint f.kind)))
 
 -- the text of the line with this number; nothing if there is no such line
 abbrev pub text_of_line : List Line → ℕ → List ℕ

@@ -182,4 +182,6 @@ warning_line path number kind = place_text path number ++ codes ": warning: " ++
 
 -- the report of a warning: its line, the text of the line, the mark, and what to do
 abbrev pub warning_report : (path : List ℕ) → Line → WarningKind → List ℕ
-warning_report path l kind = warning_line path l.number kind ++ (shown_line l.text ++ (mark_line l.text (warning_place kind l.text (clean_line l).text) ++ hint_line (warning_hint kind (clean_line l))))
+warning_report path l kind =
+    let place = warning_place kind l.text (clean_line l).text in
+    warning_line path l.number kind ++ (shown_line l.text place ++ (mark_line l.text place ++ hint_line (warning_hint kind (clean_line l))))

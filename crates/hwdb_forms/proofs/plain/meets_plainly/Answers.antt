@@ -10,4 +10,4 @@ pub returns : goal.returns
 returns c = λ met.
     sym (form_yes c.args.form.prefix.now (fields_of c.args.form.fields.now) (tokens c.args.pattern.now) _ Yes true (sym (c.begins_plainly.ensures.passed c.if-not-begins_plainly.false)) refl
     (ap tokens (take_rest c.args.pattern.now (length c.args.form.prefix.now)) ∙ c.begins_plainly.ensures.cut c.if-not-begins_plainly.false)
-    (sym (c.meets_fields.ensures met)))
+    (sym (c.meets_either_way.ensures met)))
