@@ -6,7 +6,7 @@ use Rattle.hwdb_spec.specs.Kinds.{warning_name}
 use Rattle.hwdb_spec.specs.Lines.{begins_with, byte, is, is_none, max_pattern, pieces}
 use Rattle.hwdb_spec.specs.Unmatched.{compare_hint, is_unmatched, judgement_hint, judgement_of, judgement_place, judgement_text, place_hint, prefix_hint, runs, runs_hint}
 use Rattle.hwdb_spec.specs.declared.Judgement.TheVariants.{Dead, Fine, UnknownPrefix}
-use Rattle.hwdb_spec.specs.declared.WarningKind.TheVariants.{ByteOrderMark, CarriageReturn, CutValue, EmptyRange, LeadingTab, Misused, OpenBracket, RepeatedMatch, Replaced, SpacedEquals, Unmatched, Unpaired, Unread}
+use Rattle.hwdb_spec.specs.declared.WarningKind.TheVariants.{ByteOrderMark, CarriageReturn, CutValue, EmptyRange, LeadingTab, Misused, OpenBracket, RepeatedMatch, Replaced, SpacedEquals, TooLongForUdev, Unmatched, Unpaired, Unread}
 use Rattle.hwdb_spec.specs.declared.WarningKind.{WarningKind}
 use Rattle.hwdb_spec.specs.declared.vocabulary.Misuse.TheVariants.{NearName, ScanCode, TwoDefaults, UnfitValue, UnknownKey, ZeroRow}
 use Rattle.hwdb_spec.specs.declared.vocabulary.Misuse.{Misuse}
@@ -78,10 +78,11 @@ kind_number Unread = 15
 kind_number Unpaired = 16
 kind_number (Unmatched UnknownPrefix) = 17
 kind_number (Unmatched (Dead place)) = 18
-kind_number (Unmatched Fine) = 19
+kind_number TooLongForUdev = 19
+kind_number (Unmatched Fine) = 20
 
 -- Each kind of warning has its own name among these, and each of them is the name of one kind.
 pub record KindsAreNamed : Type 0 where
-  pub each : (kind : WarningKind) → (kind_number kind ≡ 19) ⊎ Contains kinds (warning_name kind)
+  pub each : (kind : WarningKind) → (kind_number kind ≡ 20) ⊎ Contains kinds (warning_name kind)
   pub all : (some : List WarningKind) × (map warning_name some ≡ kinds)
   pub own : (one two : WarningKind) → warning_name one ≡ warning_name two → kind_number one ≡ kind_number two
