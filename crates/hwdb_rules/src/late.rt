@@ -71,8 +71,8 @@ fn kind_text(
     scene: &Scene<'_>,
     at: At<'_>,
 ) -> Result<Vec<u8>, AllocError>
-    ensures { IfOk result
-        (λ t. t.items ≡ Lookups.kind_text kind.now bus.now (scene_of scene.now) (found_at at.entry)) }
+    ensures { IfOk result (λ t. t.items
+        ≡ Lookups.kind_text kind.now bus.now (scene_of scene.now) (found_at at.entry)) }
 {
     let mut text = Vec::new(alloc);
     text.extend_from_slice(kind)?;

@@ -151,7 +151,7 @@ tagged_text s =
 abbrev pub is_tagged : Ancestor → Bool
 is_tagged a = if is_none (unwrap_or (uevent_value (codes "MODALIAS=") a) []) then false else has_text (codes "chassis_asset_tag") a
 
--- line 23 of systemd 262, which 257 doesn't have
+-- line 23 of systemd 262, which 257 doesn't have: the tag of the machine's case
 abbrev pub dmi_rules : Scene → List Lookup
 dmi_rules s =
     when (if is_machine s.own then is_tagged s.own else false) (ask_one (codes "60-dmi-id") (itself s) (tagged_text s))
@@ -353,14 +353,15 @@ bus_of s =
     else (if some (is_in (codes "rmi4")) s.chain then codes "rmi"
     else (if some (is_in (codes "usb")) s.chain then codes "usb" else [])))
 
--- the same by what is above other buses, in systemd 262
+-- the same in systemd 262, of a device on none of the buses that are nearer to it
 abbrev pub upper_bus_of : Scene → List ℕ
 upper_bus_of s =
     if some (is_in (codes "pci")) s.chain then codes "pci"
     else (if some (is_in (codes "acpi")) s.chain then codes "acpi"
     else (if some (is_in (codes "platform")) s.chain then codes "platform" else []))
 
--- ID_BUS in systemd 262: of several buses the last line that gives one decides
+-- ID_BUS in systemd 262: the last line decides that finds a parent on spi, serio, rmi4 or i2c. Without one it is usb, or what is above
+-- that.
 abbrev pub later_bus_of : Scene → List ℕ
 later_bus_of s =
     if is_on_bluetooth s then codes "bluetooth"
