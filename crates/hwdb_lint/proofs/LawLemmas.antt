@@ -14,7 +14,7 @@ use Rattle.hwdb_spec.specs.declared.Judgement.TheVariants.{Dead, Fine, UnknownPr
 use Rattle.hwdb_spec.specs.declared.WarningKind.TheVariants.{ByteOrderMark, CarriageReturn, CutValue, EmptyRange, LeadingTab, Misused, OpenBracket, RepeatedMatch, Replaced, SpacedEquals, TooLongForUdev, Unmatched, Unpaired, Unread}
 use Rattle.hwdb_spec.specs.declared.WarningKind.{WarningKind}
 use Rattle.hwdb_spec.specs.declared.vocabulary.Misuse.TheVariants.{NearName, ScanCode, TwoDefaults, UnfitValue, UnknownKey, ZeroRow}
-use Rattle.hwdb_lint.specs.Laws.{KindsAreNamed, PatternsAreJudged, RunsAreAll, UnmatchedRows, kind_number, kinds, run_bytes}
+use Rattle.hwdb_lint.specs.Laws.{KindsAreNamed, PatternsAreJudged, RunsAreAll, TooLongRows, UnmatchedRows, kind_number, kinds, run_bytes}
 
 -- ---- runs
 one_more : (n first : ℕ) → all_bytes_from (suc n) first ≡ all_bytes_from n first ++ (n + first) ∷ []
@@ -177,6 +177,18 @@ among n name lt is = by (n == 20) refl
         let other : n ≡ 20 → ⊥ = λ k. (let t : (n == 20) ≡ true = ap (λ (m : ℕ). m == 20) k in let both : true ≡ false = sym t ∙ e in cc) in
         let h : n < length kinds = subst (λ (m : ℕ). n < m) (sym short) (omega (arith, lt, other)) in
         inr (n, h, sym (in_front kinds n h) ∙ sym is)
+
+pub too_long_rows : TooLongRows
+too_long_rows = record {
+  most = refl;
+  star = refl;
+  question_mark = refl;
+  bracket = refl;
+  plain = refl;
+  property = refl;
+  left_out = refl;
+  place = refl;
+}
 
 pub named_kinds : KindsAreNamed
 unfolding pieces

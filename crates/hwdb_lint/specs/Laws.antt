@@ -1,10 +1,11 @@
 -- What the laws say of patterns that can't match, and of the names of warnings. A definition that said less would be noticed here.
-use Rattle.std.specs.Prelude.{◌-◌, ◌≡◌, ◌≤◌, ◌⊎◌, Contains, List, None, Some, [], codes, false, flat_map, length, map, suc, true, ℕ}
+use Rattle.std.specs.Prelude.{◌-◌, ◌≡◌, ◌≤◌, ◌⊎◌, ◌++◌, Bool, Contains, List, None, Some, [], codes, false, flat_map, length, map, replicate, suc, true, ℕ}
 use Rattle.hwdb_spec.specs.Forms.{all_bytes_from, expected, judged}
 use Rattle.hwdb_spec.specs.FormTable.{asked}
 use Rattle.hwdb_spec.specs.Kinds.{warning_name}
 use Rattle.hwdb_spec.specs.Lines.{begins_with, byte, is, is_none, max_pattern, pieces}
 use Rattle.hwdb_spec.specs.Unmatched.{compare_hint, is_unmatched, judgement_hint, judgement_of, judgement_place, judgement_text, place_hint, prefix_hint, runs, runs_hint}
+use Rattle.hwdb_spec.specs.Warnings.{is_too_long, warning_place}
 use Rattle.hwdb_spec.specs.declared.Judgement.TheVariants.{Dead, Fine, UnknownPrefix}
 use Rattle.hwdb_spec.specs.declared.WarningKind.TheVariants.{ByteOrderMark, CarriageReturn, CutValue, EmptyRange, LeadingTab, Misused, OpenBracket, RepeatedMatch, Replaced, SpacedEquals, TooLongForUdev, Unmatched, Unpaired, Unread}
 use Rattle.hwdb_spec.specs.declared.WarningKind.{WarningKind}
@@ -47,6 +48,22 @@ pub record UnmatchedRows : Type 0 where
   pub meant : prefix_hint (Some (codes "evdev:")) ≡ codes "did you mean evdev:?"
   pub other : prefix_hint None ≡ codes "begin it as udev's strings do, with evdev: or mouse: or usb: and the like"
   pub nothing : judgement_hint Fine (codes "usb:") ≡ []
+
+-- ---- what udev can't take
+-- whether a line is told that begins so and has so many bytes more
+abbrev pub is_told_with : (begin : List ℕ) → (more : ℕ) → Bool
+is_told_with begin more = is_too_long (record { number = 1; text = begin ++ replicate more 97 })
+
+-- the bytes from the first wildcard on count, of a match line that isn't left out
+pub record TooLongRows : Type 0 where
+  pub most : is_told_with (codes "usb:*") 2045 ≡ false
+  pub star : is_told_with (codes "usb:*") 2046 ≡ true
+  pub question_mark : is_told_with (codes "usb:?") 2046 ≡ true
+  pub bracket : is_told_with (codes "usb:[") 2046 ≡ true
+  pub plain : is_told_with (codes "usb:") 4000 ≡ false
+  pub property : is_told_with (codes " A=*") 2046 ≡ false
+  pub left_out : is_told_with (codes "usb:*") 4092 ≡ false
+  pub place : warning_place TooLongForUdev (codes "usb:v*") (codes "usb:v*") ≡ 5
 
 -- ---- names
 -- the names of all kinds of warnings, as `--allow` takes them
