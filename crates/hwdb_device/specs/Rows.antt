@@ -174,12 +174,11 @@ ClosestRow =
     ++ (l (codes "    mouse:n")
     ++ l (codes "          ^"))))))))))
 
--- what is left out of a disk and of a TPM, and nothing of a keyboard
+-- what is left out of a disk, and nothing of a keyboard
 abbrev pub LeftOutRows : Type 0
 LeftOutRows =
-    map (λ subsystem. found_form form.Lookups (in_subsystem subsystem) [] []) (codes "block" ∷ codes "tpmrm" ∷ codes "input" ∷ [])
-    ≡ (l (codes "no properties") ++ l (codes "left out: 90-iocost asks by what the disk itself answers"))
-    ∷ (l (codes "no properties") ++ l (codes "left out: 60-tpm2-id asks by what the TPM itself answers")) ∷ l (codes "no properties") ∷ []
+    map (λ subsystem. found_form form.Lookups (in_subsystem subsystem) [] []) (codes "block" ∷ codes "input" ∷ [])
+    ≡ (l (codes "no properties") ++ l (codes "left out: 90-iocost asks by what the disk itself answers")) ∷ l (codes "no properties") ∷ []
 
 -- lines of JSON: one for each string, and one for the result
 abbrev pub JsonRow : Type 0
