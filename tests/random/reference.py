@@ -583,6 +583,7 @@ WARNINGS = {
     "cut": (b"a # without a blank before it cuts the value", b"put a blank before a comment; a value can't hold a #"),
     "repeated": (b"a match line that stands in its record already", b"take one of the two away"),
     "replaced": (b"an assignment that line %d replaces", b"take one of the two away"),
+    "long": (b"udev takes at most 2046 bytes from the first *, ? or [ on", b"shorten it: systemd 252 and 257 crash at it, and 262 finds nothing"),
 }
 MOST_SHOWN = 160
 
@@ -622,6 +623,11 @@ def first_open(pattern):
         else:
             at += 1
     return at
+
+
+def first_wild(pattern):
+    """Where the first byte stands that may be a wildcard; the pattern's length where there is none."""
+    return min([at for at in (pattern.find(wild) for wild in (b"*", b"?", b"[")) if at >= 0], default=len(pattern))
 
 
 def empty_range(pattern):
@@ -696,6 +702,7 @@ def warnings_of(text):
             ),
             ("repeated", 0, number in repeated),
             ("replaced", indent_of(line), number in replaced),
+            ("long", first_wild(cleaned), is_match(cleaned) and len(cleaned) <= LONGEST_PATTERN and len(cleaned) - first_wild(cleaned) > 2046),
         ]
         for kind, place, holds in kinds:
             if holds:

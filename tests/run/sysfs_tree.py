@@ -1,7 +1,7 @@
 #!/usr/bin/env python3
-"""Lays out sysfs as the kernel does, for three machines: two laptops and a desk.
+"""Lays out sysfs as the kernel does, for four machines: two laptops, a desk and a tablet.
 usage: tests/run/sysfs_tree.py FOLDER
-Then FOLDER/thinkpad, FOLDER/convertible and FOLDER/desk are roots, each with a `sys`. `devices(FOLDER)` names what can be asked."""
+Then FOLDER/thinkpad, FOLDER/convertible, FOLDER/desk and FOLDER/tablet are roots, each with a `sys`. `devices(FOLDER)` names what can be asked."""
 import os
 import sys
 
@@ -169,6 +169,8 @@ class Machine:
         attributes = {"type": "Battery", "model_name": model, "manufacturer": "SANYO"}
         if limits:
             attributes.update(charge_control_start_threshold="0", charge_control_end_threshold="100")
+        if limits == "end":
+            del attributes["charge_control_start_threshold"]
         path = self.device("%s/power_supply/%s" % (parent, name), "power_supply", uevent=["POWER_SUPPLY_NAME=" + name, "POWER_SUPPLY_TYPE=Battery"],
                            attributes=attributes, on_class=True)
         self.link(path + "/device", parent)
@@ -287,7 +289,7 @@ def desk(root):
     m = Machine(root)
     m.dmi("dmi:bvnAmericanMegatrendsInc.:bvrF5:bd01/17/2014:br4.6:svnGigabyteTechnologyCo.,Ltd.:pnTobefilledbyO.E.M.:pvrTobefilledbyO.E.M.:"
           "rvnGigabyteTechnologyCo.,Ltd.:rnZ87X-UD3H-CF:rvrx.x:cvnGigabyteTechnologyCo.,Ltd.:ct3:cvrTobefilledbyO.E.M.:skuTobefilledbyO.E.M.:",
-          sys_vendor="Gigabyte Technology Co., Ltd.", product_name="To be filled by O.E.M.", chassis_type="3")
+          sys_vendor="Gigabyte Technology Co., Ltd.", product_name="To be filled by O.E.M.", chassis_asset_tag="Asset: 1234", chassis_type="3")
     button = m.device("/sys/devices/LNXSYSTM:00/LNXPWRBN:00", "acpi", "button", ["MODALIAS=acpi:LNXPWRBN:"], {"modalias": "acpi:LNXPWRBN:"})
     m.input(button, 1, 1, "Power Button", "LNXPWRBN/button/input0", HOST, ("0000", "0001", "0000"), POWER)
     bus = m.usb_bus(m.pci("0000:00:14.0", "xhci_hcd", "8086", "8C31", ("1458", "5007"), ("0C", "03", "30")), 3)
@@ -329,7 +331,34 @@ def desk(root):
     return m
 
 
-MACHINES = (("thinkpad", thinkpad), ("convertible", convertible), ("desk", desk))
+def tablet(root):
+    """A tablet. Its DMI is longer than what udev takes of an attribute, and so is the name of one touchpad; others are at several buses."""
+    m = Machine(root)
+    m.dmi("dmi:bvnAmericanMegatrendsInternational,LLC.:bvr%s:bd04/01/2024:br5.27:efr1.2:svn%s:pn%s:pvr%s:rvn%s:rnTablet:rvr1.0:cvn%s:ct32:cvr1.0:skuTablet:"
+          % ("5.27(" + 55 * "v" + ")", 64 * "M", 120 * "p", 90 * "r", 64 * "M", 64 * "c"), sys_vendor="Maker", product_name="Tablet", chassis_asset_tag="Tag", chassis_type="32")
+    m.at_keyboard(4)
+    m.battery("PNP0C0A:00", "BAT0", "Cell", "end")
+    host = m.pci("0000:00:1e.2", "intel-lpss", "8086", "9D29", ("103C", "83B9"), ("11", "80", "00"))
+    chip = m.device(host + "/spi_master/spi0/spi0.0", "spi", "rmi4_spi", ["MODALIAS=spi:rmi4_spi"], {"modalias": "spi:rmi4_spi"})
+    pad = m.device(chip + "/rmi4-00", "rmi4", "rmi4_physical", ["RMI_PHYS=1"])
+    m.input(pad, 5, 5, "Synaptics TM3276-031", "rmi4-00/input0", "001d", ("06cb", "0000", "0000"), TOUCHPAD, [0, 2])
+    adapter = m.device(m.pci("0000:00:15.1", "intel-lpss", "8086", "9D61", ("103C", "83B9"), ("11", "80", "00")) + "/i2c-1", "i2c", attributes={"name": "adapter"})
+    m.input(m.device(adapter + "/i2c-LONG0001:00", "i2c", "i2c_hid_acpi", ["MODALIAS=acpi:LONG0001:"], {"modalias": "acpi:LONG0001:"}),
+            6, 6, "Pad " + 508 * "n", "i2c-LONG0001:00", I2C, ("04f3", "2a1f", "0100"), I2C_TOUCHPAD, [0, 2])
+    bus = m.usb_bus(m.pci("0000:00:14.0", "xhci_hcd", "8086", "9D2F", ("103C", "83B9"), ("0C", "03", "30")), 1)
+    bridge = m.usb_device(bus + "/1-3", 2, ("04d8", "00dd"), "0100", ("00", "00", "00"), "MCP2221 USB-I2C/UART Combo", "Microchip Technology Inc.")
+    adapter = m.device(m.usb_interface(bridge, 2, "usbhid", ("04d8", "00dd"), "0100", ("00", "00", "00"), ("03", "00", "00")) + "/i2c-2", "i2c", attributes={"name": "MCP2221"})
+    m.input(m.device(adapter + "/2-0015", "i2c", "elan_i2c", ["MODALIAS=i2c:elan_i2c"], {"modalias": "i2c:elan_i2c"}),
+            7, 7, "Elan Touchpad", "i2c-2", I2C, ("04f3", "0001", "0100"), I2C_TOUCHPAD, [0, 2])
+    stick = m.device("/sys/devices/platform/adc-joystick", "platform", "adc-joystick", ["MODALIAS=of:NjoystickT(null)Cadc-joystick"], {"modalias": "of:NjoystickT(null)Cadc-joystick"})
+    m.input(stick, 8, 8, "adc-joystick", "adc-joystick/input0", HOST, ("0000", "0000", "0000"), GAMEPAD)
+    button = m.device("/sys/devices/LNXSYSTM:00/LNXPWRBN:00", "acpi", "button", ["MODALIAS=acpi:LNXPWRBN:"], {"modalias": "acpi:LNXPWRBN:"})
+    m.input(button, 9, 9, "Firmware's stick", "LNXPWRBN/button/input0", HOST, ("0000", "0001", "0000"), GAMEPAD)
+    m.input(m.pci("0000:00:1c.0", "gameport", "1102", "7003", ("1102", "0040"), ("09", "80", "00")), 10, 10, "Gameport", "pci0000:00:1c.0/gameport0", "0014", ("0001", "0001", "0100"), GAMEPAD)
+    return m
+
+
+MACHINES = (("thinkpad", thinkpad), ("convertible", convertible), ("desk", desk), ("tablet", tablet))
 
 
 def lay_out(folder):

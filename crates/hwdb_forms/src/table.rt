@@ -119,7 +119,7 @@ fn dmi() -> FormRow
             &[&[Fixed(b"ct"), Repeated(Dmi), Fixed(b":")], &[]],
             &[&[Fixed(b"cvr"), Repeated(Dmi), Fixed(b":")], &[]],
             &[&[Fixed(b"sku"), Repeated(Dmi), Fixed(b":")], &[]],
-            &[&[Fixed(b"cat"), Repeated(LeftButColon), Fixed(b":")], &[]],
+            &[&[Fixed(b"cat"), Repeated(Left), Fixed(b":")], &[]],
         ],
     }
 }

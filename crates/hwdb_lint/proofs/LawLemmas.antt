@@ -11,10 +11,10 @@ use Rattle.hwdb_spec.specs.Kinds.{warning_name}
 use Rattle.hwdb_spec.specs.Lines.{begins_with, byte, is_none, max_pattern, pieces}
 use Rattle.hwdb_spec.specs.Unmatched.{compare_hint, expected_after, judgement_of, runs_from}
 use Rattle.hwdb_spec.specs.declared.Judgement.TheVariants.{Dead, Fine, UnknownPrefix}
-use Rattle.hwdb_spec.specs.declared.WarningKind.TheVariants.{ByteOrderMark, CarriageReturn, CutValue, EmptyRange, LeadingTab, Misused, OpenBracket, RepeatedMatch, Replaced, SpacedEquals, Unmatched, Unpaired, Unread}
+use Rattle.hwdb_spec.specs.declared.WarningKind.TheVariants.{ByteOrderMark, CarriageReturn, CutValue, EmptyRange, LeadingTab, Misused, OpenBracket, RepeatedMatch, Replaced, SpacedEquals, TooLongForUdev, Unmatched, Unpaired, Unread}
 use Rattle.hwdb_spec.specs.declared.WarningKind.{WarningKind}
 use Rattle.hwdb_spec.specs.declared.vocabulary.Misuse.TheVariants.{NearName, ScanCode, TwoDefaults, UnfitValue, UnknownKey, ZeroRow}
-use Rattle.hwdb_lint.specs.Laws.{KindsAreNamed, PatternsAreJudged, RunsAreAll, UnmatchedRows, kind_number, kinds, run_bytes}
+use Rattle.hwdb_lint.specs.Laws.{KindsAreNamed, PatternsAreJudged, RunsAreAll, TooLongRows, UnmatchedRows, kind_number, kinds, run_bytes}
 
 -- ---- runs
 one_more : (n first : ℕ) → all_bytes_from (suc n) first ≡ all_bytes_from n first ++ (n + first) ∷ []
@@ -125,7 +125,7 @@ names = kinds ++ [] ∷ []
 
 -- where a kind's name is
 abbrev IsAt : WarningKind → Type 0
-IsAt kind = (kind_number kind < 20) × (warning_name kind ≡ get_or names (kind_number kind) [])
+IsAt kind = (kind_number kind < 21) × (warning_name kind ≡ get_or names (kind_number kind) [])
 
 are_distinct : distinct names ≡ true
 unfolding distinct pieces
@@ -153,16 +153,17 @@ at Unpaired = (omega arith, refl)
 at (Unmatched UnknownPrefix) = (omega arith, refl)
 at (Unmatched (Dead place)) = (omega arith, refl)
 at (Unmatched Fine) = (omega arith, refl)
+at TooLongForUdev = (omega arith, refl)
 
-long : length names ≡ 20
+long : length names ≡ 21
 unfolding pieces
 long = refl
 
-among : (n : ℕ) (name : List ℕ) → n < 20 → name ≡ get_or names n [] → (n ≡ 19) ⊎ Contains kinds name
+among : (n : ℕ) (name : List ℕ) → n < 21 → name ≡ get_or names n [] → (n ≡ 20) ⊎ Contains kinds name
 unfolding pieces
-among n name lt is = by (n == 19) refl
+among n name lt is = by (n == 20) refl
   where
-    short : length kinds ≡ 19
+    short : length kinds ≡ 20
     short = refl
 
     in_front : (xs : List (List ℕ)) (i : ℕ) → i < length xs → get_or (xs ++ [] ∷ []) i [] ≡ get_or xs i name
@@ -170,12 +171,24 @@ among n name lt is = by (n == 19) refl
     in_front (x ∷ xs) zero h = refl
     in_front (x ∷ xs) (suc i) h = in_front xs i (omega (arith, h))
 
-    by : (c : Bool) → (n == 19) ≡ c → (n ≡ 19) ⊎ Contains kinds name
-    by true e = inl (eqb-true n 19 e)
+    by : (c : Bool) → (n == 20) ≡ c → (n ≡ 20) ⊎ Contains kinds name
+    by true e = inl (eqb-true n 20 e)
     by false e =
-        let other : n ≡ 19 → ⊥ = λ k. (let t : (n == 19) ≡ true = ap (λ (m : ℕ). m == 19) k in let both : true ≡ false = sym t ∙ e in cc) in
+        let other : n ≡ 20 → ⊥ = λ k. (let t : (n == 20) ≡ true = ap (λ (m : ℕ). m == 20) k in let both : true ≡ false = sym t ∙ e in cc) in
         let h : n < length kinds = subst (λ (m : ℕ). n < m) (sym short) (omega (arith, lt, other)) in
         inr (n, h, sym (in_front kinds n h) ∙ sym is)
+
+pub too_long_rows : TooLongRows
+too_long_rows = record {
+  most = refl;
+  star = refl;
+  question_mark = refl;
+  bracket = refl;
+  plain = refl;
+  property = refl;
+  left_out = refl;
+  place = refl;
+}
 
 pub named_kinds : KindsAreNamed
 unfolding pieces
@@ -183,7 +196,7 @@ named_kinds = record {
   each = λ kind. among (kind_number kind) (warning_name kind) (at kind).0 (at kind).1;
   all = (
     ByteOrderMark ∷ LeadingTab ∷ CarriageReturn ∷ OpenBracket ∷ EmptyRange ∷ SpacedEquals ∷ CutValue ∷ RepeatedMatch ∷ Replaced 0 ∷ Misused NearName ∷ Misused ScanCode
-        ∷ Misused UnknownKey ∷ Misused UnfitValue ∷ Misused ZeroRow ∷ Misused TwoDefaults ∷ Unread ∷ Unpaired ∷ Unmatched UnknownPrefix ∷ Unmatched (Dead 0) ∷ [],
+        ∷ Misused UnknownKey ∷ Misused UnfitValue ∷ Misused ZeroRow ∷ Misused TwoDefaults ∷ Unread ∷ Unpaired ∷ Unmatched UnknownPrefix ∷ Unmatched (Dead 0) ∷ TooLongForUdev ∷ [],
     refl,
   );
   own = λ one two e.

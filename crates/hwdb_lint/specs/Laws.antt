@@ -1,12 +1,13 @@
 -- What the laws say of patterns that can't match, and of the names of warnings. A definition that said less would be noticed here.
-use Rattle.std.specs.Prelude.{◌-◌, ◌≡◌, ◌≤◌, ◌⊎◌, Contains, List, None, Some, [], codes, false, flat_map, length, map, suc, true, ℕ}
+use Rattle.std.specs.Prelude.{◌-◌, ◌≡◌, ◌≤◌, ◌⊎◌, ◌++◌, Bool, Contains, List, None, Some, [], codes, false, flat_map, length, map, replicate, suc, true, ℕ}
 use Rattle.hwdb_spec.specs.Forms.{all_bytes_from, expected, judged}
 use Rattle.hwdb_spec.specs.FormTable.{asked}
 use Rattle.hwdb_spec.specs.Kinds.{warning_name}
 use Rattle.hwdb_spec.specs.Lines.{begins_with, byte, is, is_none, max_pattern, pieces}
 use Rattle.hwdb_spec.specs.Unmatched.{compare_hint, is_unmatched, judgement_hint, judgement_of, judgement_place, judgement_text, place_hint, prefix_hint, runs, runs_hint}
+use Rattle.hwdb_spec.specs.Warnings.{is_too_long, warning_place}
 use Rattle.hwdb_spec.specs.declared.Judgement.TheVariants.{Dead, Fine, UnknownPrefix}
-use Rattle.hwdb_spec.specs.declared.WarningKind.TheVariants.{ByteOrderMark, CarriageReturn, CutValue, EmptyRange, LeadingTab, Misused, OpenBracket, RepeatedMatch, Replaced, SpacedEquals, Unmatched, Unpaired, Unread}
+use Rattle.hwdb_spec.specs.declared.WarningKind.TheVariants.{ByteOrderMark, CarriageReturn, CutValue, EmptyRange, LeadingTab, Misused, OpenBracket, RepeatedMatch, Replaced, SpacedEquals, TooLongForUdev, Unmatched, Unpaired, Unread}
 use Rattle.hwdb_spec.specs.declared.WarningKind.{WarningKind}
 use Rattle.hwdb_spec.specs.declared.vocabulary.Misuse.TheVariants.{NearName, ScanCode, TwoDefaults, UnfitValue, UnknownKey, ZeroRow}
 use Rattle.hwdb_spec.specs.declared.vocabulary.Misuse.{Misuse}
@@ -48,6 +49,22 @@ pub record UnmatchedRows : Type 0 where
   pub other : prefix_hint None ≡ codes "begin it as udev's strings do, with evdev: or mouse: or usb: and the like"
   pub nothing : judgement_hint Fine (codes "usb:") ≡ []
 
+-- ---- what udev can't take
+-- whether a line is told that begins so and has so many bytes more
+abbrev pub is_told_with : (begin : List ℕ) → (more : ℕ) → Bool
+is_told_with begin more = is_too_long (record { number = 1; text = begin ++ replicate more 97 })
+
+-- the bytes from the first wildcard on count, of a match line that isn't left out
+pub record TooLongRows : Type 0 where
+  pub most : is_told_with (codes "usb:*") 2045 ≡ false
+  pub star : is_told_with (codes "usb:*") 2046 ≡ true
+  pub question_mark : is_told_with (codes "usb:?") 2046 ≡ true
+  pub bracket : is_told_with (codes "usb:[") 2046 ≡ true
+  pub plain : is_told_with (codes "usb:") 4000 ≡ false
+  pub property : is_told_with (codes " A=*") 2046 ≡ false
+  pub left_out : is_told_with (codes "usb:*") 4092 ≡ false
+  pub place : warning_place TooLongForUdev (codes "usb:v*") (codes "usb:v*") ≡ 5
+
 -- ---- names
 -- the names of all kinds of warnings, as `--allow` takes them
 abbrev pub kinds : List (List ℕ)
@@ -78,10 +95,11 @@ kind_number Unread = 15
 kind_number Unpaired = 16
 kind_number (Unmatched UnknownPrefix) = 17
 kind_number (Unmatched (Dead place)) = 18
-kind_number (Unmatched Fine) = 19
+kind_number TooLongForUdev = 19
+kind_number (Unmatched Fine) = 20
 
 -- Each kind of warning has its own name among these, and each of them is the name of one kind.
 pub record KindsAreNamed : Type 0 where
-  pub each : (kind : WarningKind) → (kind_number kind ≡ 19) ⊎ Contains kinds (warning_name kind)
+  pub each : (kind : WarningKind) → (kind_number kind ≡ 20) ⊎ Contains kinds (warning_name kind)
   pub all : (some : List WarningKind) × (map warning_name some ≡ kinds)
   pub own : (one two : WarningKind) → warning_name one ≡ warning_name two → kind_number one ≡ kind_number two

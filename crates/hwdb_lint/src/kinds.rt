@@ -26,7 +26,8 @@ two-defaults
 unread
 unpaired
 unknown-prefix
-dead-pattern";
+dead-pattern
+too-long-for-udev";
 
 /// How findings are told.
 #[derive(Clone, Copy)]
@@ -95,6 +96,7 @@ pub fn warning_name(kind: WarningKind) -> &'static str
         WarningKind::Unread => "unread",
         WarningKind::Unpaired => "unpaired",
         WarningKind::Unmatched(judgement) => judgement_name(judgement),
+        WarningKind::TooLongForUdev => "too-long-for-udev",
     }
 }
 

@@ -1,5 +1,5 @@
 //! Laws over the definitions alone. Each function does nothing: its contract is the law.
-ghost use Rattle.hwdb_lint.specs.Laws.{KindsAreNamed, PatternsAreJudged, RunsAreAll, UnmatchedRows};
+ghost use Rattle.hwdb_lint.specs.Laws.{KindsAreNamed, PatternsAreJudged, RunsAreAll, TooLongRows, UnmatchedRows};
 
 /// A pattern that can match nothing is told, with the bytes that can follow the place where it goes wrong.
 #[tactic(auto, using(crate::proofs::LawLemmas::judged_patterns, crate::proofs::LawLemmas::all_runs, crate::proofs::LawLemmas::unmatched_rows))]
@@ -7,6 +7,12 @@ pub fn patterns_are_judged()
     ensures judged { PatternsAreJudged }
     ensures runs { RunsAreAll }
     ensures rows { UnmatchedRows }
+{}
+
+/// Which match lines are told as too long for udev, and where.
+#[tactic(auto, using(crate::proofs::LawLemmas::too_long_rows))]
+pub fn long_lines_are_told()
+    ensures { TooLongRows }
 {}
 
 /// Each kind of warning has its own name.

@@ -1,6 +1,7 @@
 //! Which warnings a line gets, by its clean text.
-ghost use Rattle.std.specs.Prelude.{◌≡◌, ◌-◌, ℕ, List, [], drop, length, nat_lt, take, true, false, if◌then◌else◌};
-ghost use Rattle.std.specs.List.{list_any};
+ghost use Rattle.std.specs.Prelude.{◌≡◌, ◌≤◌, ◌-◌, ℕ, List, [], drop, length, nat_lt, take, true, false, if◌then◌else◌};
+ghost use Rattle.std.specs.List.{list_any, position_or_len};
+ghost use Rattle.hwdb_spec.specs.Forms;
 ghost use Rattle.hwdb_spec.specs.Lines;
 ghost use Rattle.hwdb_spec.specs.Lines.{is_indent};
 ghost use Rattle.hwdb_spec.specs.Tree.{closed_part};
@@ -11,7 +12,7 @@ ghost use Rattle.hwdb_lint.specs.Internal.{clean_of, line_of, read_line, IsRead}
 
 use hwdb_pattern::{open_place, range_place};
 use hwdb_spec::{Judgement, Misuse, WarningKind};
-use hwdb_text::{end_of, indent_of};
+use hwdb_text::{LONGEST_MATCH, end_of, indent_of};
 
 /// A line that is read.
 #[derive(Clone, Copy)]
@@ -205,6 +206,49 @@ pub fn is_unmatched(judgement: Judgement) -> bool
     !matches!(judgement, Judgement::Fine)
 }
 
+/// How many bytes of a pattern udev can take from its first wildcard on.
+const LONGEST_REST: usize = 2046;
+
+/// Whether a byte is or may begin a wildcard.
+fn is_wild(byte: u8) -> bool
+    ensures { result ≡ Forms.is_wild byte }
+{
+    byte == b'*' || byte == b'?' || byte == b'['
+}
+
+/// The place of the first `*`, `?` or `[` of a text; its length if it has none.
+pub fn wild_place(text: &[u8]) -> usize
+    ensures place { result ≡ position_or_len Forms.is_wild text.now }
+    ensures within { result ≤ length text.now }
+{
+    let mut place = 0;
+    while place < text.len() && !is_wild(text[place]) {
+        place += 1;
+    }
+    place
+}
+
+/// Whether udev can't take a pattern.
+fn has_long_rest(pattern: &[u8]) -> bool
+    ensures { result ≡ nat_lt Warnings.longest_rest (length (Warnings.wild_rest pattern.now)) }
+{
+    let rest = &pattern[wild_place(pattern)..];
+    rest.len() > LONGEST_REST
+}
+
+/// Whether udev can't take a match line that is read.
+pub fn is_too_long(clean: &[u8]) -> bool
+    ensures { result ≡ Warnings.is_too_long (line_of 0 clean.now) }
+{
+    if !is_match(clean) {
+        return false;
+    }
+    if clean.len() > LONGEST_MATCH {
+        return false;
+    }
+    has_long_rest(clean)
+}
+
 /// Whether a later line replaces one, if that one's number or 0 is given.
 fn is_replaced(by: u64) -> bool
     ensures { result ≡ nat_lt 0 by }
@@ -232,6 +276,7 @@ pub fn is_warned(kind: WarningKind, line: &Read<'_>) -> bool
         WarningKind::Unread => line.unread,
         WarningKind::Unpaired => line.unpaired,
         WarningKind::Unmatched(_) => is_unmatched(line.judgement),
+        WarningKind::TooLongForUdev => is_too_long(line.clean),
     }
 }
 
@@ -278,11 +323,14 @@ pub fn is_warned_at_all(line: &Read<'_>) -> bool
     if has_cut_value(line.text, line.clean) {
         return true;
     }
+    if is_too_long(line.clean) {
+        return true;
+    }
     false
 }
 
 /// The kinds of warnings that a line may get.
-pub fn kinds_of(line: &Read<'_>) -> [WarningKind; 13]
+pub fn kinds_of(line: &Read<'_>) -> [WarningKind; 14]
     requires { IsRead line.now }
     ensures { result ≡ Warnings.line_kinds line.now.bytes.now (clean_of line.now) }
 {
@@ -300,5 +348,6 @@ pub fn kinds_of(line: &Read<'_>) -> [WarningKind; 13]
         WarningKind::Unread,
         WarningKind::Unpaired,
         WarningKind::Unmatched(line.judgement),
+        WarningKind::TooLongForUdev,
     ]
 }

@@ -13,7 +13,7 @@ use crate::json_lines::{Finding, finding_line};
 use crate::judgements::{judgement_of, judgement_place, judgement_text, push_judgement_hint};
 use crate::kinds::{Telling, is_told, warning_name};
 use crate::known::{Known, known_of, nothing_known};
-use crate::line_warnings::{Read, closed, is_warned, is_warned_at_all, kinds_of};
+use crate::line_warnings::{Read, closed, is_warned, is_warned_at_all, kinds_of, wild_place};
 use crate::misuses::{misuse_in, push_hint_of_misuse, push_unpaired_hint, push_unread_hint};
 use crate::plain_files::{is_plain, tame_after, tame_size};
 use hwdb_pattern::{open_place, range_place};
@@ -42,6 +42,9 @@ fn text_of(kind: WarningKind) -> &'static str
         WarningKind::Unread => "a property that isn't read below its patterns",
         WarningKind::Unpaired => "a property that is read with others alone",
         WarningKind::Unmatched(judgement) => judgement_text(judgement),
+        WarningKind::TooLongForUdev => {
+            "udev takes at most 2046 bytes from the first *, ? or [ on"
+        }
     }
 }
 
@@ -71,6 +74,9 @@ fn hint_of(kind: WarningKind) -> &'static str
         WarningKind::SpacedEquals => "take it away: it belongs to the key or to the value",
         WarningKind::CutValue => "put a blank before a comment; a value can't hold a #",
         WarningKind::RepeatedMatch | WarningKind::Replaced(_) => "take one of the two away",
+        WarningKind::TooLongForUdev => {
+            "shorten it: systemd 252 and 257 crash at it, and 262 finds nothing"
+        }
         WarningKind::Misused(_)
         | WarningKind::Unread
         | WarningKind::Unpaired
@@ -137,6 +143,7 @@ fn warning_place(kind: WarningKind, line: &[u8], clean: &[u8]) -> usize
         WarningKind::Misused(_) => end_of(b'=', line) + 1,
         WarningKind::Unread | WarningKind::Unpaired => indent_of(line),
         WarningKind::Unmatched(judgement) => judgement_place(judgement),
+        WarningKind::TooLongForUdev => wild_place(clean),
     }
 }
 

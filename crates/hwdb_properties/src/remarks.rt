@@ -1,14 +1,14 @@
 //! What is said of a property that doesn't fit.
 ghost use Rattle.std.specs.Prelude.{◌≡◌, ◌++◌, [], OnOk};
 ghost use Rattle.hwdb_spec.specs.Properties;
-ghost use Rattle.hwdb_spec.specs.declared.vocabulary.TheConstants.{KEY_NAMES, PROPERTIES};
+ghost use Rattle.hwdb_spec.specs.declared.vocabulary.TheConstants.{KEY_HINT, KEY_NAMES, PROPERTIES};
 
 use crate::common::is_common;
 use crate::cuts::without;
 use crate::numbers::is_lower_hex;
 use crate::rows::{Likeness, first_row, row_form, word};
 use crate::values::{form_of, is_of_form, odd_value};
-use hwdb_spec::{KEY_NAMES, Misuse, PROPERTIES, ValueForm};
+use hwdb_spec::{KEY_HINT, KEY_NAMES, Misuse, PROPERTIES, ValueForm};
 use std::alloc::AllocError;
 
 /// The row of a property.
@@ -121,7 +121,7 @@ fn form_text(form: ValueForm) -> &'static str
         ValueForm::Resolutions => "write resolutions with spaces between, as 400@125 *800@125",
         ValueForm::Axis => "write up to five numbers with colons between, as 0:4095:40",
         ValueForm::Limits => "write two numbers with a comma between, as 75,80; a _ is for none",
-        ValueForm::Key => "write a key of linux/input-event-codes.h in lower case, without key_",
+        ValueForm::Key => KEY_HINT,
         ValueForm::Choice => "write one of these: ",
     }
 }

@@ -4,7 +4,7 @@ use Rattle.hwdb_spec.specs.Inputs.{after_words, count_bits}
 use Rattle.hwdb_spec.specs.Lines.{pieces}
 use Rattle.hwdb_spec.specs.Lookups.{asked_in, flag_after, strings_from, told_value}
 use Rattle.hwdb_spec.specs.Sysfs.{cut_back, first_at, replaced, value_of}
-use Rattle.hwdb_rules.specs.Rows.{CameraRow, KeyboardRow, MouseRow, NetRow, SensorRow, UsbRow, WalkRow, WrittenRow}
+use Rattle.hwdb_rules.specs.Rows.{BatteryRow, CameraRow, KeyboardRow, LongRow, MouseRow, NetRow, PadRow, SensorRow, TaggedRow, UsbRow, WalkRow, WrittenRow}
 
 pub keyboard_row : KeyboardRow
 unfolding after_words count_bits pieces asked_in flag_after strings_from told_value cut_back first_at replaced value_of
@@ -37,3 +37,19 @@ net_row = refl
 pub written_row : WrittenRow
 unfolding after_words count_bits pieces asked_in flag_after strings_from told_value cut_back first_at replaced value_of
 written_row = refl
+
+pub pad_row : PadRow
+unfolding after_words count_bits pieces asked_in flag_after strings_from told_value cut_back first_at replaced value_of
+pad_row = refl
+
+pub tagged_row : TaggedRow
+unfolding after_words count_bits pieces asked_in flag_after strings_from told_value cut_back first_at replaced value_of
+tagged_row = refl
+
+pub battery_row : BatteryRow
+unfolding after_words count_bits pieces asked_in flag_after strings_from told_value cut_back first_at replaced value_of
+battery_row = refl
+
+pub long_row : LongRow
+unfolding after_words count_bits pieces asked_in flag_after strings_from told_value cut_back first_at replaced value_of
+long_row = (refl, refl)

@@ -2,7 +2,7 @@
 use Rattle.std.specs.Prelude.{Bool, List, ℕ, [], ◌∷◌, ◌++◌, codes, false, if◌then◌else◌}
 use Rattle.hwdb_spec.specs.Inputs.{Bits, has_events}
 use Rattle.hwdb_spec.specs.Lines.{byte}
-use Rattle.hwdb_spec.specs.Lookups.{Lookup, Question, Scene, ask_one, battery_text, camera_text, itself, of_first, upper, is_carrier, is_driven, is_input_on, is_no_tablet, is_psmouse}
+use Rattle.hwdb_spec.specs.Lookups.{Lookup, Question, Scene, ask_one, battery_text, camera_text, itself, of_first, upper, is_carrier, is_driven, is_input_on, is_limited, is_no_tablet, is_psmouse}
 use Rattle.hwdb_rules.specs.declared.inputs.Bits.{Bits as OwnedBits}
 use Rattle.hwdb_spec.specs.Sysfs.{Ancestor, At, attribute_is, has_driver, has_text, is_in, is_left, is_line_end, is_named, is_usb_device, is_white, left_whole}
 use Rattle.hwdb_sysfs.specs.Views.{ancestor_of}
@@ -58,7 +58,7 @@ kept b rest = if is_left b then 1 else left_whole b rest
 
 -- whether it is a battery whose charge can be limited
 unfoldable pub is_battery : Scene → Bool
-is_battery s = if is_in (codes "power_supply") s.own then has_text (codes "charge_control_start_threshold") s.own else false
+is_battery s = if is_in (codes "power_supply") s.own then is_limited s.own else false
 
 -- what is asked of a battery
 unfoldable pub battery_plan : Scene → List Lookup

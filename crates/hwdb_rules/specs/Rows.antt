@@ -1,9 +1,9 @@
--- Worked rows: what udev asks for some devices, as its log tells it (systemd 257), and values as it writes them.
-use Rattle.std.specs.Prelude.{Bool, List, ℕ, [], ◌∷◌, ◌++◌, ◌≡◌, codes, if◌then◌else◌, map}
+-- Worked rows: what udev asks for some devices, as its log tells it (systemd 257 and 262), and values as it writes them.
+use Rattle.std.specs.Prelude.{Bool, List, ℕ, [], ◌∷◌, ◌++◌, ◌≡◌, codes, false, filter, if◌then◌else◌, length, map, replicate, true}
 use Rattle.hwdb_spec.specs.Assignment.{Assignment}
 use Rattle.hwdb_spec.specs.Folders.{same}
 use Rattle.hwdb_spec.specs.Lookups.{Found, Told, lookups}
-use Rattle.hwdb_spec.specs.Sysfs.{Ancestor, Attribute, Device, written}
+use Rattle.hwdb_spec.specs.Sysfs.{Ancestor, Attribute, Device, cut_short, is_run, put_in, written}
 
 -- an attribute, as its file has it
 abbrev pub attribute : List ℕ → List ℕ → Attribute
@@ -118,7 +118,61 @@ NetRow =
     ∷ ancestor (codes "0000:00:1f.6") (codes "pci") (codes "e1000e") (codes "MODALIAS=pci:v00008086d0000156F\n") [] ∷ [])
     ≡ (codes "75-net-description", codes "net:naming:dre1000e:") ∷ (codes "75-net-description", codes "pci:v00008086d0000156F") ∷ (codes "net_id", codes "OUI:54EE75001122") ∷ []
 
+-- ---- what systemd 262 asks otherwise
+
+-- a parent in a subsystem
+abbrev pub within : List ℕ → Ancestor
+within subsystem = ancestor subsystem subsystem [] [] []
+
+-- a touchpad below some parents
+abbrev pub pad : List Ancestor → List Ancestor
+pad above =
+    ancestor (codes "event8") (codes "input") [] [] []
+    ∷ ancestor (codes "input8") (codes "input") [] []
+    (attribute (codes "name") (codes "Pad") ∷ attribute (codes "capabilities/ev") (codes "1b") ∷ attribute (codes "capabilities/key") (codes "e520 10000 0 0 0 0")
+    ∷ attribute (codes "capabilities/abs") (codes "2e0800000000003") ∷ attribute (codes "id/vendor") (codes "04f3") ∷ attribute (codes "id/product") (codes "2a1e") ∷ [])
+    ∷ above
+
+-- what 70-touchpad asks of it
+abbrev pub pad_strings : List Ancestor → List (List ℕ)
+pad_strings above = map (λ (r : List ℕ × List ℕ). r.1) (filter (λ (r : List ℕ × List ℕ). same r.0 (codes "70-touchpad")) (asked tells_nothing (pad above)))
+
+-- both releases know the bus, one, or each another one
+abbrev pub PadRow : Type 0
+PadRow =
+    map pad_strings ((within (codes "serio") ∷ within (codes "platform") ∷ []) ∷ (within (codes "i2c") ∷ within (codes "pci") ∷ [])
+    ∷ (within (codes "rmi4") ∷ within (codes "spi") ∷ []) ∷ (within (codes "i2c") ∷ within (codes "usb") ∷ []) ∷ (within (codes "acpi") ∷ within (codes "platform") ∷ []) ∷ [])
+    ≡ (codes "touchpad:i8042:v04f3p2a1e:name:Pad:" ∷ []) ∷ (codes "touchpad:i2c:v04f3p2a1e:name:Pad:" ∷ [])
+    ∷ (codes "touchpad:rmi:v04f3p2a1e:name:Pad:" ∷ codes "touchpad:spi:v04f3p2a1e:name:Pad:" ∷ [])
+    ∷ (codes "touchpad:usb:v04f3p2a1e:name:Pad:" ∷ codes "touchpad:i2c:v04f3p2a1e:name:Pad:" ∷ [])
+    ∷ (codes "touchpad:acpi:v04f3p2a1e:name:Pad:" ∷ []) ∷ []
+
+-- a machine with a tag of its case, by what its file `modalias` has
+abbrev pub tagged : List ℕ → List Ancestor
+tagged value =
+    ancestor (codes "id") (codes "dmi") [] (codes "MODALIAS=dmi:bvnX(1):\n") (attribute (codes "modalias") value ∷ attribute (codes "chassis_asset_tag") (codes "Asset: 1234 ") ∷ []) ∷ []
+
+-- its string, and the string with the tag; not if the file has more than 511 bytes
+abbrev pub TaggedRow : Type 0
+TaggedRow =
+    map (λ value. asked tells_nothing (tagged value)) (codes "dmi:bvnX(1):" ∷ replicate 512 97 ∷ [])
+    ≡ ((codes "50-udev-default", codes "dmi:bvnX(1):") ∷ (codes "60-dmi-id", codes "dmi:bvnX_1_:catAsset: 1234:") ∷ [])
+    ∷ ((codes "50-udev-default", codes "dmi:bvnX(1):") ∷ []) ∷ []
+
+-- a battery that can be told when to end charging, and not when to begin; another one
+abbrev pub BatteryRow : Type 0
+BatteryRow =
+    map (λ name. asked tells_nothing (ancestor (codes "BAT0") (codes "power_supply") [] [] (attribute name (codes "100") ∷ attribute (codes "model_name") (codes "Cell") ∷ []) ∷ []))
+    (codes "charge_control_end_threshold" ∷ codes "charge_control_limit" ∷ [])
+    ≡ ((codes "60-upower-battery", codes "battery:BAT0:Cell:dmi:bvrN1CET81W_1.49_:") ∷ []) ∷ [] ∷ []
+
 -- ---- values
+
+-- 511 bytes are taken, and no more: of what is longer there is no string, and of the machine's name the first ones
+abbrev pub LongRow : Type 0
+LongRow =
+    (map length (put_in (replicate 511 97) ∷ cut_short (replicate 512 97) ∷ []) ≡ 511 ∷ 511 ∷ [])
+    × (map is_run (put_in (replicate 511 97) ∷ put_in (replicate 512 97) ∷ []) ≡ true ∷ false ∷ [])
 
 -- what is left, what becomes `_`, white space at the end and within
 abbrev pub WrittenRow : Type 0

@@ -1,17 +1,19 @@
-//! The rules of 50-udev-default, 60-evdev and 60-input-id.
+//! The rules of 50-udev-default, 60-dmi-id, 60-evdev and 60-input-id.
 ghost use Rattle.std.specs.Prelude.{◌≡◌, ◌++◌, codes, option_map, IfOk, OnOk};
 ghost use Rattle.hwdb_spec.specs.Lookups;
 ghost use Rattle.hwdb_spec.specs.Lookups.{ask_one};
 ghost use Rattle.hwdb_rules.specs.Views.{plans_of, questions_of, scene_of};
+ghost use Rattle.hwdb_sysfs.specs.Views.{ancestor_of};
 ghost use Rattle.hwdb_rules.specs.Internal.{found_at};
 
 use crate::ancestors::{
-    At, Wanted, attribute, first_of, is_in, is_named, is_usb_device, uevent_text,
+    At, Wanted, attribute, first_of, has_text, is_in, is_named, is_usb_device, uevent_text,
 };
-use crate::plans::{Plan, Question, add_one, add_plan, add_question};
-use crate::scene::{Scene, itself, push_ids_and_name, push_with_attr};
-use crate::values::push_written;
+use crate::plans::{Plan, Question, add_one, add_plan, ask};
+use crate::scene::{Scene, itself, push_attr, push_ids_and_name, push_with_attr};
+use crate::values::{push_value, same};
 use crate::walks::add_walk;
+use hwdb_sysfs::Ancestor;
 use std::alloc::{AllocError, Global};
 
 /// Devices of hidraw, by any parent. The only error, here and below, is `AllocError`.
@@ -57,7 +59,7 @@ fn push_node_model(text: &mut Vec<u8>, scene: &Scene<'_>) -> Result<(), AllocErr
         return Ok(());
     };
     text.extend_from_slice(b"mo")?;
-    push_written(text, model)
+    push_value(text, model)
 }
 
 /// The string of a node on FireWire.
@@ -74,7 +76,7 @@ fn node_text(alloc: Global, scene: &Scene<'_>, units: &[u8]) -> Result<Vec<u8>, 
     )?;
     push_node_model(&mut text, scene)?;
     text.extend_from_slice(b"units")?;
-    push_written(&mut text, units)?;
+    push_value(&mut text, units)?;
     Ok(text)
 }
 
@@ -102,6 +104,49 @@ fn default_rules(alloc: Global, plans: &mut Vec<Plan>, scene: &Scene<'_>) -> Res
     usb_rule(alloc, plans, scene)?;
     modalias_rule(alloc, plans, scene)?;
     firewire_rule(alloc, plans, scene)
+}
+
+/// Whether a device is the machine, as its firmware names it.
+fn is_machine(ancestor: &Ancestor) -> bool
+    ensures { result ≡ Lookups.is_machine (ancestor_of ancestor.now) }
+{
+    is_in(ancestor, b"dmi") && same(&ancestor.name, b"id")
+}
+
+/// Whether a device has MODALIAS, and a tag of its case.
+fn is_tagged(ancestor: &Ancestor) -> bool
+    ensures { result ≡ Lookups.is_tagged (ancestor_of ancestor.now) }
+{
+    !uevent_text(ancestor, b"MODALIAS=").is_empty() && has_text(ancestor, b"chassis_asset_tag")
+}
+
+/// The machine's MODALIAS, with the tag of its case.
+fn tagged_text(alloc: Global, scene: &Scene<'_>) -> Result<Vec<u8>, AllocError>
+    ensures { IfOk result (λ t. t.items ≡ Lookups.tagged_text (scene_of scene.now)) }
+{
+    let mut text = Vec::new(alloc);
+    push_attr(&mut text, scene, itself(scene), b"modalias")?;
+    push_with_attr(
+        &mut text,
+        b"cat",
+        scene,
+        itself(scene),
+        b"chassis_asset_tag",
+    )?;
+    text.push(b':')?;
+    Ok(text)
+}
+
+/// The rules of 60-dmi-id, which systemd 262 has.
+fn dmi_rules(alloc: Global, plans: &mut Vec<Plan>, scene: &Scene<'_>) -> Result<(), AllocError>
+    ensures { OnOk result (plans_of plans.new.items
+        ≡ plans_of plans.old.items ++ Lookups.dmi_rules (scene_of scene.now)) }
+{
+    if !(is_machine(scene.own) && is_tagged(scene.own)) {
+        return Ok(());
+    }
+    let text = tagged_text(alloc, scene)?;
+    add_one(alloc, plans, "60-dmi-id", itself(scene), text)
 }
 
 /// A text, and the machine's name.
@@ -213,6 +258,7 @@ pub fn early_rules(alloc: Global, scene: &Scene<'_>) -> Result<Vec<Plan>, AllocE
 {
     let mut plans = Vec::new(alloc);
     default_rules(alloc, &mut plans, scene)?;
+    dmi_rules(alloc, &mut plans, scene)?;
     evdev_rules(alloc, &mut plans, scene)?;
     Ok(plans)
 }
@@ -245,7 +291,7 @@ fn add_on_bus(
         return Ok(());
     };
     let text = bus_text(alloc, bus, scene, at)?;
-    add_question(questions, at.place, text)
+    ask(questions, at, text)
 }
 
 /// The walk of an input device.

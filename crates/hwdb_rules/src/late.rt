@@ -9,8 +9,8 @@ use crate::ancestors::{
 };
 use crate::inputs::Kinds;
 use crate::middle::add_along_bus;
-use crate::plans::{Plan, Question, add_one, add_plan, add_question};
-use crate::scene::{Scene, bus_of, itself, push_ids_and_name, push_with_attr};
+use crate::plans::{Plan, Question, add_one, add_plan, ask};
+use crate::scene::{Scene, bus_of, itself, other_bus_of, push_ids_and_name, push_with_attr};
 use crate::values::same;
 use crate::walks::{add_walk, push_upper};
 use hwdb_properties::before;
@@ -63,39 +63,41 @@ fn camera_rules(alloc: Global, plans: &mut Vec<Plan>, scene: &Scene<'_>) -> Resu
     Ok(())
 }
 
-/// The string of an input device by its kind and its bus.
+/// The string of an input device by its kind and a bus.
 fn kind_text(
     alloc: Global,
     kind: &[u8],
+    bus: &[u8],
     scene: &Scene<'_>,
     at: At<'_>,
 ) -> Result<Vec<u8>, AllocError>
-    ensures { IfOk result
-        (λ t. t.items ≡ Lookups.kind_text kind.now (scene_of scene.now) (found_at at.entry)) }
+    ensures { IfOk result (λ t. t.items
+        ≡ Lookups.kind_text kind.now bus.now (scene_of scene.now) (found_at at.entry)) }
 {
     let mut text = Vec::new(alloc);
     text.extend_from_slice(kind)?;
-    text.extend_from_slice(bus_of(scene))?;
+    text.extend_from_slice(bus)?;
     text.push(b':')?;
     push_ids_and_name(&mut text, scene, at)?;
     Ok(text)
 }
 
-/// Adds the string of an input device by its kind and its bus.
+/// Adds the string of an input device by its kind and a bus.
 fn add_kind(
     alloc: Global,
     questions: &mut Vec<Question>,
     kind: &[u8],
+    bus: &[u8],
     scene: &Scene<'_>,
 ) -> Result<(), AllocError>
     ensures { OnOk result (questions_of questions.new.items ≡ questions_of questions.old.items
-        ++ Lookups.kind_question kind.now (scene_of scene.now)) }
+        ++ Lookups.kind_question kind.now bus.now (scene_of scene.now)) }
 {
     let Some(at) = first_of(Wanted::Named(b"input"), scene.chain) else {
         return Ok(());
     };
-    let text = kind_text(alloc, kind, scene, at)?;
-    add_question(questions, at.place, text)
+    let text = kind_text(alloc, kind, bus, scene, at)?;
+    ask(questions, at, text)
 }
 
 /// Whether it is an event device that has a kind.
@@ -103,6 +105,26 @@ fn is_event_of(scene: &Scene<'_>, kind: bool) -> bool
     ensures { result ≡ Lookups.is_event_of kind (scene_of scene.now) }
 {
     is_named(scene.own, b"event") && kind
+}
+
+/// Adds what is asked by a kind on a bus, if there is a bus.
+fn add_kind_lookup(
+    alloc: Global,
+    plans: &mut Vec<Plan>,
+    rule: &'static str,
+    kind: &[u8],
+    bus: &[u8],
+    scene: &Scene<'_>,
+) -> Result<(), AllocError>
+    ensures { OnOk result (plans_of plans.new.items ≡ plans_of plans.old.items
+        ++ Lookups.kind_lookup rule.now kind.now bus.now (scene_of scene.now)) }
+{
+    if bus.is_empty() {
+        return Ok(());
+    }
+    let mut questions = Vec::new(alloc);
+    add_kind(alloc, &mut questions, kind, bus, scene)?;
+    add_plan(plans, rule, questions)
 }
 
 /// Adds the strings of an input device that has a kind and a bus.
@@ -117,12 +139,11 @@ fn add_kind_rule(
     ensures { OnOk result (plans_of plans.new.items ≡ plans_of plans.old.items
         ++ Lookups.kind_rules rule.now kind.now has_kind (scene_of scene.now)) }
 {
-    if !is_event_of(scene, has_kind) || bus_of(scene).is_empty() {
+    if !is_event_of(scene, has_kind) {
         return Ok(());
     }
-    let mut questions = Vec::new(alloc);
-    add_kind(alloc, &mut questions, kind, scene)?;
-    add_plan(plans, rule, questions)
+    add_kind_lookup(alloc, plans, rule, kind, bus_of(scene), scene)?;
+    add_kind_lookup(alloc, plans, rule, kind, other_bus_of(scene), scene)
 }
 
 /// The string of a mouse of the machine.
@@ -149,7 +170,7 @@ fn add_psmouse(
         return Ok(());
     };
     let text = psmouse_text(alloc, scene, at)?;
-    add_question(questions, at.place, text)
+    ask(questions, at, text)
 }
 
 /// Whether the rules ask for mice on a bus.
@@ -171,7 +192,7 @@ fn add_bus_mouse(
     if !is_mouse_bus(bus_of(scene)) {
         return Ok(());
     }
-    add_kind(alloc, questions, b"mouse:", scene)
+    add_kind(alloc, questions, b"mouse:", bus_of(scene), scene)
 }
 
 /// The rules of 70-mouse.

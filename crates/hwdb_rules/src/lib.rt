@@ -1,6 +1,6 @@
 //! Which strings udev's rules ask the hardware database for: what `device` asks.
 //!
-//! `hwdb_sysfs` says what sysfs holds of a device and its parents. Rules are of systemd 257, and of the packages upower and
+//! `hwdb_sysfs` says what sysfs holds of a device and its parents. Rules are of systemd 257 and 262, and of the packages upower and
 //! libwacom. Nothing here reads a file, or knows a database. A rule says which strings are to be asked, one after another,
 //! up to the first that has an answer.
 //!
@@ -13,7 +13,7 @@
 //! | `scene` | what a rule sees, and strings of its parts |
 //! | `plans` | strings that are to be asked |
 //! | `walks` | the strings of a device and its parents |
-//! | `early` | 50-udev-default, 60-evdev and 60-input-id |
+//! | `early` | 50-udev-default, 60-dmi-id, 60-evdev and 60-input-id |
 //! | `middle` | 60-sensor, 60-serial, and those of upower and libwacom |
 //! | `late` | 70-camera to 78-sound-card |
 //! | `laws` | worked rows of the definitions |

@@ -3,12 +3,16 @@ ghost use Rattle.std.specs.Prelude.{◌≡◌, ◌++◌, codes, option_map, IfOk
 ghost use Rattle.hwdb_spec.specs.Lookups;
 ghost use Rattle.hwdb_rules.specs.Views.{kinds_of, plans_of, questions_of, scene_of};
 ghost use Rattle.hwdb_rules.specs.Internal.{battery_plan, found_at, is_battery};
+ghost use Rattle.hwdb_sysfs.specs.Views.{ancestor_of};
 
-use crate::ancestors::{At, Wanted, attribute_is, first_of, has_text, is_in, is_named, some};
+use crate::ancestors::{
+    At, Wanted, attribute, attribute_is, first_of, has_text, is_in, is_named, some,
+};
 use crate::inputs::Kinds;
-use crate::plans::{Plan, Question, add_one, add_plan, add_question};
+use crate::plans::{Plan, Question, add_one, add_plan, ask};
 use crate::scene::{Scene, itself, push_attr, push_with_attr};
 use crate::walks::add_walk;
+use hwdb_sysfs::Ancestor;
 use std::alloc::{AllocError, Global};
 
 /// The string of a sensor. The only error, here and below, is `AllocError`.
@@ -58,7 +62,7 @@ fn add_labelled(
     };
     let label = label_text(alloc, scene, at)?;
     let text = sensor_text(alloc, &label, scene, at)?;
-    add_question(questions, at.place, text)
+    ask(questions, at, text)
 }
 
 /// Whether it is an accelerometer of a Chromebook's controller.
@@ -87,7 +91,7 @@ fn add_chromebook(
         return Ok(());
     };
     let text = sensor_text(alloc, label, scene, at)?;
-    add_question(questions, at.place, text)
+    ask(questions, at, text)
 }
 
 /// Adds the string of a sensor without a label.
@@ -103,7 +107,7 @@ fn add_plain(
         return Ok(());
     };
     let text = sensor_text(alloc, b"", scene, at)?;
-    add_question(questions, at.place, text)
+    ask(questions, at, text)
 }
 
 /// Adds the strings of a device of iio.
@@ -162,7 +166,7 @@ fn add_acpi(
         return Ok(());
     };
     let text = acpi_text(alloc, scene, at)?;
-    add_question(questions, at.place, text)
+    ask(questions, at, text)
 }
 
 /// Adds the string of an accelerometer of the platform.
@@ -178,7 +182,7 @@ fn add_platform(
         return Ok(());
     };
     let text = platform_text(alloc, scene, at)?;
-    add_question(questions, at.place, text)
+    ask(questions, at, text)
 }
 
 /// Adds the strings of an accelerometer that is an input device.
@@ -271,12 +275,20 @@ fn battery_text(alloc: Global, scene: &Scene<'_>) -> Result<Vec<u8>, AllocError>
     Ok(text)
 }
 
+/// Whether the charge of a battery can be limited.
+fn is_limited(ancestor: &Ancestor) -> bool
+    ensures { result ≡ Lookups.is_limited (ancestor_of ancestor.now) }
+{
+    attribute(ancestor, b"charge_control_start_threshold").is_some()
+        || attribute(ancestor, b"charge_control_end_threshold").is_some()
+}
+
 /// Whether it is a battery whose charge can be limited.
 #[tactic(auto, unfolding(crate::specs::Internal::is_battery))]
 fn is_battery(scene: &Scene<'_>) -> bool
     ensures { result ≡ is_battery (scene_of scene.now) }
 {
-    is_in(scene.own, b"power_supply") && has_text(scene.own, b"charge_control_start_threshold")
+    is_in(scene.own, b"power_supply") && is_limited(scene.own)
 }
 
 /// Adds the string of a battery.

@@ -1,10 +1,11 @@
 //! Strings that are to be asked.
 ghost use Rattle.std.specs.Prelude.{◌≡◌, ◌++◌, ◌∷◌, [], OnOk};
-ghost use Rattle.hwdb_spec.specs.Lookups.{ask_one};
+ghost use Rattle.hwdb_spec.specs.Lookups.{ask_one, question_at};
 ghost use Rattle.hwdb_rules.specs.Views.{plans_of, questions_of};
 ghost use Rattle.hwdb_rules.specs.Internal.{found_at, one_plan, one_question};
 
 use crate::ancestors::At;
+use crate::values::is_run;
 use std::alloc::{AllocError, Global};
 
 /// A string, and which parent it comes from: after how many others.
@@ -38,6 +39,21 @@ pub(crate) fn add_question(
     Ok(())
 }
 
+/// Adds a string of a parent, if udev runs its lookup.
+pub(crate) fn ask(
+    questions: &mut Vec<Question>,
+    at: At<'_>,
+    text: Vec<u8>,
+) -> Result<(), AllocError>
+    ensures { OnOk result (questions_of questions.new.items
+        ≡ questions_of questions.old.items ++ question_at (found_at at.entry) text.items) }
+{
+    if !is_run(&text) {
+        return Ok(());
+    }
+    add_question(questions, at.place, text)
+}
+
 /// Adds strings of a rules file.
 pub(crate) fn add_plan(
     plans: &mut Vec<Plan>,
@@ -63,6 +79,6 @@ pub(crate) fn add_one(
         ++ ask_one rule.now (found_at at.entry) text.items) }
 {
     let mut questions = Vec::new(alloc);
-    add_question(&mut questions, at.place, text)?;
+    ask(&mut questions, at, text)?;
     add_plan(plans, rule, questions)
 }

@@ -3,13 +3,13 @@ ghost use Rattle.std.specs.Prelude.{◌≡◌, ◌++◌, ◌∷◌, [], codes, o
 ghost use Rattle.std.specs.Option.{option_or, unwrap_or};
 ghost use Rattle.hwdb_spec.specs.Lookups;
 ghost use Rattle.hwdb_spec.specs.Lookups.{attr, ids_and_name};
-ghost use Rattle.hwdb_spec.specs.Sysfs.{attribute_text, written};
+ghost use Rattle.hwdb_spec.specs.Sysfs.{attribute_text, cut_short};
 ghost use Rattle.hwdb_rules.specs.Views.{scene_of};
 ghost use Rattle.hwdb_sysfs.specs.Views.{ancestor_of};
 ghost use Rattle.hwdb_rules.specs.Internal.{found_at};
 
 use crate::ancestors::{At, Wanted, attribute, attribute_text, some};
-use crate::values::push_written;
+use crate::values::{push_cut, push_value, same};
 use hwdb_sysfs::{Ancestor, Device};
 use std::alloc::{AllocError, Global};
 
@@ -26,10 +26,10 @@ pub struct Scene<'d> {
 
 /// The machine's name as rules write it. The only error, here and below, is `AllocError`.
 pub fn machine_text(alloc: Global, device: &Device) -> Result<Vec<u8>, AllocError>
-    ensures { IfOk result (λ text. text.items ≡ written device.now.machine.items) }
+    ensures { IfOk result (λ text. text.items ≡ cut_short device.now.machine.items) }
 {
     let mut text = Vec::new(alloc);
-    push_written(&mut text, &device.machine)?;
+    push_cut(&mut text, &device.machine)?;
     Ok(text)
 }
 
@@ -45,8 +45,8 @@ pub(crate) fn push_attr(
         ≡ text.old.items ++ attr name.now (scene_of scene.now) (found_at at.entry)) }
 {
     match attribute(scene.own, name) {
-        Some(value) => push_written(text, value),
-        None => push_written(text, attribute_text(at.ancestor, name)),
+        Some(value) => push_value(text, value),
+        None => push_value(text, attribute_text(at.ancestor, name)),
     }
 }
 
@@ -91,13 +91,19 @@ pub(crate) fn push_ids_and_name(
     Ok(())
 }
 
-/// ID_BUS of an input device; empty if it has none.
+/// Whether a device or a parent is on Bluetooth.
+fn is_on_bluetooth(scene: &Scene<'_>) -> bool
+    ensures { result ≡ Lookups.is_on_bluetooth (scene_of scene.now) }
+{
+    some(Wanted::In(b"bluetooth"), scene.chain)
+        || some(Wanted::Is(b"id/bustype", b"0005"), scene.chain)
+}
+
+/// ID_BUS of an input device in systemd 257; empty if it has none.
 pub(crate) fn bus_of(scene: &Scene<'_>) -> &'static [u8]
     ensures { result.now ≡ Lookups.bus_of (scene_of scene.now) }
 {
-    if some(Wanted::In(b"bluetooth"), scene.chain) {
-        b"bluetooth"
-    } else if some(Wanted::Is(b"id/bustype", b"0005"), scene.chain) {
+    if is_on_bluetooth(scene) {
         b"bluetooth"
     } else if some(Wanted::In(b"serio"), scene.chain) {
         b"i8042"
@@ -108,4 +114,51 @@ pub(crate) fn bus_of(scene: &Scene<'_>) -> &'static [u8]
     } else {
         b""
     }
+}
+
+/// ID_BUS of an input device in systemd 262 by what is above other buses; empty if it has none.
+fn upper_bus_of(scene: &Scene<'_>) -> &'static [u8]
+    ensures { result.now ≡ Lookups.upper_bus_of (scene_of scene.now) }
+{
+    if some(Wanted::In(b"pci"), scene.chain) {
+        b"pci"
+    } else if some(Wanted::In(b"acpi"), scene.chain) {
+        b"acpi"
+    } else if some(Wanted::In(b"platform"), scene.chain) {
+        b"platform"
+    } else {
+        b""
+    }
+}
+
+/// ID_BUS of an input device in systemd 262; empty if it has none.
+fn later_bus_of(scene: &Scene<'_>) -> &'static [u8]
+    ensures { result.now ≡ Lookups.later_bus_of (scene_of scene.now) }
+{
+    if is_on_bluetooth(scene) {
+        b"bluetooth"
+    } else if some(Wanted::In(b"spi"), scene.chain) {
+        b"spi"
+    } else if some(Wanted::In(b"serio"), scene.chain) {
+        b"i8042"
+    } else if some(Wanted::In(b"rmi4"), scene.chain) {
+        b"rmi"
+    } else if some(Wanted::In(b"i2c"), scene.chain) {
+        b"i2c"
+    } else if some(Wanted::In(b"usb"), scene.chain) {
+        b"usb"
+    } else {
+        upper_bus_of(scene)
+    }
+}
+
+/// ID_BUS of an input device in systemd 262, if it isn't what it is in 257; else empty.
+pub(crate) fn other_bus_of(scene: &Scene<'_>) -> &'static [u8]
+    ensures { result.now ≡ Lookups.other_bus_of (scene_of scene.now) }
+{
+    let later = later_bus_of(scene);
+    if same(later, bus_of(scene)) {
+        return b"";
+    }
+    later
 }

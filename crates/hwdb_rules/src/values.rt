@@ -3,7 +3,7 @@ ghost use Rattle.std.specs.Prelude.{◌≡◌, ◌++◌, ◌≤◌, ◌<◌, dro
 ghost use Rattle.hwdb_spec.specs.Folders;
 ghost use Rattle.hwdb_spec.specs.Lines;
 ghost use Rattle.hwdb_spec.specs.Sysfs;
-ghost use Rattle.hwdb_spec.specs.Sysfs.{cut_back, left_whole, replaced, written};
+ghost use Rattle.hwdb_spec.specs.Sysfs.{cut_back, cut_short, left_whole, put_in, replaced, written};
 ghost use Rattle.hwdb_rules.specs.Internal.{is_cut, kept};
 
 use std::alloc::AllocError;
@@ -180,9 +180,37 @@ fn push_replaced(text: &mut Vec<u8>, value: &[u8]) -> Result<(), AllocError>
     Ok(())
 }
 
-/// Adds a value as `$attr{}` gives it.
-pub(crate) fn push_written(text: &mut Vec<u8>, value: &[u8]) -> Result<(), AllocError>
+/// Adds a value as it is in a string.
+fn push_written(text: &mut Vec<u8>, value: &[u8]) -> Result<(), AllocError>
     ensures { OnOk result (text.new.items ≡ text.old.items ++ written value.now) }
 {
     push_replaced(text, without_ends(Ends::White, value))
+}
+
+/// How many bytes of a value udev takes.
+const LONGEST_VALUE: usize = 511;
+
+/// Adds a value as `$attr{}` gives it: byte 0 in place of one that is too long.
+pub(crate) fn push_value(text: &mut Vec<u8>, value: &[u8]) -> Result<(), AllocError>
+    ensures { OnOk result (text.new.items ≡ text.old.items ++ put_in value.now) }
+{
+    if value.len() > LONGEST_VALUE {
+        text.push(0)?;
+        return Ok(());
+    }
+    push_written(text, value)
+}
+
+/// Adds what a file says of the machine, as `$attr{[dmi/id]..}` gives it.
+pub(crate) fn push_cut(text: &mut Vec<u8>, value: &[u8]) -> Result<(), AllocError>
+    ensures { OnOk result (text.new.items ≡ text.old.items ++ cut_short value.now) }
+{
+    push_written(text, first(without_ends(Ends::Lines, value), LONGEST_VALUE))
+}
+
+/// Whether udev runs a lookup with this text: no value in it is too long.
+pub(crate) fn is_run(text: &[u8]) -> bool
+    ensures { result ≡ Sysfs.is_run text.now }
+{
+    !text.contains(&0)
 }

@@ -2,7 +2,7 @@
 ghost use Rattle.std.specs.Prelude.{◌≡◌, ◌++◌, ◌+◌, ◌<◌, ◌^◌, false, true, if◌then◌else◌, length, map, option_map, IfOk, OnOk};
 ghost use Rattle.hwdb_spec.specs.Sysfs;
 ghost use Rattle.hwdb_spec.specs.Lookups;
-ghost use Rattle.hwdb_spec.specs.Lookups.{strings_from, upper, walk};
+ghost use Rattle.hwdb_spec.specs.Lookups.{strings_from, upper, walk, when};
 ghost use Rattle.hwdb_rules.specs.Views.{plans_of, questions_of, scene_of};
 ghost use Rattle.hwdb_sysfs.specs.Views.{ancestor_of};
 ghost use Rattle.hwdb_rules.specs.Internal.{usb_text_of};
@@ -10,6 +10,7 @@ ghost use Rattle.hwdb_rules.specs.Internal.{usb_text_of};
 use crate::ancestors::{attribute, attribute_text, is_in, is_usb_device, uevent_value};
 use crate::plans::{Plan, Question, add_plan, add_question};
 use crate::scene::Scene;
+use crate::values::is_run;
 use hwdb_sysfs::Ancestor;
 use std::alloc::{AllocError, Global};
 
@@ -154,7 +155,7 @@ fn add_strings(
     add_strings(alloc, questions, next, more)
 }
 
-/// The strings of a device and its parents, with what comes before each.
+/// The strings of a device and its parents, with what comes before each; none if udev doesn't run the walk.
 fn strings_of(
     alloc: Global,
     chain: &[Ancestor],
@@ -162,8 +163,12 @@ fn strings_of(
     prefix: &[u8],
 ) -> Result<Vec<Question>, AllocError>
     ensures { IfOk result (λ q. questions_of q.items
-        ≡ strings_from subsystem.now prefix.now 0 false (map ancestor_of chain.now)) }
+        ≡ when (Sysfs.is_run prefix.now)
+        (strings_from subsystem.now prefix.now 0 false (map ancestor_of chain.now))) }
 {
+    if !is_run(prefix) {
+        return Ok(Vec::new(alloc));
+    }
     let walk = ParentWalk {
         subsystem,
         prefix,

@@ -80,11 +80,11 @@ bluetooth = record {
 abbrev pub acpi : Form
 acpi = record { prefix = codes "acpi:"; fields = optional (repeated Names ∷ fixed (codes ":") ∷ []) ∷ [] }
 
--- MODALIAS of the machine (drivers/firmware/dmi-id.c); 60-dmi-id.rules may add a category
+-- MODALIAS of the machine (drivers/firmware/dmi-id.c); 60-dmi-id.rules of systemd 262 may add the tag of its case, colons too
 abbrev pub dmi : Form
 dmi = record {
   prefix = codes "dmi:";
-  fields = dmi_fields Dmi ++ optional (fixed (codes "cat") ∷ repeated LeftButColon ∷ fixed (codes ":") ∷ []) ∷ [];
+  fields = dmi_fields Dmi ++ optional (fixed (codes "cat") ∷ repeated Left ∷ fixed (codes ":") ∷ []) ∷ [];
 }
 
 -- 60-evdev.rules: MODALIAS of an input device
@@ -267,7 +267,7 @@ known =
     ∷ known_with pci (codes "pci:v00008086d00001237sv00001AF4sd00001100bc06sc00i00")
     ∷ known_with bluetooth (codes "bluetooth:v000Fp1200d1436")
     ∷ known_with acpi (codes "acpi:LNXPWRBN:")
-    ∷ known_with dmi (codes "dmi:bvnSeaBIOS:bvr1.16.2:bd04/01/2014:br0.0:svnQEMU:pnStandardPC:pvrpc-i440fx:cvnQEMU:ct1:cvrpc:")
+    ∷ known_with dmi (codes "dmi:bvnSeaBIOS:bvr1.16.2:bd04/01/2014:br0.0:svnQEMU:pnStandardPC:pvrpc-i440fx:cvnQEMU:ct1:cvrpc:catAsset: 1234:")
     ∷ known_with evdev_input (codes "evdev:input:b0003v05ACp0250e0111-e0,1,4,11,14,k71,ram4,l0,1,2,sfw")
     ∷ known_with evdev_machine (codes "evdev:atkbd:dmi:bvnLENOVO:bvrN1CET:svnLENOVO:pn20F6:pvrThinkPadX260:")
     ∷ known_with evdev_keyboard (codes "evdev:atkbd:")

@@ -7,7 +7,7 @@ use Rattle.hwdb_spec.specs.declared.FaultKind.TheVariants.{EmptyKey, LongMatch, 
 use Rattle.hwdb_spec.specs.declared.Judgement.{Judgement}
 use Rattle.hwdb_spec.specs.declared.Judgement.TheVariants.{Dead, Fine, UnknownPrefix}
 use Rattle.hwdb_spec.specs.declared.WarningKind.{WarningKind}
-use Rattle.hwdb_spec.specs.declared.WarningKind.TheVariants.{ByteOrderMark, CarriageReturn, CutValue, EmptyRange, LeadingTab, Misused, OpenBracket, RepeatedMatch, Replaced, SpacedEquals, Unmatched, Unpaired, Unread}
+use Rattle.hwdb_spec.specs.declared.WarningKind.TheVariants.{ByteOrderMark, CarriageReturn, CutValue, EmptyRange, LeadingTab, Misused, OpenBracket, RepeatedMatch, Replaced, SpacedEquals, TooLongForUdev, Unmatched, Unpaired, Unread}
 use Rattle.hwdb_spec.specs.declared.vocabulary.Misuse.{Misuse}
 use Rattle.hwdb_spec.specs.declared.vocabulary.Misuse.TheVariants.{NearName, ScanCode, TwoDefaults, UnfitValue, UnknownKey, ZeroRow}
 
@@ -51,6 +51,7 @@ warning_name (Misused why) = misuse_name why
 warning_name Unread = codes "unread"
 warning_name Unpaired = codes "unpaired"
 warning_name (Unmatched told) = judgement_name told
+warning_name TooLongForUdev = codes "too-long-for-udev"
 
 -- whether a warning is told: its name isn't among those that are allowed
 abbrev pub is_told : (allowed : List (List ℕ)) → WarningKind → Bool

@@ -1,16 +1,17 @@
 -- The strings that udev asks the database for when a device is added, in their order. They are those of the lines of systemd 257's
 -- rules files that call the builtin `hwdb`. Besides they are those of the builtins `input_id` and `net_id`, and of the rules of the
--- packages upower and libwacom. A sound card's are those of its change, when udev asks for it. Left out: the lines of
--- 90-iocost.rules, which need a disk's own answers. The driver of a network device is that of its nearest parent with one; udev asks
--- ethtool.
-use Rattle.std.specs.Prelude.{Bool, true, false, ℕ, suc, List, [], ◌∷◌, ◌++◌, ◌-◌, ◌==◌, Option, None, Some, if◌then◌else◌, codes, filter, flat_map, get_or, length, map, nat_eq, not}
+-- packages upower 1.90 and libwacom. What systemd 262 and upower 1.91 ask besides is there too, so that no string of either is missed
+-- (our choice): it says so. Lines are numbered as in 257, or in 262 if that is said. A sound card's strings are those of its change,
+-- when udev asks for it. Left out: the lines of 90-iocost.rules and of 262's 60-tpm2-id.rules, which need a disk's or a TPM's own
+-- answers. The driver of a network device is that of its nearest parent with one; udev asks ethtool.
+use Rattle.std.specs.Prelude.{Bool, true, false, ℕ, suc, List, [], ◌∷◌, ◌++◌, ◌-◌, ◌==◌, Option, None, Some, if◌then◌else◌, codes, filter, flat_map, get_or, is_some, length, map, nat_eq, not}
 use Rattle.std.specs.List.{before_first, ends_with, starts_with}
 use Rattle.std.specs.Option.{option_map_or, option_or, unwrap_or}
 use Rattle.hwdb_spec.specs.Assignment.{Assignment}
 use Rattle.hwdb_spec.specs.Folders.{same}
 use Rattle.hwdb_spec.specs.Lines.{byte, is, is_none}
 use Rattle.hwdb_spec.specs.Patterns.{in_span}
-use Rattle.hwdb_spec.specs.Sysfs.{Ancestor, At, Device, attribute, attribute_is, attribute_text, first_of, has_driver, has_text, is_in, is_named, is_usb_device, some, uevent_value, written}
+use Rattle.hwdb_spec.specs.Sysfs.{Ancestor, At, Device, attribute, attribute_is, attribute_text, cut_short, first_of, has_driver, has_text, is_in, is_named, is_run, is_usb_device, put_in, some, uevent_value}
 use Rattle.hwdb_spec.specs.Inputs.{Kinds, kinds_by_bits, no_kinds}
 
 -- ---- what a rule sees and asks
@@ -40,13 +41,17 @@ when holds asked = if holds then asked else []
 abbrev pub of_first : {A : Type 0} → (Ancestor → Bool) → Scene → (At → List A) → List A
 of_first test s asked = option_map_or asked (first_of test s.chain) []
 
+-- one string, of a parent; none if udev doesn't run its lookup
+abbrev pub question_at : At → List ℕ → List Question
+question_at p text = when (is_run text) (record { parent = p.place; text = text } ∷ [])
+
 -- one string
 abbrev pub ask_one : (rule : List ℕ) → At → List ℕ → List Lookup
-ask_one rule p text = record { rule = rule; questions = record { parent = p.place; text = text } ∷ [] } ∷ []
+ask_one rule p text = record { rule = rule; questions = question_at p text } ∷ []
 
 -- `$attr{}`: the device's own attribute, else that of the parent that matched (udev-format.c)
 abbrev pub attr : List ℕ → Scene → At → List ℕ
-attr name s p = written (unwrap_or (option_or (attribute name s.own) (attribute name p.ancestor)) [])
+attr name s p = put_in (unwrap_or (option_or (attribute name s.own) (attribute name p.ancestor)) [])
 
 -- the device itself, as what matched
 abbrev pub itself : Scene → At
@@ -92,9 +97,10 @@ strings_from subsystem prefix place is_last (a ∷ more) =
     (string_of a) (strings_from subsystem prefix (suc place) last more))
     else strings_from subsystem prefix (suc place) is_last more
 
--- a walk up the parents
+-- a walk up the parents; none if udev doesn't run it, by what comes before its strings
 abbrev pub walk : (rule subsystem prefix : List ℕ) → Scene → List Lookup
-walk rule subsystem prefix s = record { rule = rule; questions = strings_from subsystem prefix 0 false s.chain } ∷ []
+walk rule subsystem prefix s =
+    record { rule = rule; questions = when (is_run prefix) (strings_from subsystem prefix 0 false s.chain) } ∷ []
 
 -- ---- 50-udev-default.rules
 
@@ -114,11 +120,11 @@ modalias_rule s =
 
 -- the model of a node on FireWire, if it has one
 abbrev pub node_model : Scene → List ℕ
-node_model s = option_map_or (λ model. codes "mo" ++ written model) (attribute (codes "model") s.own) []
+node_model s = option_map_or (λ model. codes "mo" ++ put_in model) (attribute (codes "model") s.own) []
 
 -- the string of a node on FireWire, by its units
 abbrev pub node_text : Scene → (units : List ℕ) → List ℕ
-node_text s units = codes "ieee1394:node:ven" ++ (attr (codes "vendor") s (itself s) ++ (node_model s ++ (codes "units" ++ written units)))
+node_text s units = codes "ieee1394:node:ven" ++ (attr (codes "vendor") s (itself s) ++ (node_model s ++ (codes "units" ++ put_in units)))
 
 -- lines 71 to 75: nodes on FireWire
 abbrev pub firewire_rule : Scene → List Lookup
@@ -129,6 +135,26 @@ firewire_rule s =
 -- 50-udev-default.rules, in its order
 abbrev pub default_rules : Scene → List Lookup
 default_rules s = hidraw_rule s ++ (usb_rule s ++ (modalias_rule s ++ firewire_rule s))
+
+-- ---- 60-dmi-id.rules
+
+-- whether a device is the machine, as its firmware names it
+abbrev pub is_machine : Ancestor → Bool
+is_machine a = if is_in (codes "dmi") a then same a.name (codes "id") else false
+
+-- the machine's MODALIAS, with the tag of its case
+abbrev pub tagged_text : Scene → List ℕ
+tagged_text s =
+    attr (codes "modalias") s (itself s) ++ (codes "cat" ++ (attr (codes "chassis_asset_tag") s (itself s) ++ byte ":" ∷ []))
+
+-- whether a device has MODALIAS, and a tag of its case
+abbrev pub is_tagged : Ancestor → Bool
+is_tagged a = if is_none (unwrap_or (uevent_value (codes "MODALIAS=") a) []) then false else has_text (codes "chassis_asset_tag") a
+
+-- line 23 of systemd 262, which 257 doesn't have: the tag of the machine's case
+abbrev pub dmi_rules : Scene → List Lookup
+dmi_rules s =
+    when (if is_machine s.own then is_tagged s.own else false) (ask_one (codes "60-dmi-id") (itself s) (tagged_text s))
 
 -- ---- 60-evdev.rules
 
@@ -168,10 +194,6 @@ ids_and_name s p =
 -- whether a device is an input device on a bus, by the bus's number
 abbrev pub is_input_on : List ℕ → Ancestor → Bool
 is_input_on number a = if is_named (codes "input") a then attribute_is (codes "id/bustype") number a else false
-
--- one string, of a parent
-abbrev pub question_at : At → List ℕ → List Question
-question_at p text = record { parent = p.place; text = text } ∷ []
 
 -- the string of an input device on a bus
 abbrev pub bus_text : (bus : List ℕ) → Scene → At → List ℕ
@@ -276,10 +298,16 @@ serial_rules s = when (is_in (codes "tty") s.own) (along_bus (codes "60-serial")
 abbrev pub battery_text : Scene → List ℕ
 battery_text s = codes "battery:" ++ (s.own.name ++ (codes ":" ++ (attr (codes "model_name") s (itself s) ++ byte ":" ∷ s.machine)))
 
+-- Whether the charge of a battery can be limited. upower 1.90 asks if the threshold at which charging begins isn't empty. 1.91 asks if
+-- this one is there, or that at which it ends; it asks twice if both are there and the first string has no answer.
+abbrev pub is_limited : Ancestor → Bool
+is_limited a =
+    if is_some (attribute (codes "charge_control_start_threshold") a) then true else is_some (attribute (codes "charge_control_end_threshold") a)
+
 -- a battery whose charge can be limited, in upower's rules
 abbrev pub battery_rules : Scene → List Lookup
 battery_rules s =
-    when (if is_in (codes "power_supply") s.own then has_text (codes "charge_control_start_threshold") s.own else false)
+    when (if is_in (codes "power_supply") s.own then is_limited s.own else false)
     (ask_one (codes "60-upower-battery") (itself s) (battery_text s))
 
 -- whether the name of a device says that it is no tablet
@@ -312,31 +340,62 @@ abbrev pub camera_rules : Scene → List Lookup
 camera_rules s =
     when (is_in (codes "video4linux") s.own) (of_first is_usb_device s (λ p. ask_one (codes "70-camera") p (camera_text s p)))
 
+-- whether a device or a parent is on Bluetooth: some of these tell it by their number alone
+abbrev pub is_on_bluetooth : Scene → Bool
+is_on_bluetooth s =
+    if some (is_in (codes "bluetooth")) s.chain then true else some (attribute_is (codes "id/bustype") (codes "0005")) s.chain
+
 -- ID_BUS of an input device (60-persistent-input.rules); empty if it has none
 abbrev pub bus_of : Scene → List ℕ
 bus_of s =
-    if some (is_in (codes "bluetooth")) s.chain then codes "bluetooth"
-    else (if some (attribute_is (codes "id/bustype") (codes "0005")) s.chain then codes "bluetooth"
+    if is_on_bluetooth s then codes "bluetooth"
     else (if some (is_in (codes "serio")) s.chain then codes "i8042"
     else (if some (is_in (codes "rmi4")) s.chain then codes "rmi"
-    else (if some (is_in (codes "usb")) s.chain then codes "usb" else []))))
+    else (if some (is_in (codes "usb")) s.chain then codes "usb" else [])))
 
--- an input device by its kind, its bus, vendor, product and name
-abbrev pub kind_text : (kind : List ℕ) → Scene → At → List ℕ
-kind_text kind s p = kind ++ (bus_of s ++ byte ":" ∷ ids_and_name s p)
+-- the same in systemd 262, of a device on none of the buses that are nearer to it
+abbrev pub upper_bus_of : Scene → List ℕ
+upper_bus_of s =
+    if some (is_in (codes "pci")) s.chain then codes "pci"
+    else (if some (is_in (codes "acpi")) s.chain then codes "acpi"
+    else (if some (is_in (codes "platform")) s.chain then codes "platform" else []))
 
--- what is asked of an input device by its kind: of the first parent with such a name
-abbrev pub kind_question : (kind : List ℕ) → Scene → List Question
-kind_question kind s = of_first (is_named (codes "input")) s (λ p. question_at p (kind_text kind s p))
+-- ID_BUS in systemd 262: the last line decides that finds a parent on spi, serio, rmi4 or i2c. Without one it is usb, or what is above
+-- that.
+abbrev pub later_bus_of : Scene → List ℕ
+later_bus_of s =
+    if is_on_bluetooth s then codes "bluetooth"
+    else (if some (is_in (codes "spi")) s.chain then codes "spi"
+    else (if some (is_in (codes "serio")) s.chain then codes "i8042"
+    else (if some (is_in (codes "rmi4")) s.chain then codes "rmi"
+    else (if some (is_in (codes "i2c")) s.chain then codes "i2c"
+    else (if some (is_in (codes "usb")) s.chain then codes "usb" else upper_bus_of s)))))
+
+-- ID_BUS in systemd 262, if it isn't what it is in 257; else empty
+abbrev pub other_bus_of : Scene → List ℕ
+other_bus_of s = if same (later_bus_of s) (bus_of s) then [] else later_bus_of s
+
+-- an input device by its kind, a bus, vendor, product and name
+abbrev pub kind_text : (kind bus : List ℕ) → Scene → At → List ℕ
+kind_text kind bus s p = kind ++ (bus ++ byte ":" ∷ ids_and_name s p)
+
+-- what is asked of an input device by its kind and a bus: of the first parent with such a name
+abbrev pub kind_question : (kind bus : List ℕ) → Scene → List Question
+kind_question kind bus s = of_first (is_named (codes "input")) s (λ p. question_at p (kind_text kind bus s p))
 
 -- whether it is an event device that has a kind
 abbrev pub is_event_of : Bool → Scene → Bool
 is_event_of kind s = if is_named (codes "event") s.own then kind else false
 
--- lines 8 to 10 of 70-joystick.rules, and 9 to 11 of 70-touchpad.rules: an event device that has the kind, and a bus
+-- what is asked by a kind on a bus, if there is a bus
+abbrev pub kind_lookup : (rule kind bus : List ℕ) → Scene → List Lookup
+kind_lookup rule kind bus s = when (not (is_none bus)) (record { rule = rule; questions = kind_question kind bus s } ∷ [])
+
+-- Lines 8 to 10 of 70-joystick.rules, and 9 to 11 of 70-touchpad.rules: an event device that has the kind, and a bus. It is asked by
+-- that of systemd 257, and by that of 262.
 abbrev pub kind_rules : (rule kind : List ℕ) → (has_kind : Bool) → Scene → List Lookup
 kind_rules rule kind has_kind s =
-    when (if is_event_of has_kind s then not (is_none (bus_of s)) else false) (record { rule = rule; questions = kind_question kind s } ∷ [])
+    when (is_event_of has_kind s) (kind_lookup rule kind (bus_of s) s ++ kind_lookup rule kind (other_bus_of s) s)
 
 -- a mouse of the machine: a parent has the driver, and is in the subsystem
 abbrev pub is_psmouse : Ancestor → Bool
@@ -354,9 +413,9 @@ psmouse_question s = of_first is_psmouse s (λ p. question_at p (psmouse_text s 
 abbrev pub is_mouse_bus : List ℕ → Bool
 is_mouse_bus bus = if same bus (codes "usb") then true else same bus (codes "bluetooth")
 
--- lines 8 to 13 of 70-mouse.rules
+-- lines 8 to 13 of 70-mouse.rules; 262 asks by no other bus
 abbrev pub bus_mouse_question : Scene → List Question
-bus_mouse_question s = when (is_mouse_bus (bus_of s)) (kind_question (codes "mouse:") s)
+bus_mouse_question s = when (is_mouse_bus (bus_of s)) (kind_question (codes "mouse:") (bus_of s) s)
 
 -- 70-mouse.rules, in its order
 abbrev pub mouse_rules : Bool → Scene → List Lookup
@@ -500,7 +559,7 @@ kinds_seen before s = if is_in (codes "input") s.own then kinds_by_bits before s
 
 -- the rules up to 60-evdev
 abbrev pub early_rules : Scene → List Lookup
-early_rules s = default_rules s ++ evdev_rules s
+early_rules s = default_rules s ++ (dmi_rules s ++ evdev_rules s)
 
 -- the rules from 60-sensor to 65-libwacom
 abbrev pub middle_rules : Kinds → Scene → List Lookup
@@ -523,7 +582,7 @@ found_in tells s =
 -- the strings that are asked for a device
 abbrev pub found_for : (List ℕ → Told) → (machine : List ℕ) → List Ancestor → List Found
 found_for tells machine [] = []
-found_for tells machine (own ∷ parents) = found_in tells (record { own = own; chain = own ∷ parents; machine = written machine })
+found_for tells machine (own ∷ parents) = found_in tells (record { own = own; chain = own ∷ parents; machine = cut_short machine })
 
 -- the strings that are asked for a device, by what each gets
 abbrev pub lookups : (List ℕ → Told) → Device → List Found

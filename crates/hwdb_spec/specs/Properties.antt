@@ -11,7 +11,7 @@ use Rattle.hwdb_spec.specs.Lines.{begins_with, byte, has, is, is_indent, is_none
 use Rattle.hwdb_spec.specs.Patterns.{in_span}
 use Rattle.hwdb_spec.specs.declared.vocabulary.Misuse.{Misuse}
 use Rattle.hwdb_spec.specs.declared.vocabulary.Misuse.TheVariants.{NearName, ScanCode, TwoDefaults, UnfitValue, UnknownKey, ZeroRow}
-use Rattle.hwdb_spec.specs.declared.vocabulary.TheConstants.{KEY_NAMES, PROPERTIES}
+use Rattle.hwdb_spec.specs.declared.vocabulary.TheConstants.{KEY_HINT, KEY_NAMES, PROPERTIES}
 use Rattle.hwdb_spec.specs.declared.vocabulary.ValueForm.{ValueForm}
 use Rattle.hwdb_spec.specs.declared.vocabulary.ValueForm.TheVariants.{Any, Axis, Byte, Choice, Count, Decimal, Integer, Key, Limits, Matrix, Resolutions}
 
@@ -310,7 +310,7 @@ form_hint Matrix form = codes "write three rows of three numbers, as 1, 0, 0; 0,
 form_hint Resolutions form = codes "write resolutions with spaces between, as 400@125 *800@125"
 form_hint Axis form = codes "write up to five numbers with colons between, as 0:4095:40"
 form_hint Limits form = codes "write two numbers with a comma between, as 75,80; a _ is for none"
-form_hint Key form = codes "write a key of linux/input-event-codes.h in lower case, without key_"
+form_hint Key form = KEY_HINT.now
 form_hint Choice form = codes "write one of these: " ++ form
 
 -- what to do about a key that isn't known: the first one with nearly its name, if there is one

@@ -4,7 +4,7 @@ use Rattle.std.specs.List.{find, list_any, starts_with}
 use Rattle.std.specs.Option.{option_map_or, unwrap_or}
 use Rattle.std.specs.Str.{is_utf8}
 use Rattle.hwdb_spec.specs.Folders.{same}
-use Rattle.hwdb_spec.specs.Lines.{byte, is, is_blank, is_none, pieces}
+use Rattle.hwdb_spec.specs.Lines.{byte, has, is, is_blank, is_none, pieces}
 use Rattle.hwdb_spec.specs.Patterns.{in_span}
 
 -- a file below a device's folder, by its path there, and its bytes
@@ -87,9 +87,26 @@ replaced zero (b ∷ rest) =
     else (if nat_lt 0 (left_whole b rest) then b ∷ replaced (left_whole b rest - 1) rest
     else put_for b ∷ replaced 0 rest)
 
--- A value as `$attr{}` gives it: without white space at its end, and replaced. udev cuts it after 511 bytes, and this doesn't.
+-- a value as it is in a string: without white space at its end, and replaced
 abbrev pub written : List ℕ → List ℕ
 written value = replaced 0 (cut_back is_white value)
+
+-- how many bytes of a value udev takes (UDEV_NAME_SIZE of udev-def.h, less the byte 0 at its end)
+abbrev pub longest_value : ℕ
+longest_value = 511
+
+-- A value as `$attr{}` gives it. udev doesn't run a lookup if one is longer (`truncated` in udev-rules.c): that is said by a byte 0, which
+-- no string of udev's has.
+abbrev pub put_in : List ℕ → List ℕ
+put_in value = if nat_lt longest_value (length value) then 0 ∷ [] else written value
+
+-- whether udev runs a lookup with this text
+abbrev pub is_run : List ℕ → Bool
+is_run text = not (has 0 text)
+
+-- what a file says of the machine, as `$attr{[dmi/id]..}` gives it: udev cuts a longer one (`udev_resolve_subsys_kernel`)
+abbrev pub cut_short : List ℕ → List ℕ
+cut_short value = written (take longest_value (cut_back is_line_end value))
 
 -- ---- a device by itself
 

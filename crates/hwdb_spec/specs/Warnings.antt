@@ -3,10 +3,11 @@ use Rattle.std.specs.Prelude.{Bool, true, false, ℕ, List, [], ◌∷◌, ◌++
 use Rattle.std.specs.Fmt.{decimal}
 use Rattle.std.specs.List.{list_any, position_or_len, prefix_len, starts_with}
 use Rattle.std.specs.Option.{unwrap_or}
-use Rattle.hwdb_spec.specs.Lines.{Line, begins_with, byte, clean, clean_line, has, has_equals, has_key, is, is_dropped, is_indent, is_match, is_none, is_property, key, lines, value}
+use Rattle.hwdb_spec.specs.Lines.{Line, begins_with, byte, clean, clean_line, has, has_equals, has_key, is, is_dropped, is_indent, is_long, is_match, is_none, is_property, key, lines, value}
 use Rattle.hwdb_spec.specs.Assignment.{Assignment}
 use Rattle.hwdb_spec.specs.Records.{assignments}
 use Rattle.hwdb_spec.specs.Folders.{same}
+use Rattle.hwdb_spec.specs.Forms.{is_wild}
 use Rattle.hwdb_spec.specs.Patterns.{is_reversed, range_place, tokens}
 use Rattle.hwdb_spec.specs.Tree.{closed_part, is_open}
 use Rattle.hwdb_spec.specs.Texts.{place_text}
@@ -18,7 +19,7 @@ use Rattle.hwdb_spec.specs.Unmatched.{is_unmatched, judgement_hint, judgement_of
 use Rattle.hwdb_spec.specs.declared.WarningKind.{WarningKind}
 use Rattle.hwdb_spec.specs.declared.vocabulary.Misuse.{Misuse}
 use Rattle.hwdb_spec.specs.declared.vocabulary.Misuse.TheVariants.{NearName, ScanCode, TwoDefaults, UnfitValue, UnknownKey, ZeroRow}
-use Rattle.hwdb_spec.specs.declared.WarningKind.TheVariants.{ByteOrderMark, CarriageReturn, CutValue, EmptyRange, LeadingTab, Misused, OpenBracket, RepeatedMatch, Replaced, SpacedEquals, Unmatched, Unpaired, Unread}
+use Rattle.hwdb_spec.specs.declared.WarningKind.TheVariants.{ByteOrderMark, CarriageReturn, CutValue, EmptyRange, LeadingTab, Misused, OpenBracket, RepeatedMatch, Replaced, SpacedEquals, TooLongForUdev, Unmatched, Unpaired, Unread}
 
 -- whether the key of a property ends with a space or a tab, or its value begins with one
 abbrev pub is_spaced : Line → Bool
@@ -27,6 +28,19 @@ is_spaced l = if list_any is_indent (drop (length (key l) - 1) (key l)) then tru
 -- whether a `#` is right after the clean text of a line, so that it cuts the line, and no blank is before it
 abbrev pub is_cut : (line clean : Line) → Bool
 is_cut line clean = begins_with (byte "#") (drop (length clean.text) line.text)
+
+-- how many bytes of a pattern udev can take from its first wildcard on: 2,048 (`struct linebuf` of sd-hwdb.c) less a byte 0 and one more
+abbrev pub longest_rest : ℕ
+longest_rest = 2046
+
+-- The bytes of a pattern from its first `*`, `?` or `[` on, which udev puts together while it searches (`trie_fnmatch_f` of sd-hwdb.c).
+abbrev pub wild_rest : List ℕ → List ℕ
+wild_rest pattern = drop (position_or_len is_wild pattern) pattern
+
+-- Whether udev can't take a match line that is read. Its program of systemd 252 and 257 ends by a signal then, whatever device comes to
+-- this pattern, and 262's finds nothing for such a device.
+abbrev pub is_too_long : Line → Bool
+is_too_long l = if is_match l then (if is_long l then false else nat_lt longest_rest (length (wild_rest l.text))) else false
 
 -- the numbers of the match lines that repeat one of the match lines directly above, which have these texts
 unfoldable pub repeated_from : (above : List (List ℕ)) → List Line → List ℕ
@@ -82,7 +96,8 @@ misused l =
 -- a match line: a `[` of it begins no closed bracket; before the first such `[` a range has no members. Of a property that has a
 -- key: a blank is beside its first `=`. Of a property with a `=`: a `#` cuts it, before which no blank is. It is a match line that
 -- is in its record already. Lines after it replace what it gives. What is known of properties doesn't fit it, or the patterns of
--- its record don't, or the other properties that these are given. It is a pattern that matches no text that udev asks.
+-- its record don't, or the other properties that these are given. It is a pattern that matches no text that udev asks, or one that
+-- udev can't take.
 abbrev pub warns : (file : List ℕ) → WarningKind → (line clean : Line) → Bool
 warns file ByteOrderMark line l = starts_with nat_eq l.text (239 ∷ 187 ∷ 191 ∷ [])
 warns file LeadingTab line l = begins_with (byte "\t") l.text
@@ -98,6 +113,7 @@ warns file (Misused why) line l = is_some (misused l)
 warns file Unread line l = is_unread file l.number
 warns file Unpaired line l = is_unpaired file l.number
 warns file (Unmatched told) line l = is_unmatched (judgement_of l.text)
+warns file TooLongForUdev line l = is_too_long l
 
 -- The kinds of warnings that a line may get. That of a replaced one names the last line that replaces. That of a misused one says
 -- how, and that of a pattern what is said of it.
@@ -105,7 +121,7 @@ abbrev pub line_kinds : (file : List ℕ) → (clean : Line) → List WarningKin
 line_kinds file clean =
     ByteOrderMark ∷ LeadingTab ∷ CarriageReturn ∷ OpenBracket ∷ EmptyRange ∷ SpacedEquals ∷ CutValue ∷ RepeatedMatch
     ∷ Replaced (greatest (replacing file clean.number)) ∷ Misused (unwrap_or (misused clean) NearName) ∷ Unread ∷ Unpaired
-    ∷ Unmatched (judgement_of clean.text) ∷ []
+    ∷ Unmatched (judgement_of clean.text) ∷ TooLongForUdev ∷ []
 
 -- whether a line gets a warning that is told
 abbrev pub gets : (allowed : List (List ℕ)) → (file : List ℕ) → (line clean : Line) → WarningKind → Bool
@@ -138,6 +154,7 @@ warning_text (Misused why) = misuse_text why
 warning_text Unread = codes "a property that isn't read below its patterns"
 warning_text Unpaired = codes "a property that is read with others alone"
 warning_text (Unmatched told) = judgement_text told
+warning_text TooLongForUdev = codes "udev takes at most 2046 bytes from the first *, ? or [ on"
 
 -- after how many bytes of its line a warning is, of a line with this text and this clean text
 abbrev pub warning_place : WarningKind → (text clean : List ℕ) → ℕ
@@ -159,6 +176,7 @@ warning_place (Misused TwoDefaults) text clean = position_or_len (is (byte "="))
 warning_place Unread text clean = prefix_len is_indent text
 warning_place Unpaired text clean = prefix_len is_indent text
 warning_place (Unmatched told) text clean = judgement_place told
+warning_place TooLongForUdev text clean = position_or_len is_wild clean
 
 -- what to do about a warning
 abbrev pub warning_hint : WarningKind → (clean : Line) → List ℕ
@@ -175,6 +193,7 @@ warning_hint (Misused why) clean = misuse_hint why (key clean) (value clean)
 warning_hint Unread clean = unread_hint (key clean)
 warning_hint Unpaired clean = unpaired_hint (key clean)
 warning_hint (Unmatched told) clean = judgement_hint told clean.text
+warning_hint TooLongForUdev clean = codes "shorten it: systemd 252 and 257 crash at it, and 262 finds nothing"
 
 -- the line of a warning: where it is, `: warning: `, what is unusual
 abbrev pub warning_line : (path : List ℕ) (number : ℕ) → WarningKind → List ℕ

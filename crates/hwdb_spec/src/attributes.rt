@@ -7,7 +7,9 @@ pub const ATTRIBUTES: &str = "addr_assign_type\n\
     capabilities/ev\n\
     capabilities/key\n\
     capabilities/rel\n\
+    charge_control_end_threshold\n\
     charge_control_start_threshold\n\
+    chassis_asset_tag\n\
     device/name\n\
     hid\n\
     id/bustype\n\

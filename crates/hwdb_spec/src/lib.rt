@@ -138,7 +138,7 @@ pub use form::Form;
 pub use job::{Job, Task, WordsFault};
 pub use refusals::Refusal;
 use std::{error, fmt};
-pub use vocabulary::{COMPANIONS, KEY_NAMES, Misuse, PROPERTIES, ValueForm};
+pub use vocabulary::{COMPANIONS, KEY_HINT, KEY_NAMES, Misuse, PROPERTIES, ValueForm};
 
 /// A named class of bytes, as POSIX has it in the C locale.
 #[derive(Clone, Copy)]
@@ -275,6 +275,8 @@ pub enum WarningKind {
     Unpaired,
     /// It is a pattern that matches no text that udev asks.
     Unmatched(Judgement),
+    /// It is a pattern that udev can't take.
+    TooLongForUdev,
 }
 
 /// How many files were checked, and how much was found in them.

@@ -1,40 +1,46 @@
 //! What is known of properties and keys, as data.
 
+/// How the values of `KEYBOARD_KEY_..` are written, and of which release of Linux the names below are.
+pub const KEY_HINT: &str =
+    "write a key of Linux 7.2's linux/input-event-codes.h in lower case, without key_";
+
 /// The names that the values of `KEYBOARD_KEY_..` have: those of linux/input-event-codes.h in lower case, without
-/// `KEY_`. A name a line. `tests/proofs/key-names` makes it from the header.
+/// `KEY_`. A name a line. `tests/proofs/key-names` makes it from the newest header that Debian has.
 pub const KEY_NAMES: &str = "\
-    0\n1\n102nd\n10channelsdown\n10channelsup\n2\n3\n3d_mode\n4\n5\n6\n7\n8\n9\na\nab\naddressbook\nagain\n\
-    all_applications\nals_toggle\nalterase\nangle\napostrophe\nappselect\narchive\naspect_ratio\nassistant\n\
-    attendant_off\nattendant_on\nattendant_toggle\naudio\naudio_desc\nautopilot_engage_toggle\naux\nb\nback\n\
-    backslash\nbackspace\nbassboost\nbattery\nblue\nbluetooth\nbookmarks\nbreak\nbrightness_auto\n\
-    brightness_cycle\nbrightness_max\nbrightness_menu\nbrightness_min\nbrightness_toggle\nbrightness_zero\n\
-    brightnessdown\nbrightnessup\nbrl_dot1\nbrl_dot10\nbrl_dot2\nbrl_dot3\nbrl_dot4\nbrl_dot5\nbrl_dot6\n\
-    brl_dot7\nbrl_dot8\nbrl_dot9\nbtn_0\nbtn_1\nbtn_2\nbtn_3\nbtn_4\nbtn_5\nbtn_6\nbtn_7\nbtn_8\nbtn_9\nbtn_a\n\
-    btn_b\nbtn_back\nbtn_base\nbtn_base2\nbtn_base3\nbtn_base4\nbtn_base5\nbtn_base6\nbtn_c\nbtn_dead\n\
-    btn_dpad_down\nbtn_dpad_left\nbtn_dpad_right\nbtn_dpad_up\nbtn_east\nbtn_extra\nbtn_forward\nbtn_gear_down\n\
-    btn_gear_up\nbtn_left\nbtn_middle\nbtn_mode\nbtn_north\nbtn_pinkie\nbtn_right\nbtn_select\nbtn_side\n\
-    btn_south\nbtn_start\nbtn_stylus\nbtn_stylus2\nbtn_stylus3\nbtn_task\nbtn_thumb\nbtn_thumb2\nbtn_thumbl\n\
-    btn_thumbr\nbtn_tl\nbtn_tl2\nbtn_tool_airbrush\nbtn_tool_brush\nbtn_tool_doubletap\nbtn_tool_finger\n\
-    btn_tool_lens\nbtn_tool_mouse\nbtn_tool_pen\nbtn_tool_pencil\nbtn_tool_quadtap\nbtn_tool_quinttap\n\
-    btn_tool_rubber\nbtn_tool_tripletap\nbtn_top\nbtn_top2\nbtn_touch\nbtn_tr\nbtn_tr2\nbtn_trigger\n\
-    btn_trigger_happy1\nbtn_trigger_happy10\nbtn_trigger_happy11\nbtn_trigger_happy12\nbtn_trigger_happy13\n\
-    btn_trigger_happy14\nbtn_trigger_happy15\nbtn_trigger_happy16\nbtn_trigger_happy17\nbtn_trigger_happy18\n\
-    btn_trigger_happy19\nbtn_trigger_happy2\nbtn_trigger_happy20\nbtn_trigger_happy21\nbtn_trigger_happy22\n\
-    btn_trigger_happy23\nbtn_trigger_happy24\nbtn_trigger_happy25\nbtn_trigger_happy26\nbtn_trigger_happy27\n\
-    btn_trigger_happy28\nbtn_trigger_happy29\nbtn_trigger_happy3\nbtn_trigger_happy30\nbtn_trigger_happy31\n\
-    btn_trigger_happy32\nbtn_trigger_happy33\nbtn_trigger_happy34\nbtn_trigger_happy35\nbtn_trigger_happy36\n\
-    btn_trigger_happy37\nbtn_trigger_happy38\nbtn_trigger_happy39\nbtn_trigger_happy4\nbtn_trigger_happy40\n\
-    btn_trigger_happy5\nbtn_trigger_happy6\nbtn_trigger_happy7\nbtn_trigger_happy8\nbtn_trigger_happy9\nbtn_west\n\
-    btn_x\nbtn_y\nbtn_z\nbuttonconfig\nc\ncalc\ncalendar\ncamera\ncamera_down\ncamera_focus\ncamera_left\n\
-    camera_right\ncamera_up\ncamera_zoomin\ncamera_zoomout\ncancel\ncapslock\ncd\nchannel\nchanneldown\n\
-    channelup\nchat\nclear\nclearvu_sonar\nclose\nclosecd\ncoffee\ncomma\ncompose\ncomputer\nconfig\nconnect\n\
-    context_menu\ncontrolpanel\ncopy\ncut\ncyclewindows\nd\ndashboard\ndata\ndatabase\ndel_eol\ndel_eos\n\
-    del_line\ndelete\ndeletefile\ndictate\ndigits\ndirection\ndirectory\ndisplay_off\ndisplaytoggle\ndocuments\n\
-    dollar\ndot\ndown\ndual_range_radar\ndvd\ne\nedit\neditor\nejectcd\nejectclosecd\nemail\nemoji_picker\nend\n\
-    enter\nepg\nequal\nesc\neuro\nexit\nf\nf1\nf10\nf11\nf12\nf13\nf14\nf15\nf16\nf17\nf18\nf19\nf2\nf20\nf21\n\
-    f22\nf23\nf24\nf3\nf4\nf5\nf6\nf7\nf8\nf9\nfastforward\nfastreverse\nfavorites\nfile\nfinance\nfind\nfirst\n\
-    fishing_chart\nfn\nfn_1\nfn_2\nfn_b\nfn_d\nfn_e\nfn_esc\nfn_f\nfn_f1\nfn_f10\nfn_f11\nfn_f12\nfn_f2\nfn_f3\n\
-    fn_f4\nfn_f5\nfn_f6\nfn_f7\nfn_f8\nfn_f9\nfn_right_shift\nfn_s\nforward\nforwardmail\nframeback\n\
+    0\n1\n102nd\n10channelsdown\n10channelsup\n2\n3\n3d_mode\n4\n5\n6\n7\n8\n9\na\nab\naccessibility\n\
+    action_on_selection\naddressbook\nagain\nall_applications\nals_toggle\nalterase\nangle\napostrophe\n\
+    appselect\narchive\naspect_ratio\nassistant\nattendant_off\nattendant_on\nattendant_toggle\naudio\n\
+    audio_desc\nautopilot_engage_toggle\naux\nb\nback\nbackslash\nbackspace\nbassboost\nbattery\nblue\nbluetooth\n\
+    bookmarks\nbreak\nbrightness_auto\nbrightness_cycle\nbrightness_max\nbrightness_menu\nbrightness_min\n\
+    brightness_toggle\nbrightness_zero\nbrightnessdown\nbrightnessup\nbrl_dot1\nbrl_dot10\nbrl_dot2\nbrl_dot3\n\
+    brl_dot4\nbrl_dot5\nbrl_dot6\nbrl_dot7\nbrl_dot8\nbrl_dot9\nbtn_0\nbtn_1\nbtn_2\nbtn_3\nbtn_4\nbtn_5\nbtn_6\n\
+    btn_7\nbtn_8\nbtn_9\nbtn_a\nbtn_b\nbtn_back\nbtn_base\nbtn_base2\nbtn_base3\nbtn_base4\nbtn_base5\nbtn_base6\n\
+    btn_c\nbtn_dead\nbtn_dpad_down\nbtn_dpad_left\nbtn_dpad_right\nbtn_dpad_up\nbtn_east\nbtn_extra\nbtn_forward\n\
+    btn_gear_down\nbtn_gear_up\nbtn_gripl\nbtn_gripl2\nbtn_gripr\nbtn_gripr2\nbtn_left\nbtn_middle\nbtn_mode\n\
+    btn_north\nbtn_pinkie\nbtn_right\nbtn_select\nbtn_side\nbtn_south\nbtn_start\nbtn_stylus\nbtn_stylus2\n\
+    btn_stylus3\nbtn_task\nbtn_thumb\nbtn_thumb2\nbtn_thumbl\nbtn_thumbr\nbtn_tl\nbtn_tl2\nbtn_tool_airbrush\n\
+    btn_tool_brush\nbtn_tool_doubletap\nbtn_tool_finger\nbtn_tool_lens\nbtn_tool_mouse\nbtn_tool_pen\n\
+    btn_tool_pencil\nbtn_tool_quadtap\nbtn_tool_quinttap\nbtn_tool_rubber\nbtn_tool_tripletap\nbtn_top\nbtn_top2\n\
+    btn_touch\nbtn_tr\nbtn_tr2\nbtn_trigger\nbtn_trigger_happy1\nbtn_trigger_happy10\nbtn_trigger_happy11\n\
+    btn_trigger_happy12\nbtn_trigger_happy13\nbtn_trigger_happy14\nbtn_trigger_happy15\nbtn_trigger_happy16\n\
+    btn_trigger_happy17\nbtn_trigger_happy18\nbtn_trigger_happy19\nbtn_trigger_happy2\nbtn_trigger_happy20\n\
+    btn_trigger_happy21\nbtn_trigger_happy22\nbtn_trigger_happy23\nbtn_trigger_happy24\nbtn_trigger_happy25\n\
+    btn_trigger_happy26\nbtn_trigger_happy27\nbtn_trigger_happy28\nbtn_trigger_happy29\nbtn_trigger_happy3\n\
+    btn_trigger_happy30\nbtn_trigger_happy31\nbtn_trigger_happy32\nbtn_trigger_happy33\nbtn_trigger_happy34\n\
+    btn_trigger_happy35\nbtn_trigger_happy36\nbtn_trigger_happy37\nbtn_trigger_happy38\nbtn_trigger_happy39\n\
+    btn_trigger_happy4\nbtn_trigger_happy40\nbtn_trigger_happy5\nbtn_trigger_happy6\nbtn_trigger_happy7\n\
+    btn_trigger_happy8\nbtn_trigger_happy9\nbtn_west\nbtn_x\nbtn_y\nbtn_z\nbuttonconfig\nc\ncalc\ncalendar\n\
+    camera\ncamera_access_disable\ncamera_access_enable\ncamera_access_toggle\ncamera_down\ncamera_focus\n\
+    camera_left\ncamera_right\ncamera_up\ncamera_zoomin\ncamera_zoomout\ncancel\ncapslock\ncd\nchannel\n\
+    channeldown\nchannelup\nchat\nclear\nclearvu_sonar\nclose\nclosecd\ncoffee\ncomma\ncompose\ncomputer\nconfig\n\
+    connect\ncontext_menu\ncontextual_insert\ncontextual_query\ncontrolpanel\ncopy\ncut\ncyclewindows\nd\n\
+    dashboard\ndata\ndatabase\ndel_eol\ndel_eos\ndel_line\ndelete\ndeletefile\ndictate\ndigits\ndirection\n\
+    directory\ndisplay_off\ndisplaytoggle\ndo_not_disturb\ndocuments\ndollar\ndot\ndown\ndual_range_radar\ndvd\n\
+    e\nedit\neditor\nejectcd\nejectclosecd\nemail\nemoji_picker\nend\nenter\nepg\neprivacy_screen_off\n\
+    eprivacy_screen_on\nequal\nesc\neuro\nexit\nf\nf1\nf10\nf11\nf12\nf13\nf14\nf15\nf16\nf17\nf18\nf19\nf2\nf20\n\
+    f21\nf22\nf23\nf24\nf3\nf4\nf5\nf6\nf7\nf8\nf9\nfastforward\nfastreverse\nfavorites\nfile\nfinance\nfind\n\
+    first\nfishing_chart\nfn\nfn_1\nfn_2\nfn_b\nfn_d\nfn_e\nfn_esc\nfn_f\nfn_f1\nfn_f10\nfn_f11\nfn_f12\nfn_f2\n\
+    fn_f3\nfn_f4\nfn_f5\nfn_f6\nfn_f7\nfn_f8\nfn_f9\nfn_right_shift\nfn_s\nforward\nforwardmail\nframeback\n\
     frameforward\nfront\nfull_screen\ng\ngames\ngoto\ngraphicseditor\ngrave\ngreen\nh\nhangeul\nhanguel\n\
     hangup_phone\nhanja\nhelp\nhenkan\nhiragana\nhome\nhomepage\nhp\ni\nimages\ninfo\nins_line\ninsert\niso\nj\n\
     journal\nk\nkatakana\nkatakanahiragana\nkbd_layout_next\nkbd_lcd_menu1\nkbd_lcd_menu2\nkbd_lcd_menu3\n\
@@ -52,9 +58,9 @@ pub const KEY_NAMES: &str = "\
     notification_center\nnumeric_0\nnumeric_1\nnumeric_11\nnumeric_12\nnumeric_2\nnumeric_3\nnumeric_4\n\
     numeric_5\nnumeric_6\nnumeric_7\nnumeric_8\nnumeric_9\nnumeric_a\nnumeric_b\nnumeric_c\nnumeric_d\n\
     numeric_pound\nnumeric_star\nnumlock\no\nok\nonscreen_keyboard\nopen\noption\np\npagedown\npageup\npaste\n\
-    pause\npause_record\npausecd\npc\nphone\npickup_phone\nplay\nplaycd\nplayer\nplaypause\npower\npower2\n\
-    presentation\nprevious\nprevious_element\nprevioussong\nprint\nprivacy_screen_toggle\nprog1\nprog2\nprog3\n\
-    prog4\nprogram\nprops\npvr\nq\nquestion\nr\nradar_overlay\nradio\nrecord\nred\nredo\nrefresh\n\
+    pause\npause_record\npausecd\npc\nperformance\nphone\npickup_phone\nplay\nplaycd\nplayer\nplaypause\npower\n\
+    power2\npresentation\nprevious\nprevious_element\nprevioussong\nprint\nprivacy_screen_toggle\nprog1\nprog2\n\
+    prog3\nprog4\nprogram\nprops\npvr\nq\nquestion\nr\nradar_overlay\nradio\nrecord\nred\nredo\nrefresh\n\
     refresh_rate_toggle\nreply\nreserved\nrestart\nrewind\nrfkill\nright\nright_down\nright_up\nrightalt\n\
     rightbrace\nrightctrl\nrightmeta\nrightshift\nro\nroot_menu\nrotate_display\nrotate_lock_toggle\ns\nsat\n\
     sat2\nsave\nscale\nscreen\nscreenlock\nscreensaver\nscrolldown\nscrolllock\nscrollup\nsearch\nselect\n\

@@ -48,7 +48,7 @@ fn bytes_that_are_never_there(rt: HostRuntime) {
     let alloc = rt.alloc();
     assert!(rt; is_dead_at(alloc, b"ieee1394:ven0000B09Dmo*spec0000B09Dver00000100", 25));
     assert!(rt; is_dead_at(alloc, b"acpi:VQ@*:", 7));
-    assert!(rt; is_dead_at(alloc, b"dmi:*:pvrDefault string:*", 16));
+    assert!(rt; is_dead_at(alloc, b"dmi:bvnDefault string:*", 14));
     assert!(rt;
         is_dead_at(
             alloc,

@@ -8,5 +8,6 @@ returns c = λ e. record {
   mark = sym c.begins_with_mark.ensures ∙ c.if-begins_with_mark.false;
   tab = sym c.begins_with_tab.ensures ∙ c.if-begins_with_tab.false;
   bracket = sym c.holds_bracket.ensures ∙ c.if-holds_bracket.false;
+  short = sym c.is_too_long.ensures ∙ c.if-is_too_long.false;
   judged = ap is_unmatched (sym c.in_ok-judgement.ensures) ∙ sym c.is_unmatched.ensures ∙ false_if _ e;
 }

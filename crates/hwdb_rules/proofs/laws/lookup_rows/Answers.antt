@@ -1,4 +1,4 @@
-use Rattle.hwdb_rules.proofs.ComputedRows.{camera_row, keyboard_row, mouse_row, net_row, sensor_row, usb_row, walk_row, written_row}
+use Rattle.hwdb_rules.proofs.ComputedRows.{battery_row, camera_row, keyboard_row, long_row, mouse_row, net_row, pad_row, sensor_row, tagged_row, usb_row, walk_row, written_row}
 use Rattle.hwdb_rules.proofs.laws.lookup_rows.Goals as goal
 
 pub returns : goal.returns
@@ -10,5 +10,9 @@ returns c = record {
   sensor = sensor_row;
   camera = camera_row;
   net = net_row;
+  pad = pad_row;
+  tagged = tagged_row;
+  battery = battery_row;
   written = written_row;
+  long = long_row;
 }
