@@ -1,13 +1,14 @@
 -- A side of `diff` is of one kind, and has one text of bytes.
-use Rattle.std.proofs.Common.{◌≡◌, ◌==◌, ◌∙◌, ◌∷◌, [], ap, arith, inl, inr, sym, subst, refl, zero, ℕ, Bool, true, false, not, List, length, map, Some}
+use Rattle.std.proofs.Common.{◌≡◌, ◌==◌, ◌∙◌, ◌∷◌, [], ap, arith, inl, inr, sym, subst, refl, ℕ, Bool, true, false, not, List, length, map, Some}
 use Rattle.std.specs.Prelude.{Contains}
+use Rattle.std.proofs.lemmas.List.Elements.{All-head}
 use Rattle.hwdb_spec.specs.CheckedFiles.{StandFor, folder_of}
 use Rattle.hwdb_spec.specs.Folders.{Choice, Source}
 use Rattle.hwdb_spec.specs.Sides.{AreBytesOf, AreSideFiles, HasOwn, HasTexts, IsKind, IsSide, Kind, as_etc}
 use Rattle.hwdb_spec.specs.Sides.Kind.{Database, Empty, Root, Texts}
 use Rattle.hwdb_spec.specs.Status.{IsMade}
 use Rattle.hwdb_spec.specs.Store.{Contents}
-use Rattle.hwdb_spec.specs.System.{AreNamesIn, bytes_at}
+use Rattle.hwdb_spec.specs.System.{AreNamesIn, IsNameIn, bytes_at}
 use Rattle.hwdb_spec.specs.Tree.{Map, map_of_files}
 use Rattle.hwdb_spec.specs.Written.{IsWritten}
 use Rattle.hwdb_tool.specs.OneOutcome.{ListingsGiveOneChoice, ListingsGiveOneReading}
@@ -24,14 +25,14 @@ true_false b one two = let e : true ≡ false = sym one ∙ two in cc
 one_own : (folder : List ℕ) (files : Contents) (a b : Bool) → HasOwn folder files a → HasOwn folder files b → a ≡ b
 one_own folder files a b one two = one.is ∙ same one.names two.names one.in_folder two.in_folder ∙ sym two.is
   where
-    none : (name : List ℕ) → Contains {List ℕ} [] name → ⊥
+    none : (name : List ℕ) → Contains [] name → ⊥
     none name among = let lt = among.1 in omega (arith, lt)
 
     same : (xs ys : List (List ℕ)) → AreNamesIn folder files xs → AreNamesIn folder files ys → not (length xs == 0) ≡ not (length ys == 0)
     same [] [] x y = refl
     same (n ∷ xs) (m ∷ ys) x y = refl
-    same [] (m ∷ ys) x y = absurd (none m (x.all m y.each zero m (omega arith)))
-    same (n ∷ xs) [] x y = absurd (none n (y.all n x.each zero n (omega arith)))
+    same [] (m ∷ ys) x y = absurd (none m (x.all m All-head (IsNameIn folder files) m ys y.each))
+    same (n ∷ xs) [] x y = absurd (none n (y.all n All-head (IsNameIn folder files) n xs x.each))
 
 module _ (choices : ListingsGiveOneChoice) where
   one_texts : (root : List ℕ) (files : Contents) (a b : Bool) → HasTexts root files a → HasTexts root files b → a ≡ b
@@ -55,18 +56,18 @@ module _ (choices : ListingsGiveOneChoice) where
   one_kind path files Texts Database (inr one) two = true_false _ two.0 one.0
   one_kind path files Texts Texts one two = refl
   one_kind path files Texts Root (inl one) two = true_false _ one.0 two.0
-  one_kind path files Texts Root (inr one) two = root_texts (folder_of path) files two.1 one.1.0
+  one_kind path files Texts Root (inr one) two = root_texts (folder_of path) files two.1 one.1
   one_kind path files Texts Empty (inl one) two = true_false _ one.0 two.0
-  one_kind path files Texts Empty (inr one) two = own_texts (folder_of path) files one.1.1 two.1.1
+  one_kind path files Texts Empty (inr one) two = own_texts (folder_of path) files one.2 two.2
   one_kind path files Root Database one two = true_false _ two.0 one.0
   one_kind path files Root Texts one (inl two) = true_false _ two.0 one.0
-  one_kind path files Root Texts one (inr two) = root_texts (folder_of path) files one.1 two.1.0
+  one_kind path files Root Texts one (inr two) = root_texts (folder_of path) files one.1 two.1
   one_kind path files Root Root one two = refl
-  one_kind path files Root Empty one two = root_texts (folder_of path) files one.1 two.1.0
+  one_kind path files Root Empty one two = root_texts (folder_of path) files one.1 two.1
   one_kind path files Empty Database one two = true_false _ two.0 one.0
   one_kind path files Empty Texts one (inl two) = true_false _ two.0 one.0
-  one_kind path files Empty Texts one (inr two) = own_texts (folder_of path) files two.1.1 one.1.1
-  one_kind path files Empty Root one two = root_texts (folder_of path) files two.1 one.1.0
+  one_kind path files Empty Texts one (inr two) = own_texts (folder_of path) files two.2 one.2
+  one_kind path files Empty Root one two = root_texts (folder_of path) files two.1 one.1
   one_kind path files Empty Empty one two = refl
 
 module _ (form : (m : Map) (a b : List ℕ) → IsWritten m a → IsWritten m b → a ≡ b) (choices : ListingsGiveOneChoice) (readings : ListingsGiveOneReading) (same_files : OneSideFiles) where

@@ -184,6 +184,13 @@ fn refused_folder(alloc: Global, path: &str) -> Refusal
     }
 }
 
+/// Whether a folder has no text files.
+fn no_names(names: &[String]) -> bool
+    ensures { result ≡ (length names.now == 0) }
+{
+    names.is_empty()
+}
+
 /// The bytes of a folder that is no root, of which the text files have these names.
 fn own_texts<D: System>(
     alloc: Global,
@@ -201,10 +208,11 @@ fn own_texts<D: System>(
         → IfErr result (IsSideError (D.System.may_fail system.now)
         (D.Store.seen system.now) path.now) }
 {
-    if names.is_empty() {
-        return Err(refused_folder(alloc, path));
+    if no_names(names) {
+        Err(refused_folder(alloc, path))
+    } else {
+        named_texts(alloc, path, names, system)
     }
-    named_texts(alloc, path, names, system)
 }
 
 /// The bytes of a text file.
