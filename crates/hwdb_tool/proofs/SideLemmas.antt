@@ -31,8 +31,8 @@ one_own folder files a b one two = one.is ∙ same one.names two.names one.in_fo
     same : (xs ys : List (List ℕ)) → AreNamesIn folder files xs → AreNamesIn folder files ys → not (length xs == 0) ≡ not (length ys == 0)
     same [] [] x y = refl
     same (n ∷ xs) (m ∷ ys) x y = refl
-    same [] (m ∷ ys) x y = absurd (none m (x.all m All-head (IsNameIn folder files) m ys y.each))
-    same (n ∷ xs) [] x y = absurd (none n (y.all n All-head (IsNameIn folder files) n xs x.each))
+    same [] (m ∷ ys) x y = absurd (none m (x.all m (All-head (IsNameIn folder files) m ys y.each)))
+    same (n ∷ xs) [] x y = absurd (none n (y.all n (All-head (IsNameIn folder files) n xs x.each)))
 
 module _ (choices : ListingsGiveOneChoice) where
   one_texts : (root : List ℕ) (files : Contents) (a b : Bool) → HasTexts root files a → HasTexts root files b → a ≡ b
