@@ -1,5 +1,5 @@
 -- A side of `diff` is of one kind, and has one text of bytes.
-use Rattle.std.proofs.Common.{◌≡◌, ◌==◌, ◌∙◌, ◌∷◌, [], ap, arith, inl, inr, sym, subst, refl, ℕ, Bool, true, false, not, List, length, map, Some}
+use Rattle.std.proofs.Common.{◌≡◌, ◌==◌, ◌<◌, ◌∙◌, ◌∷◌, [], ap, arith, eqb-true, inl, inr, sym, subst, refl, ℕ, Bool, true, false, not, List, length, map, Some}
 use Rattle.std.specs.Prelude.{Contains}
 use Rattle.std.proofs.lemmas.List.Elements.{All-head}
 use Rattle.hwdb_spec.specs.CheckedFiles.{StandFor, folder_of}
@@ -21,6 +21,12 @@ OneSideFiles = (path : List ℕ) (files : Contents) (xs ys : List Source) → Ar
 true_false : {X : Type 0} (b : Bool) → b ≡ true → b ≡ false → X
 true_false b one two = let e : true ≡ false = sym one ∙ two in cc
 
+some : (n : ℕ) → 0 < n → not (n == 0) ≡ true
+some n more = elim (n == 0) as (λ b. (n == 0) ≡ b → not b ≡ true) [
+  | true ↦ λ e. absurd (let z = eqb-true n 0 e in omega (arith, z, more))
+  | false ↦ λ e. refl
+] refl
+
 -- whether a folder has text files of its own is one answer
 one_own : (folder : List ℕ) (files : Contents) (a b : Bool) → HasOwn folder files a → HasOwn folder files b → a ≡ b
 one_own folder files a b one two = one.is ∙ same one.names two.names one.in_folder two.in_folder ∙ sym two.is
@@ -30,7 +36,7 @@ one_own folder files a b one two = one.is ∙ same one.names two.names one.in_fo
 
     same : (xs ys : List (List ℕ)) → AreNamesIn folder files xs → AreNamesIn folder files ys → not (length xs == 0) ≡ not (length ys == 0)
     same [] [] x y = refl
-    same (n ∷ xs) (m ∷ ys) x y = refl
+    same (n ∷ xs) (m ∷ ys) x y = some (length (n ∷ xs)) (omega arith) ∙ sym (some (length (m ∷ ys)) (omega arith))
     same [] (m ∷ ys) x y = absurd (none m (x.all m (All-head (IsNameIn folder files) m ys y.each)))
     same (n ∷ xs) [] x y = absurd (none n (y.all n (All-head (IsNameIn folder files) n xs x.each)))
 
