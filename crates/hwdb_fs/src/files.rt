@@ -6,6 +6,7 @@ ghost use Rattle.hwdb_fs.specs.Internal.{IsOfName};
 ghost use Rattle.hwdb_fs.specs.Raw.{IsMisnamedAt};
 ghost use Rattle.hwdb_spec.specs.Refusals.{IsUnlisted};
 
+use crate::folders::{Selection, selected};
 use crate::identity::Identity;
 use crate::ignored::{ignored_in, text_folder};
 use crate::new_folders::make_folders;
@@ -18,6 +19,7 @@ use crate::rooted::Rooted;
 use crate::roots::Root;
 use crate::system::System;
 use crate::text_folders::TextFolders;
+use crate::texts_below::TextsBelow;
 use hwdb_io::{Cause, after_failure, write_on};
 use hwdb_print::ToolError;
 use hwdb_replace::{CallFailed, DATABASE_MODE, PART_MODE, Store};
@@ -106,6 +108,13 @@ where
             failed: 0,
             cause: None,
         }
+    }
+
+    /// The same files, as they are seen below a root.
+    fn below(&self, root: &str) -> Result<SystemStore<'a, R>, AllocError> {
+        let mut below = SystemStore::new(self.alloc, self.rt);
+        below.root = Root::below(self.alloc, root)?;
+        Ok(below)
     }
 
     /// What the file system answers.
@@ -378,6 +387,16 @@ where
     fn ignored_names(&self, alloc: Global, root: &str, usr: bool) -> Result<Vec<Vec<u8>>, Refusal> {
         let folder = text_folder(alloc, root, usr)?;
         ignored_in(alloc, &self.files(), folder.as_str())
+    }
+}
+
+impl<'a, R: Files> TextsBelow for SystemStore<'a, R>
+where
+    R::File: Drop + Lockable,
+{
+    fn selected_below(&self, alloc: Global, root: &str) -> Result<Selection, Refusal> {
+        let below = self.below(root)?;
+        selected(alloc, root, &below)
     }
 }
 

@@ -9,6 +9,7 @@
 //! | `files` | files and folders: the file system that the runtime reaches |
 //! | `raw` | what a file system answers to what reading asks; `reads`: what is made of these answers; `read_laws`: laws of that; `one_file`: answers for tests |
 //! | `text_folders` | what else is in the folders of text files, as it is asked for; `ignored`: of a file system |
+//! | `texts_below` | the text files of a folder that is read as a root |
 //! | `identity` | what tells a file from one that replaced it |
 //! | `devices` | the file system as it is asked for devices |
 //! | `overlay` | a file system with another database in its place |
@@ -41,6 +42,7 @@ mod rooted;
 mod roots;
 mod system;
 mod text_folders;
+mod texts_below;
 
 pub use files::{SystemStore, joined, path_in};
 pub use folders::{Selection, selected, with_texts};
@@ -59,3 +61,4 @@ pub use refusals::{refuse_for, refuse_memory, remedy};
 pub use rooted::Rooted;
 pub use system::System;
 pub use text_folders::TextFolders;
+pub use texts_below::TextsBelow;

@@ -8,10 +8,12 @@ ghost use Rattle.hwdb_fs.specs.Internal.{IsMisnamed, IsNamedBy, IsOfName, IsPush
 ghost use Rattle.hwdb_spec.specs.Refusals.{HasReason, IsUnlisted, IsUnread, IsUnreadAt, IsUnreadable};
 
 use crate::files::text_of;
+use crate::folders::{Selection, selected};
 use crate::ignored::{is_ignored, text_folder};
 use crate::rooted::Rooted;
 use crate::system::System;
 use crate::text_folders::TextFolders;
+use crate::texts_below::TextsBelow;
 use hwdb_io::{Cause, MAX_BYTES};
 use hwdb_print::ToolError;
 use hwdb_replace::memory::state_of;
@@ -221,6 +223,13 @@ impl TextFolders for Memory {
     fn ignored_names(&self, alloc: Global, root: &str, usr: bool) -> Result<Vec<Vec<u8>>, Refusal> {
         let folder = text_folder(alloc, root, usr)?;
         Ok(ignored_after(alloc, &self.steps, folder.as_str())?)
+    }
+}
+
+// It has no links.
+impl TextsBelow for Memory {
+    fn selected_below(&self, alloc: Global, root: &str) -> Result<Selection, Refusal> {
+        selected(alloc, root, self)
     }
 }
 

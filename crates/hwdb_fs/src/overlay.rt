@@ -9,10 +9,12 @@ ghost use Rattle.hwdb_spec.specs.Texts.{max_file};
 ghost use Rattle.hwdb_spec.specs.declared.refusals.Refusal.TheVariants.{Plain};
 ghost use Rattle.hwdb_spec.specs.declared.errors.ToolError.TheVariants.{Memory, TooLong};
 
+use crate::folders::{Selection, selected};
 use crate::machine::Machine;
 use crate::rooted::Rooted;
 use crate::system::System;
 use crate::text_folders::TextFolders;
+use crate::texts_below::TextsBelow;
 use hwdb_io::{Cause, MAX_BYTES, after_failure};
 use hwdb_print::ToolError;
 use hwdb_replace::{CallFailed, Store};
@@ -231,6 +233,13 @@ impl<'a, D: TextFolders> TextFolders for Overlay<'a, D> {
     // The database isn't in these folders.
     fn ignored_names(&self, alloc: Global, root: &str, usr: bool) -> Result<Vec<Vec<u8>>, Refusal> {
         self.system.ignored_names(alloc, root, usr)
+    }
+}
+
+// No command that answers from text files has sides.
+impl<'a, D: TextFolders> TextsBelow for Overlay<'a, D> {
+    fn selected_below(&self, alloc: Global, root: &str) -> Result<Selection, Refusal> {
+        selected(alloc, root, self)
     }
 }
 

@@ -2,11 +2,11 @@
 ghost use Rattle.std.specs.Prelude.{◌≡◌, IfErr};
 ghost use Rattle.hwdb_spec.specs.Refusals.{HasReason, IsUnentered};
 
-use crate::text_folders::TextFolders;
+use crate::texts_below::TextsBelow;
 use hwdb_spec::Refusal;
 
 /// A [`System`](crate::System) that may go below a root.
-pub trait Rooted: TextFolders {
+pub trait Rooted: TextsBelow {
     /// Goes below a root. The paths of folders and databases, and those of the store, all begin with it from now on. They
     /// lead on inside it, as if it were `/`, whatever links are on the way. Changes no file. Refuses what is no folder.
     fn enter(&mut self, root: &str) -> Result<(), Refusal>

@@ -1,5 +1,5 @@
 //! Where a path below a root leads: each link on the way is followed inside the root, as if the root were `/`.
-ghost use Rattle.std.specs.Prelude.{◌≡◌, ◌<◌, All, false, length, map, string_bytes, IfErr, IfOk, IfSome};
+ghost use Rattle.std.specs.Prelude.{◌≡◌, ◌<◌, ◌==◌, All, None, Some, false, if◌then◌else◌, length, map, option_map, string_bytes, IfErr, IfOk, IfSome};
 ghost use Rattle.hwdb_spec.specs.Lines.{has};
 ghost use Rattle.hwdb_spec.specs.Refusals.{IsUnentered};
 ghost use Rattle.hwdb_fs.specs.Roots.{IsBelow, IsName, below};
@@ -8,7 +8,7 @@ use crate::place::Place;
 use hwdb_io::Cause;
 use hwdb_spec::Refusal;
 use hwdb_sysfs::{LINK_LOOP, NO_FOLDER};
-use std::alloc::Global;
+use std::alloc::{AllocError, Global};
 use std::path::PathBuf;
 use std::rt::Files;
 use std::{fs, io};
@@ -128,6 +128,18 @@ impl Root {
             folder: String::new(alloc),
             place: String::new(alloc),
         }
+    }
+
+    /// This root, of which the caller knows that it is a folder; an empty one is none.
+    pub fn below(alloc: Global, root: &str) -> Result<Root, AllocError>
+        ensures { IfOk result (λ r. option_map string_bytes r.root
+            ≡ (if length root.now == 0 then None else Some root.now)) }
+    {
+        let mut below = Root::none(alloc);
+        if !root.is_empty() {
+            below.root = Some(String::from_str(alloc, root)?);
+        }
+        Ok(below)
     }
 
     /// Takes a root; an empty one is none. Refuses what is no folder.

@@ -1,13 +1,16 @@
 -- What a path of `diff` means, which is a side of it: a database, a text file, a folder of text files, or a root. Of text files it is
 -- the database that `update` would write. And the errors of that. Our choice.
-use Rattle.std.specs.Prelude.{◌==◌, ◌∷◌, ◌≡◌, ◌≤◌, ◌⊎◌, Bool, List, Some, [], false, if◌then◌else◌, length, map, not, true, ℕ}
+--
+-- A root is read as `update -r` reads it: what is at a path below it is what that path leads to inside the root. No link leads out of
+-- it. Of a folder of text files a link leads where the system has it lead, as for `check`.
+use Rattle.std.specs.Prelude.{◌++◌, ◌==◌, ◌∷◌, ◌≡◌, ◌≤◌, ◌⊎◌, Bool, List, Some, [], false, codes, if◌then◌else◌, length, map, not, true, ℕ}
 use Rattle.hwdb_spec.specs.CheckedFiles.{AreNamedFiles, StandFor, folder_of, is_file}
 use Rattle.hwdb_spec.specs.Folders.{AreAccepted, Source, choice, counts}
 use Rattle.hwdb_spec.specs.GivenFolders.{AreTooMany, IsUnlistedFolder}
 use Rattle.hwdb_spec.specs.Lines.{byte, has}
 use Rattle.hwdb_spec.specs.Reading.{AreUnread}
 use Rattle.hwdb_spec.specs.Reasons.{IsOfFiles}
-use Rattle.hwdb_spec.specs.Refusals.{IsUnreadAt}
+use Rattle.hwdb_spec.specs.Refusals.{IsInWords, IsUnreadAt}
 use Rattle.hwdb_spec.specs.Status.{IsMade}
 use Rattle.hwdb_spec.specs.StatusErrors.{AreNotMade, IsNotCompiled}
 use Rattle.hwdb_spec.specs.Store.{Contents}
@@ -29,11 +32,12 @@ file_name (b ∷ more) = if has (byte "/") (b ∷ more) then file_name more else
 abbrev pub names_text : (path : List ℕ) → Bool
 names_text path = counts (file_name path)
 
--- what a side is
+-- what a side is; of a folder without text files there is nothing to compare
 pub data Kind : Type 0 where
   Database : Kind
   Texts : Kind
   Root : Kind
+  Empty : Kind
 
 -- whether text files are in one of the folders below a root where `update` looks for them
 pub record HasTexts (root : List ℕ) (contents : Contents) (answer : Bool) : Type 0 where
@@ -43,13 +47,21 @@ pub record HasTexts (root : List ℕ) (contents : Contents) (answer : Bool) : Ty
   pub in_usr : AreNamesIn (usr_files root) contents usr
   pub is : answer ≡ not (length (choice etc usr) == 0)
 
--- A file is a database, but for one with the name of a text file. A folder is a root if it has text files of `update`, else it has
--- text files of its own.
+-- whether text files are in a folder itself
+pub record HasOwn (folder : List ℕ) (contents : Contents) (answer : Bool) : Type 0 where
+  pub names : List (List ℕ)
+  pub in_folder : AreNamesIn folder contents names
+  pub is : answer ≡ not (length names == 0)
+
+-- A file is a database, but for one with the name of a text file. A folder is a root if it has text files of `update`. Else it has
+-- text files of its own, or none.
 abbrev pub IsKind : Kind → (path : List ℕ) → Contents → Type 0
 IsKind Database path contents = (is_file contents path ≡ true) × (names_text path ≡ false)
 IsKind Texts path contents =
-    ((is_file contents path ≡ true) × (names_text path ≡ true)) ⊎ ((is_file contents path ≡ false) × HasTexts (folder_of path) contents false)
+    ((is_file contents path ≡ true) × (names_text path ≡ true))
+    ⊎ ((is_file contents path ≡ false) × HasTexts (folder_of path) contents false × HasOwn (folder_of path) contents true)
 IsKind Root path contents = (is_file contents path ≡ false) × HasTexts (folder_of path) contents true
+IsKind Empty path contents = (is_file contents path ≡ false) × HasTexts (folder_of path) contents false × HasOwn (folder_of path) contents false
 
 -- ---- the bytes of a side
 
@@ -74,6 +86,7 @@ abbrev pub AreBytesOf : Kind → (path : List ℕ) → Contents → (bytes : Lis
 AreBytesOf Database path contents bytes = (bytes_at contents path ≡ Some bytes) × (length bytes ≤ max_file)
 AreBytesOf Texts path contents bytes = AreMadeAt path contents bytes
 AreBytesOf Root path contents bytes = (of_etc of_usr : List Source) × IsMade (folder_of path) contents of_etc of_usr bytes
+AreBytesOf Empty path contents bytes = ⊥
 
 -- the bytes of the side at a path
 pub record IsSide (path : List ℕ) (contents : Contents) (bytes : List ℕ) : Type 0 where
@@ -82,6 +95,12 @@ pub record IsSide (path : List ℕ) (contents : Contents) (bytes : List ℕ) : T
   pub are : AreBytesOf kind path contents bytes
 
 -- ---- errors
+-- the words of a folder that is no side: it has no text files, where they were looked for, and what may be named in place of it
+abbrev pub no_texts_text : (path : List ℕ) → List ℕ
+no_texts_text path =
+    (codes "cannot read " ++ path)
+    ++ codes ": no text file is in it, nor in its etc/udev/hwdb.d or usr/lib/udev/hwdb.d: name a folder that has one, a text file or a database"
+
 -- What an error says of a folder that is listed, and of a file that is read, is a parameter.
 module _ (OfListing OfReading : Refusal → Type 0) where
   -- a folder has too many text files, or the first that can't be read gives the error, or they can't be compiled
@@ -97,9 +116,10 @@ module _ (OfListing OfReading : Refusal → Type 0) where
       ((is_file contents path ≡ false) × AreUnread (folder_of path) contents refusal × OfListing refusal)
       ⊎ (IsKind Root path contents × AreNotMade (folder_of path) contents refusal)
 
-  -- a side can't be had: what is in a folder isn't known, or by its kind
+  -- a side can't be had: what is in a folder isn't known, or by its kind; of a folder without text files it never can
   abbrev pub IsSideRefused : (path : List ℕ) → Contents → Refusal → Type 0
   IsSideRefused path contents refusal =
       (IsUnlistedFolder contents (folder_of path) refusal × OfListing refusal)
       ⊎ ((IsKind Database path contents × IsUnreadAt contents path refusal × OfReading refusal)
-      ⊎ ((IsKind Texts path contents × AreNotMadeAt path contents refusal) ⊎ IsRootUnmade path contents refusal))
+      ⊎ ((IsKind Texts path contents × AreNotMadeAt path contents refusal)
+      ⊎ (IsRootUnmade path contents refusal ⊎ (IsKind Empty path contents × IsInWords (no_texts_text path) refusal))))

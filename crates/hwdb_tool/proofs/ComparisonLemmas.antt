@@ -27,8 +27,9 @@ module _ (Lists Reads : Refusal → Type 0) (contents : Contents) (r : Refusal) 
   any_side path (inl un) = inl (un.0, tt)
   any_side path (inr (inl db)) = inr (inl (db.0, db.1, tt))
   any_side path (inr (inr (inl texts))) = inr (inr (inl (texts.0, any_texts path texts.1)))
-  any_side path (inr (inr (inr (inl root)))) = inr (inr (inr (inl (root.0, root.1, tt))))
-  any_side path (inr (inr (inr (inr root)))) = inr (inr (inr (inr root)))
+  any_side path (inr (inr (inr (inl (inl root))))) = inr (inr (inr (inl (inl (root.0, root.1, tt)))))
+  any_side path (inr (inr (inr (inl (inr root))))) = inr (inr (inr (inl (inr root))))
+  any_side path (inr (inr (inr (inr empty)))) = inr (inr (inr (inr empty)))
 
   any_pair : (old_path new_path : List ℕ) → IsPairRefused Lists Reads old_path new_path contents r → IsPairRefused IsAny IsAny old_path new_path contents r
   any_pair old_path new_path (inl old) = inl (any_side old_path old)

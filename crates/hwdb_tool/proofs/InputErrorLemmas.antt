@@ -20,8 +20,8 @@ use Rattle.hwdb_spec.specs.declared.errors.DiffError.TheVariants as differing
 use Rattle.hwdb_spec.specs.declared.errors.ToolError.{ToolError}
 use Rattle.hwdb_spec.specs.declared.errors.ToolError.TheVariants.{Read, Write, TooLong, TooManyFiles, TooManyLines, TooLarge, BadPosition, BadDatabase, Replace, Memory}
 use Rattle.hwdb_spec.specs.Reading.{AreUnread}
-use Rattle.hwdb_spec.specs.Refusals.{HasReason, IsAt, IsOfDatabase, IsOver, IsUnlisted, IsUnread, IsUnreadAt, IsUnreadable}
-use Rattle.hwdb_spec.specs.Sides.{AreNotMadeAt, IsSideRefused}
+use Rattle.hwdb_spec.specs.Refusals.{HasReason, IsAt, IsInWords, IsOfDatabase, IsOver, IsUnlisted, IsUnread, IsUnreadAt, IsUnreadable}
+use Rattle.hwdb_spec.specs.Sides.{AreNotMadeAt, IsSideRefused, no_texts_text}
 use Rattle.hwdb_spec.specs.Errors.{refusal_of_compile}
 use Rattle.hwdb_spec.specs.declared.refusals.Refusal.{Refusal}
 use Rattle.hwdb_spec.specs.declared.refusals.Refusal.TheVariants.{At, InWords, NoDatabase, Plain}
@@ -363,8 +363,15 @@ module _ (old_path new_path : List ℕ) (files : Contents) (e : ToolError) (word
         by (inl many) = absurd (over_plain e TooManyFiles words r many.0 over)
         by (inr (inl read)) = stand_below files path read.0 words read.1 (first_path read.0 r read.3 over)
         by (inr (inr not)) = absurd (over_plain e (refusal_of_compile not.2.0) words r not.2.1 over)
-    side_path path r (inr (inr (inr (inl root)))) over = root_path path r root.1 over
-    side_path path r (inr (inr (inr (inr root)))) over = absurd (over_plain e (refusal_of_compile root.1.refused.0) words r root.1.refused.1 over)
+    side_path path r (inr (inr (inr (inl (inl root))))) over = root_path path r root.1 over
+    side_path path r (inr (inr (inr (inl (inr root))))) over = absurd (over_plain e (refusal_of_compile root.1.refused.0) words r root.1.refused.1 over)
+    side_path path r (inr (inr (inr (inr empty)))) over = absurd (no_path r empty.1 over)
+      where
+        no_path : (q : Refusal) → IsInWords (no_texts_text path) q → IsOver e words q → ⊥
+        no_path (InWords text) in_words over = over
+        no_path (Plain x) in_words over = over
+        no_path NoDatabase in_words over = over
+        no_path (At x at cause) in_words over = in_words
 
     pair_path : (r : Refusal) → IsPairRefused Lists Reads old_path new_path files r → IsOver e words r → IsOfSide old_path words ⊎ IsOfSide new_path words
     pair_path r (inl old) over = inl (side_path old_path r old over)

@@ -1,7 +1,7 @@
 -- Errors of a side of `diff`: each comes alone.
-use Rattle.std.proofs.Common.{◌≡◌, ◌==◌, ◌<◌, ◌≤◌, ◌⊎◌, ◌∙◌, ◌++◌, ◌∷◌, [], append_assoc, append-nil, inl, inr, ⊎_elim, ap, arith, eqb-true, sym, subst, refl, ℕ, zero, suc, Bool, true, false, not, List, length, map, Some}
+use Rattle.std.proofs.Common.{◌≡◌, ◌==◌, ◌<◌, ◌≤◌, ◌⊎◌, ◌∙◌, ◌++◌, ◌∷◌, [], Global, append_assoc, append-nil, inl, inr, ⊎_elim, ap, arith, eqb-true, sym, subst, refl, ℕ, zero, suc, Bool, true, false, not, List, length, map, Some}
 use Rattle.std.proofs.lemmas.List.{length-map}
-use Rattle.std.specs.Prelude.{Contains, codes}
+use Rattle.std.specs.Prelude.{Contains, Vec, codes}
 use Rattle.hwdb_spec.specs.CheckedFiles.{AreGivenFiles, StandFor, StandsFor, files_in, folder_of, is_file}
 use Rattle.hwdb_spec.specs.CompileErrors.{IsRefusal}
 use Rattle.hwdb_spec.specs.Errors.{refusal_of_compile}
@@ -10,9 +10,9 @@ use Rattle.hwdb_spec.specs.Folders.{Choice, Source, choice, max_files, names}
 use Rattle.hwdb_spec.specs.Given.{any_dash}
 use Rattle.hwdb_spec.specs.GivenFolders.{IsUnlistedFolder}
 use Rattle.hwdb_spec.specs.Reasons.{IsInputRead}
-use Rattle.hwdb_spec.specs.Refusals.{HasReason, IsUnreadable}
-use Rattle.hwdb_spec.specs.Sides.{AreBytesOf, AreNotMadeAt, AreSideFiles, HasTexts, IsKind, IsSide, IsSideRefused, Kind, as_etc}
-use Rattle.hwdb_spec.specs.Sides.Kind.{Database, Root, Texts}
+use Rattle.hwdb_spec.specs.Refusals.{HasReason, IsInWords, IsUnreadable}
+use Rattle.hwdb_spec.specs.Sides.{AreBytesOf, AreNotMadeAt, AreSideFiles, HasTexts, IsKind, IsSide, IsSideRefused, Kind, as_etc, no_texts_text}
+use Rattle.hwdb_spec.specs.Sides.Kind.{Database, Empty, Root, Texts}
 use Rattle.hwdb_spec.specs.Store.{Contents, path_in}
 use Rattle.hwdb_spec.specs.System.{AreNamesIn, bytes_at}
 use Rattle.hwdb_spec.specs.Texts.{max_file}
@@ -92,6 +92,7 @@ abbrev pub UnsidedOf : Kind → (path : List ℕ) → Contents → Refusal → T
 UnsidedOf Database path files r = IsUnreadOne files path r
 UnsidedOf Texts path files r = UnmadeAt path files r
 UnsidedOf Root path files r = Undated (folder_of path) files r
+UnsidedOf Empty path files r = (said : Vec ℕ Global) × (r ≡ InWords said) × (said.items ≡ no_texts_text path)
 
 pub record Unsided (path : List ℕ) (files : Contents) (r : Refusal) : Type 0 where
   pub kind : Kind
@@ -166,14 +167,20 @@ module _ (path : List ℕ) (files : Contents) (fails : List ℕ → Type 0) (nev
     ))
     unmade (inr (inr not)) = inr (inr (not.0, not.1, too_much (map as_etc not.0) [] r of not.2.0 not.2.1 not.2.2))
 
+    no_texts : (q : Refusal) → IsOfWhatIsRead q → IsInWords (no_texts_text path) q → UnsidedOf Empty path files q
+    no_texts (InWords said) of words = (said, refl, words)
+    no_texts (Plain e) of words = absurd (subst (λ x. IsOfWhatIsRead (Plain x)) words of)
+    no_texts (At e at cause) of words = absurd words
+    no_texts NoDatabase of words = absurd words
+
     pub unsided : IsSideRefused Lists Reads path files r → Unsided path files r
     unsided (inl un) = absurd (own_unlisted r un.0 un.1 of listing)
     unsided (inr (inl db)) = record { kind = Database; is = db.0; why = unread_given fails ⊥ files path (never path (inl refl)) r db.1 db.2 of }
     unsided (inr (inr (inl texts))) = record { kind = Texts; is = texts.0; why = unmade texts.1 }
-    unsided (inr (inr (inr (inl root)))) =
+    unsided (inr (inr (inr (inl (inl root))))) =
         let why = unchosen (folder_of path) files fails ⊥ folders r root.1 root.2 of (λ l. listing (inr l)) in
         record { kind = Root; is = (root.0, some_texts (folder_of path) files r why); why = inl why }
-    unsided (inr (inr (inr (inr root)))) = record {
+    unsided (inr (inr (inr (inl (inr root))))) = record {
       kind = Root;
       is = root.0;
       why = inr record {
@@ -185,6 +192,7 @@ module _ (path : List ℕ) (files : Contents) (fails : List ℕ → Type 0) (nev
         much = too_much root.1.of_etc root.1.of_usr r of root.1.refused.0 root.1.refused.1 root.1.refused.2;
       };
     }
+    unsided (inr (inr (inr (inr empty)))) = record { kind = Empty; is = empty.0; why = no_texts r of empty.1 }
 
 -- ---- one comes alone
 own_reading : (etc : List Source) → IsOneReading etc [] etc []
@@ -220,6 +228,9 @@ module _ (choices : ListingsGiveOneChoice) (readings : ListingsGiveOneReading) (
   kind_kind r r2 Database one two = unread_one files path r r2 one two
   kind_kind r r2 Texts one two = unmade_unmade r r2 one two
   kind_kind r r2 Root one two = update_update choices readings (folder_of path) files r r2 one two
+  kind_kind r r2 Empty one two =
+      let same : IsOneError (InWords one.0) (InWords two.0) = inl (one.2 ∙ sym two.2) in
+      subst (λ x. IsOneError x r2) (sym one.1) (subst (λ x. IsOneError (InWords one.0) x) (sym two.1) same)
 
   pub side_side : (r r2 : Refusal) → Unsided path files r → Unsided path files r2 → IsOneError r r2
   side_side r r2 one two =
@@ -242,6 +253,7 @@ module _ (choices : ListingsGiveOneChoice) (readings : ListingsGiveOneReading) (
   kind_done bytes r Texts made (inr (inl un)) = ungiven_files r un made.sources made.are
   kind_done bytes r Texts made (inr (inr un)) =
       much_made bytes r made (subst (λ (l : List Source). AreTooMuch (map as_etc l) [] r) (one_side_files un.0 made.sources un.1 made.are) un.2)
+  kind_done bytes r Empty made un = absurd made
   kind_done bytes r Root made un =
       made_or_undated choices readings (folder_of path) files form made.0 made.1 bytes made.2.in_etc made.2.in_usr made.2.read made.2.accepted made.2.written made.2.within r un
 

@@ -7,13 +7,13 @@ use Rattle.hwdb_spec.specs.Folders.{Choice, Source, choice, max_files, names}
 use Rattle.hwdb_spec.specs.Given.{is_dash}
 use Rattle.hwdb_spec.specs.Lines.{byte, has}
 use Rattle.hwdb_spec.specs.Selected.{AreSelected}
-use Rattle.hwdb_spec.specs.Sides.{AreMadeAt, AreSideFiles, HasTexts, IsKind, IsSide, as_etc, file_name, names_text}
+use Rattle.hwdb_spec.specs.Sides.{AreMadeAt, AreSideFiles, HasOwn, HasTexts, IsKind, IsSide, as_etc, file_name, names_text, no_texts_text}
 use Rattle.hwdb_spec.specs.Sides.Kind.{Database, Texts}
 use Rattle.hwdb_spec.specs.Status.{IsMade}
 use Rattle.hwdb_spec.specs.StatusErrors.{AreNotMade}
 use Rattle.hwdb_spec.specs.Store.{Contents}
 use Rattle.hwdb_spec.specs.System.{AreNamesIn, bytes_at}
-use Rattle.hwdb_spec.specs.Refusals.{HasReason, IsUnreadAt, IsUnreadable}
+use Rattle.hwdb_spec.specs.Refusals.{HasReason, IsInWords, IsUnreadAt, IsUnreadable}
 use Rattle.hwdb_spec.specs.Texts.{max_file}
 use Rattle.hwdb_spec.specs.declared.refusals.Refusal.{Refusal}
 use Rattle.hwdb_spec.specs.declared.refusals.Refusal.TheVariants.{Plain}
@@ -101,18 +101,25 @@ texts_memory fails files path paths stand = inr (inl (paths, stand, inl refl, tt
 
 -- ---- a folder
 module _ (files : Contents) (path : List ℕ) (found : List (List ℕ)) (folder : IsFolderOf path files found) where
-  pub own_kind : HasTexts (folder_of path) files false → IsKind Texts path files
-  own_kind none = inr (folder.none, none)
+  pub own_kind : HasTexts (folder_of path) files false → HasOwn (folder_of path) files true → IsKind Texts path files
+  own_kind none own = inr (folder.none, none, own)
+
+  -- or it has none
+  pub own_names : (b : Bool) → (length found == 0) ≡ b → HasOwn (folder_of path) files (not b)
+  own_names b is = record { names = found; in_folder = folder.in_folder; is = ap not (sym is) }
+
+  pub empty_error : (fails : List ℕ → Type 0) (r : Refusal) → HasTexts (folder_of path) files false → (length found == 0) ≡ true → IsInWords (no_texts_text path) r → IsSideError fails files path r
+  empty_error fails r none is words = inr (inr (inr (inr ((folder.none, none, own_names true is), words))))
 
   -- its text files
   pub folder_stands : (paths : List (List ℕ)) → paths ≡ files_in path found → length (names found []) ≤ max_files → StandFor files (path ∷ []) paths
   folder_stands paths is few = stand_alone false files path paths folder.none (found, folder.in_folder, few, is)
 
   -- or why there are none
-  pub folder_error : (fails : List ℕ → Type 0) (r : Refusal) → HasTexts (folder_of path) files false
+  pub folder_error : (fails : List ℕ → Type 0) (r : Refusal) → HasTexts (folder_of path) files false → HasOwn (folder_of path) files true
       → (r ≡ Plain Memory) ⊎ ((r ≡ Plain TooManyFiles) × (max_files < length (names found []))) → IsSideError fails files path r
-  folder_error fails r none (inl memory) = side_memory fails files path r memory
-  folder_error fails r none (inr many) = inr (inr (inl (own_kind none, inl (many.0, folder.none, (found, folder.in_folder, many.1)))))
+  folder_error fails r none own (inl memory) = side_memory fails files path r memory
+  folder_error fails r none own (inr many) = inr (inr (inl (own_kind none own, inl (many.0, folder.none, (found, folder.in_folder, many.1)))))
 
 -- ---- a root
 pub texts_of : (root : List ℕ) (files : Contents) (usr : List (List ℕ)) (chosen : List Choice) (texts : List (List ℕ)) (b : Bool) → AreSelected root files usr chosen texts

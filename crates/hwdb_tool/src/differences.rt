@@ -16,7 +16,7 @@ use crate::answer::Answer;
 use crate::checks::{read_given, with_paths};
 use crate::given::input_text;
 use crate::sides::side;
-use hwdb_fs::{Refusal, System};
+use hwdb_fs::{Refusal, TextsBelow};
 use hwdb_inspect::{Changes, DiffError, diff_devices, stat, stat_devices};
 use hwdb_io::Source;
 use hwdb_lint::TextFile;
@@ -29,7 +29,7 @@ use std::alloc::{AllocError, Global};
 /// left. If `stat` it is how many assignments came, went and changed. The status is 1 if something changed, else 0.
 ///
 /// All files of devices are read first, in their order, and then the old side and the new one: the error is the first that comes so.
-pub fn diff<D: System, I: Source>(
+pub fn diff<D: TextsBelow, I: Source>(
     alloc: Global,
     old_path: &str,
     new_path: &str,
@@ -56,7 +56,7 @@ pub fn diff<D: System, I: Source>(
 }
 
 /// The same of files that were read.
-fn compared<D: System>(
+fn compared<D: TextsBelow>(
     alloc: Global,
     old_path: &str,
     new_path: &str,

@@ -7,9 +7,9 @@ ghost use Rattle.hwdb_spec.specs.CheckedFiles.{StandFor, folder_of, is_file};
 ghost use Rattle.hwdb_spec.specs.Folders.{Source};
 ghost use Rattle.hwdb_spec.specs.Given.{is_dash};
 ghost use Rattle.hwdb_spec.specs.Lines.{has};
-ghost use Rattle.hwdb_spec.specs.Refusals.{HasReason, IsUnreadAt, IsUnreadable};
+ghost use Rattle.hwdb_spec.specs.Refusals.{HasReason, IsInWords, IsUnreadAt, IsUnreadable};
 ghost use Rattle.hwdb_spec.specs.Sides;
-ghost use Rattle.hwdb_spec.specs.Sides.{AreMadeAt, HasTexts, IsSide, as_etc, names_text};
+ghost use Rattle.hwdb_spec.specs.Sides.{AreMadeAt, HasOwn, HasTexts, IsSide, as_etc, names_text, no_texts_text};
 ghost use Rattle.hwdb_spec.specs.Status.{IsMade};
 ghost use Rattle.hwdb_spec.specs.StatusErrors.{AreNotMade, IsNotCompiled};
 ghost use Rattle.hwdb_spec.specs.Store.{Contents};
@@ -27,12 +27,16 @@ use crate::given::is_dash;
 use crate::given_folders::{alone, files_in, folder_of};
 use crate::statuses::compiled;
 use hwdb_compile::{SourceFile, compile};
-use hwdb_fs::{Refusal, Selection, System, selected, with_texts};
+use hwdb_fs::{Refusal, Selection, System, TextsBelow, with_texts};
 use hwdb_io::MAX_BYTES;
 use hwdb_lint::TextFile;
 use hwdb_print::ToolError;
 use hwdb_text::{Chosen, counts};
 use std::alloc::{AllocError, Global};
+
+/// What the error of a folder without text files says after its path.
+const NO_TEXTS: &str = ": no text file is in it, nor in its etc/udev/hwdb.d or usr/lib/udev/hwdb.d: \
+    name a folder that has one, a text file or a database";
 
 /// The texts before and after the first slash of a path.
 fn cut(path: &str) -> Option<(&str, &str)>
@@ -137,7 +141,57 @@ fn texts_at<D: System>(
     database_of_texts(alloc, &files)
 }
 
-/// The bytes of a folder without text files of a root, of which the text files have these names.
+/// The bytes of a folder of text files, which is no root and has these names.
+fn named_texts<D: System>(
+    alloc: Global,
+    path: &str,
+    names: &[String],
+    system: &D,
+) -> Result<Vec<u8>, Refusal>
+    ensures side { D.Store.tells
+        → IsFolderOf path.now (D.Store.seen system.now) (map string_bytes names.now)
+        → HasTexts (folder_of path.now) (D.Store.seen system.now) false
+        → HasOwn (folder_of path.now) (D.Store.seen system.now) true
+        → IfOk result (λ bytes. IsSide path.now (D.Store.seen system.now) bytes.items) }
+    ensures refused { D.Store.tells
+        → IsFolderOf path.now (D.Store.seen system.now) (map string_bytes names.now)
+        → HasTexts (folder_of path.now) (D.Store.seen system.now) false
+        → HasOwn (folder_of path.now) (D.Store.seen system.now) true
+        → IfErr result (IsSideError (D.System.may_fail system.now)
+        (D.Store.seen system.now) path.now) }
+{
+    let own = files_in(alloc, path, names)?;
+    texts_at(alloc, path, &own, system)
+}
+
+/// The words of a folder without text files. The only error is `AllocError`.
+fn no_texts(alloc: Global, path: &str) -> Result<Vec<u8>, AllocError>
+    ensures { IfOk result (λ text. text.items ≡ no_texts_text path.now) }
+{
+    let mut text = Vec::from_slice(alloc, b"cannot read ")?;
+    text.extend_from_slice(path.as_bytes())?;
+    text.extend_from_slice(NO_TEXTS.as_bytes())?;
+    Ok(text)
+}
+
+/// The error of it.
+fn refused_folder(alloc: Global, path: &str) -> Refusal
+    ensures { IsInWords (no_texts_text path.now) result }
+{
+    match no_texts(alloc, path) {
+        Ok(text) => Refusal::InWords(text),
+        Err(refused) => Refusal::from(refused),
+    }
+}
+
+/// Whether a folder has no text files.
+fn no_names(names: &[String]) -> bool
+    ensures { result ≡ (length names.now == 0) }
+{
+    names.is_empty()
+}
+
+/// The bytes of a folder that is no root, of which the text files have these names.
 fn own_texts<D: System>(
     alloc: Global,
     path: &str,
@@ -154,8 +208,11 @@ fn own_texts<D: System>(
         → IfErr result (IsSideError (D.System.may_fail system.now)
         (D.Store.seen system.now) path.now) }
 {
-    let own = files_in(alloc, path, names)?;
-    texts_at(alloc, path, &own, system)
+    if no_names(names) {
+        Err(refused_folder(alloc, path))
+    } else {
+        named_texts(alloc, path, names, system)
+    }
 }
 
 /// The bytes of a text file.
@@ -227,7 +284,7 @@ fn are_none(chosen: &[Chosen]) -> bool
 }
 
 /// The bytes of a folder: of a root, if it has text files where `update` looks for them, else of its own text files.
-fn folder_at<D: System>(
+fn folder_at<D: TextsBelow>(
     alloc: Global,
     path: &str,
     names: &[String],
@@ -241,7 +298,7 @@ fn folder_at<D: System>(
         → IfErr result (IsSideError (D.System.may_fail system.now)
         (D.Store.seen system.now) path.now) }
 {
-    let selection = selected(alloc, folder_of(path), system)?;
+    let selection = system.selected_below(alloc, folder_of(path))?;
     if are_none(&selection.chosen) {
         own_texts(alloc, path, names, system)
     } else {
@@ -250,7 +307,7 @@ fn folder_at<D: System>(
 }
 
 /// The bytes of a side that is no `-`.
-fn plain_side<D: System>(alloc: Global, path: &str, system: &D) -> Result<Vec<u8>, Refusal>
+fn plain_side<D: TextsBelow>(alloc: Global, path: &str, system: &D) -> Result<Vec<u8>, Refusal>
     ensures side { D.Store.tells → is_dash path.now ≡ false
         → IfOk result (λ bytes. IsSide path.now (D.Store.seen system.now) bytes.items) }
     ensures refused { D.Store.tells → is_dash path.now ≡ false → IfErr result
@@ -267,7 +324,7 @@ fn plain_side<D: System>(alloc: Global, path: &str, system: &D) -> Result<Vec<u8
 /// folder, or of those of a root. A file is a text file if its name is one of a text file; the file `-` is a database.
 ///
 /// Errors are, in this order: a folder can't be listed, a file can't be read, and text files can't be compiled.
-pub fn side<D: System>(alloc: Global, path: &str, system: &D) -> Result<Vec<u8>, Refusal>
+pub fn side<D: TextsBelow>(alloc: Global, path: &str, system: &D) -> Result<Vec<u8>, Refusal>
     ensures side { D.Store.tells
         → IfOk result (λ bytes. IsSide path.now (D.Store.seen system.now) bytes.items) }
     ensures refused { D.Store.tells → IfErr result

@@ -19,7 +19,7 @@ returns-in_err-selection-clause-refused g c = λ tells folder.
     let r = c.in_err-selection.field-0.0 in
     let unread = subst (λ p. AreUnread p seen r) c.folder_of.ensures (c.in_err-selection.ensures.refused tells) in
     given_error r (IsSideError fails seen c.args.path.now) c.from_residual.result c.from_residual.ensures.1
-    (inr (inr (inr (inl (folder.none, unread, c.in_err-selection.ensures.reason tells)))))
+    (inr (inr (inr (inl (inl (folder.none, unread, c.in_err-selection.ensures.reason tells))))))
 
 pub returns-then-are_none-clause-side : goal.returns-then-are_none-clause-side
 returns-then-are_none-clause-side g c = λ tells folder.
@@ -61,4 +61,4 @@ returns-clause-refused g c = λ tells folder.
     let some : (length (map choice_of s.chosen.items) == 0) ≡ false = ap (λ (n : ℕ). n == 0) (length-map s.chosen.items choice_of) ∙ ap (λ (l : List Chosen). length l == 0) (sym c.deref.ensures.value) ∙ sym c.are_none.ensures ∙ c.if-are_none.false in
     let has : HasTexts root seen true = texts_of root seen (map string_bytes s.listed.items) (map choice_of s.chosen.items) (map (λ t. t.items) s.texts.items) false selected some in
     each_error _ (IsSideError fails seen path) c.root_bytes.result
-    (λ r not. ⊎_elim (λ memory. side_memory fails seen path r memory) (λ un. inr (inr (inr (inr ((folder.none, has), un))))) not) (c.root_bytes.ensures.refused root seen selected)
+    (λ r not. ⊎_elim (λ memory. side_memory fails seen path r memory) (λ un. inr (inr (inr (inl (inr ((folder.none, has), un)))))) not) (c.root_bytes.ensures.refused root seen selected)
