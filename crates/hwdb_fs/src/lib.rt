@@ -9,7 +9,7 @@
 //! | `files` | files and folders: the file system that the runtime reaches |
 //! | `raw` | what a file system answers to what reading asks; `reads`: what is made of these answers; `read_laws`: laws of that; `one_file`: answers for tests |
 //! | `text_folders` | what else is in the folders of text files, as it is asked for; `ignored`: of a file system |
-//! | `identity` | what tells a file from one that replaced it |
+//! | `identity` | what tells a file from one that replaced it; `opened`: a file that was opened, of which parts are read |
 //! | `devices` | the file system as it is asked for devices |
 //! | `overlay` | a file system with another database in its place |
 //! | `parts` | new files of updates: whose they are, and what killed updates left |
@@ -28,6 +28,7 @@ mod left_out;
 mod machine;
 mod memory;
 mod one_file;
+mod opened;
 mod overlay;
 mod parts;
 mod place;
@@ -48,9 +49,10 @@ pub use laws::first_long_file_is_named;
 pub use left_out::{ReadableSelection, name_set, selected_readable};
 pub use machine::Machine;
 pub use one_file::OneFile;
+pub use opened::{OpenedBytes, OpenedFile};
 pub use overlay::Overlay;
 pub use parts::Lockable;
-pub use raw::{Kind, RawFiles, StdFiles, Unread};
+pub use raw::{Kind, RawFiles, StdFiles, StdOpened, Unread};
 pub use read_laws::answers_are_told;
 pub use reads::{database_bytes, is_there, text_bytes};
 pub use refusals::{refuse_for, refuse_memory, remedy};
