@@ -54,7 +54,7 @@ pub use overlay::Overlay;
 pub use parts::Lockable;
 pub use raw::{Kind, RawFiles, StdFiles, StdOpened, Unread};
 pub use read_laws::answers_are_told;
-pub use reads::{database_bytes, is_there, text_bytes};
+pub use reads::{database_bytes, is_there, open_database, text_bytes};
 pub use refusals::{refuse_for, refuse_memory, remedy};
 pub use rooted::Rooted;
 pub use system::System;
