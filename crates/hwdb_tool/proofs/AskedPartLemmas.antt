@@ -35,6 +35,6 @@ usr_asked root etc path contents hidden none at some = go (bytes_at contents etc
     }
 
 -- a file has the bytes of its path, since it was opened there
-pub of_opened : {X : Type 0} {P : X → List ℕ → Type 0} (Is : List ℕ → Type 0) (found : Option (List ℕ)) → ((bytes : List ℕ) × (found ≡ Some bytes) × Is bytes)
+pub of_opened : {X : Type 0} (P : X → List ℕ → Type 0) (Is : List ℕ → Type 0) (found : Option (List ℕ)) → ((bytes : List ℕ) × (found ≡ Some bytes) × Is bytes)
     → (o : Option X) → IfSome o (λ x. (bytes : List ℕ) → Is bytes → P x bytes) → IfSome o (λ x. (bytes : List ℕ) → found ≡ Some bytes → P x bytes)
-of_opened Is found (held, there, is) o h = IfSome_then o h (λ x all bytes e. all bytes (subst Is (same_Some held bytes (sym there ∙ e)) is))
+of_opened P Is found (held, there, is) o h = IfSome_then o h (λ x all bytes e. all bytes (subst Is (same_Some held bytes (sym there ∙ e)) is))
