@@ -10,7 +10,7 @@ use hwdb_sysfs::{DeviceFiles, DeviceNode};
 use std::alloc::Global;
 use std::fs::{self, File};
 use std::io;
-use std::os::unix::fs::{FileTypeExt, MetadataExt};
+use std::os::unix::fs::{FileExt, FileTypeExt, MetadataExt};
 use std::rt::Files;
 use std::str::from_utf8;
 
@@ -99,7 +99,7 @@ where
 
 impl<'a, R: Files> DeviceFiles for SystemStore<'a, R>
 where
-    R::File: Drop + Lockable,
+    R::File: Drop + FileExt + Lockable,
 {
     ghost tells = { ⊥ };
 

@@ -11,9 +11,9 @@ use crate::identity::Identity;
 use crate::ignored::{ignored_in, text_folder};
 use crate::new_folders::make_folders;
 use crate::parts::{Lockable, clear_parts, is_ours};
-use crate::raw::StdFiles;
+use crate::raw::{StdFiles, StdOpened};
 use crate::reads::{
-    any_bytes, database_bytes, folder_names, is_there, names_in, part_at, text_bytes,
+    any_bytes, database_bytes, folder_names, is_there, names_in, open_database, text_bytes,
 };
 use crate::rooted::Rooted;
 use crate::roots::Root;
@@ -27,7 +27,7 @@ use hwdb_spec::Refusal;
 use std::alloc::{AllocError, Global};
 use std::fs::{self, File, OpenFile, OpenOptions, Permissions};
 use std::io::{self, ErrorKind};
-use std::os::unix::fs::{OpenOptionsExt, PermissionsExt};
+use std::os::unix::fs::{FileExt, OpenOptionsExt, PermissionsExt};
 use std::rt::Files;
 use std::str::from_utf8;
 
@@ -95,7 +95,7 @@ pub struct SystemStore<'a, R: Files> {
 
 impl<'a, R: Files> SystemStore<'a, R>
 where
-    R::File: Drop + Lockable,
+    R::File: Drop + FileExt + Lockable,
 {
     /// The files that the runtime reaches.
     pub fn new(alloc: Global, rt: &'a R) -> Self {
@@ -225,7 +225,7 @@ where
 
 impl<'a, R: Files> Store for SystemStore<'a, R>
 where
-    R::File: Drop + Lockable,
+    R::File: Drop + FileExt + Lockable,
 {
     ghost tells = { ⊥ };
 
@@ -337,8 +337,10 @@ where
 
 impl<'a, R: Files> System for SystemStore<'a, R>
 where
-    R::File: Drop + Lockable,
+    R::File: Drop + FileExt + Lockable,
 {
+    type Opened = StdOpened<R::File>;
+
     ghost may_fail = { λ _ _. Unit {0} };
 
     ghost is_regular = { λ _ _. Unit {0} };
@@ -375,14 +377,14 @@ where
         self.files().identity_of(path)
     }
 
-    fn part(&self, path: &str, from: usize, buf: &mut [u8]) -> Option<usize> {
-        part_at(&self.files(), path, from, buf)
+    fn open_database(&self, _: Global, path: &str) -> Option<StdOpened<R::File>> {
+        open_database(&self.files(), path)
     }
 }
 
 impl<'a, R: Files> TextFolders for SystemStore<'a, R>
 where
-    R::File: Drop + Lockable,
+    R::File: Drop + FileExt + Lockable,
 {
     fn ignored_names(&self, alloc: Global, root: &str, usr: bool) -> Result<Vec<Vec<u8>>, Refusal> {
         let folder = text_folder(alloc, root, usr)?;
@@ -402,7 +404,7 @@ where
 
 impl<'a, R: Files> Rooted for SystemStore<'a, R>
 where
-    R::File: Drop + Lockable,
+    R::File: Drop + FileExt + Lockable,
 {
     fn enter(&mut self, root: &str) -> Result<(), Refusal> {
         self.root.enter(self.rt, root)

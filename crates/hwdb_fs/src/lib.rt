@@ -10,7 +10,7 @@
 //! | `raw` | what a file system answers to what reading asks; `reads`: what is made of these answers; `read_laws`: laws of that; `one_file`: answers for tests |
 //! | `text_folders` | what else is in the folders of text files, as it is asked for; `ignored`: of a file system |
 //! | `texts_below` | the text files of a folder that is read as a root |
-//! | `identity` | what tells a file from one that replaced it |
+//! | `identity` | what tells a file from one that replaced it; `opened`: a file that was opened, of which parts are read |
 //! | `devices` | the file system as it is asked for devices |
 //! | `overlay` | a file system with another database in its place |
 //! | `new_folders` | folders that are made, with their mode |
@@ -31,6 +31,7 @@ mod machine;
 mod memory;
 mod new_folders;
 mod one_file;
+mod opened;
 mod overlay;
 mod parts;
 mod place;
@@ -52,11 +53,12 @@ pub use laws::first_long_file_is_named;
 pub use left_out::{ReadableSelection, name_set, selected_readable};
 pub use machine::Machine;
 pub use one_file::OneFile;
+pub use opened::{OpenedBytes, OpenedFile};
 pub use overlay::Overlay;
 pub use parts::Lockable;
-pub use raw::{Kind, RawFiles, StdFiles, Unread};
+pub use raw::{Kind, RawFiles, StdFiles, StdOpened, Unread};
 pub use read_laws::answers_are_told;
-pub use reads::{database_bytes, is_there, text_bytes};
+pub use reads::{database_bytes, is_there, open_database, text_bytes};
 pub use refusals::{refuse_for, refuse_memory, remedy};
 pub use rooted::Rooted;
 pub use system::System;

@@ -4,6 +4,7 @@ use crate::parts::Lockable;
 use crate::rooted::Rooted;
 use hwdb_replace::Memory;
 use hwdb_sysfs::DeviceFiles;
+use std::os::unix::fs::FileExt;
 use std::rt::Files;
 
 /// What the program runs over: a [`Rooted`] system that is asked for devices, too.
@@ -14,7 +15,7 @@ pub trait Machine: Rooted + DeviceFiles {
 
 impl<'a, R: Files> Machine for SystemStore<'a, R>
 where
-    R::File: Drop + Lockable,
+    R::File: Drop + FileExt + Lockable,
 {
     ghost told = { λ tells. tells };
 }

@@ -10,6 +10,7 @@ ghost use Rattle.hwdb_spec.specs.Refusals.{HasReason, IsUnlisted, IsUnread, IsUn
 use crate::files::text_of;
 use crate::folders::{Selection, selected};
 use crate::ignored::{is_ignored, text_folder};
+use crate::opened::OpenedBytes;
 use crate::rooted::Rooted;
 use crate::system::System;
 use crate::text_folders::TextFolders;
@@ -180,6 +181,8 @@ fn ignored_after(alloc: Global, steps: &[Step], folder: &str) -> Result<Vec<Vec<
 }
 
 impl System for Memory {
+    type Opened = OpenedBytes;
+
     ghost may_fail = { λ _ path. IsMisnamed path };
 
     // It has files alone.
@@ -216,6 +219,13 @@ impl System for Memory {
     fn is_there(&self, alloc: Global, path: &str) -> Result<bool, AllocError> {
         let state = state_of(alloc, &self.steps, path.as_bytes())?;
         Ok(state.now.is_some())
+    }
+
+    fn open_database(&self, alloc: Global, path: &str) -> Option<OpenedBytes> {
+        match file_after(alloc, &self.steps, path.as_bytes()) {
+            Ok(Some(bytes)) => Some(OpenedBytes { bytes }),
+            _ => None,
+        }
     }
 }
 

@@ -1,7 +1,8 @@
 //! A file system that tells its answers, for tests: one thing is at each place.
-ghost use Rattle.std.specs.Prelude.{◌≡◌, ◌≤◌, drop, false, length, take, true, Ok, None};
+ghost use Rattle.std.specs.Prelude.{false, true, Ok, None};
 ghost use Rattle.hwdb_fs.specs.Raw.{told_bytes};
 
+use crate::opened::OpenedBytes;
 use crate::raw::{Kind, RawFiles, Unread};
 use hwdb_io::{Cause, MAX_BYTES};
 use std::alloc::Global;
@@ -23,18 +24,9 @@ impl OneFile {
     }
 }
 
-/// Copies what bytes have from a place on into the front of the buffer, up to the end of one of them. Answers how many these are.
-fn copy_part(bytes: &[u8], from: usize, buf: &mut [u8]) -> usize
-    ensures within { result ≤ length buf.new }
-    ensures copied { take result buf.new ≡ take (length buf.new) (drop from bytes.now) }
-{
-    let from = from.min(bytes.len());
-    let n = buf.len().min(bytes.len() - from);
-    buf[..n].copy_from_slice(&bytes[from..from + n]);
-    n
-}
-
 impl RawFiles for OneFile {
+    type Opened = OpenedBytes;
+
     ghost tells = { Unit {0} };
 
     ghost place = { λ _ path. Ok path };
@@ -78,8 +70,11 @@ impl RawFiles for OneFile {
         }
     }
 
-    fn part_of(&self, _: &str, from: usize, buf: &mut [u8]) -> Option<usize> {
-        Some(copy_part(&self.bytes, from, buf))
+    fn opened_at(&self, at: &str) -> Option<OpenedBytes> {
+        match self.contents_of(self.alloc, at) {
+            Ok(bytes) => Some(OpenedBytes { bytes }),
+            Err(_) => None,
+        }
     }
 
     fn listing_of(&self, _: Global, _: &str) -> Result<Option<Vec<u8>>, Unread> {

@@ -173,6 +173,9 @@ impl<'a, D: System> Store for Overlay<'a, D> {
 }
 
 impl<'a, D: System> System for Overlay<'a, D> {
+    // None is opened: the database that is asked is in memory.
+    type Opened = D::Opened;
+
     ghost may_fail = { λ o p. D.System.may_fail o.system.now p };
 
     ghost is_regular = { λ o p. (p ≡ database_path false o.root.now) ⊎ D.System.is_regular o.system.now p };

@@ -1,5 +1,6 @@
 //! What a file system answers, call by call, and nothing decided: this alone is believed of reading (docs/assumptions.md).
-ghost use Rattle.std.specs.Prelude.{◌≡◌, ◌≤◌, ℕ, List, Bool, false, Option, Result, Ok, Err, IfOk, IfSome, drop, length, string_bytes, take, vec_len, option_map};
+ghost use Rattle.std.specs.Prelude.{◌≡◌, ◌≤◌, ℕ, List, Bool, false, Option, Result, Ok, Err, IfOk, IfSome, length, string_bytes, vec_len, option_map};
+ghost use Rattle.std.specs.Io.{ReadsAtMost};
 ghost use Rattle.hwdb_spec.specs.Texts.{max_file};
 ghost use Rattle.hwdb_spec.specs.declared.causes.Cause.{Cause};
 ghost use Rattle.hwdb_spec.specs.declared.causes.Cause.TheVariants.{Memory};
@@ -9,12 +10,14 @@ ghost use Rattle.hwdb_fs.specs.declared.raw.Unread.TheVariants.{TooLong};
 ghost use Rattle.hwdb_fs.specs.Raw.{IsTold, IsToldRead};
 
 use crate::identity::Identity;
+use crate::opened::OpenedFile;
 use crate::roots::Root;
-use hwdb_io::{Cause, FromRead, MAX_BYTES, ReadError, Source, read_all};
+use hwdb_io::{Cause, FromRead, MAX_BYTES, ReadError, read_all};
+use hwdb_parts::Places;
 use std::alloc::Global;
 use std::fs::{self, File, OpenFile};
-use std::io::{self, ErrorKind, Read, Seek, SeekFrom};
-use std::os::unix::fs::{FileTypeExt, MetadataExt};
+use std::io::{self, ErrorKind, Read};
+use std::os::unix::fs::{FileExt, FileTypeExt, MetadataExt};
 use std::rt::Files;
 
 /// The number of the device /dev/null: on Linux 1, 3.
@@ -46,6 +49,9 @@ pub enum Unread {
 
 /// The answers of a file system to what reading asks. Each call may also say that memory was refused.
 pub trait RawFiles {
+    /// A file that was opened.
+    type Opened: OpenedFile + Drop;
+
     /// Whether the answers are told.
     ghost tells: { Type 0 };
     /// Where a path leads, each link followed.
@@ -82,13 +88,10 @@ pub trait RawFiles {
         ensures told { tells → IsToldRead (λ v. v.items) (contents self.now at.now) result }
         ensures within { IfOk result (λ bytes. vec_len bytes ≤ max_file) };
 
-    /// Reads what is at a place from `from` on, up to its end or the buffer's. Answers how many bytes these are, or None if that
-    /// can't be told.
-    fn part_of(&self, at: &str, from: usize, buf: &mut [u8]) -> Option<usize>
-        ensures within { IfSome result (λ n. n ≤ length buf.new) }
-        ensures told { tells → IfSome result (λ n. (bytes : List ℕ)
-            → contents self.now at.now ≡ Ok bytes
-            → take n buf.new ≡ take (length buf.new) (drop from bytes)) };
+    /// Opens the regular file at a place, of which parts are read then. None if that fails, or it is no regular file.
+    fn opened_at(&self, at: &str) -> Option<Self::Opened>
+        ensures { tells → IfSome result (λ file. (bytes : List ℕ)
+            → contents self.now at.now ≡ Ok bytes → Self.Opened.is_of file bytes) };
 
     /// Lists a folder.
     fn listing_of(&self, alloc: Global, folder: &str) -> Result<Option<Vec<u8>>, Unread>
@@ -177,13 +180,26 @@ pub fn up_to<R: Read + Drop>(alloc: Global, reader: R, limit: u32) -> Result<Vec
     }
 }
 
-/// Reads up to a source's end or the buffer's. Answers how many bytes these are, or None if a call fails.
-fn filled<S: Source>(source: &mut S, buf: &mut [u8]) -> Option<usize>
+/// Reads at a place of a file, and tries again if a signal came between.
+fn read_on_at<F: FileExt>(file: &F, buf: &mut [u8], at: u64) -> io::Result<usize>
+    ensures { ReadsAtMost result buf.new }
+{
+    'tries: for _ in 0..u64::MAX {
+        match file.read_at(buf, at) {
+            Err(error) if error.kind() == ErrorKind::Interrupted => {}
+            done => return done,
+        }
+    }
+    Err(io::Error::from(ErrorKind::Interrupted))
+}
+
+/// Reads what a file has from a place on, up to its end or the buffer's. Answers how many bytes these are, or None if a call fails.
+fn filled<F: FileExt>(file: &F, from: usize, buf: &mut [u8]) -> Option<usize>
     ensures { IfSome result (λ n. n ≤ length buf.new) }
 {
     let mut n = 0;
     'filling: while n < buf.len() {
-        match source.read(&mut buf[n..]) {
+        match read_on_at(file, &mut buf[n..], (from as u64).saturating_add(n as u64)) {
             Ok(0) => return Some(n),
             Ok(more) => n += more,
             Err(_) => return None,
@@ -192,10 +208,38 @@ fn filled<S: Source>(source: &mut S, buf: &mut [u8]) -> Option<usize>
     Some(n)
 }
 
+/// A file that the runtime opened.
+#[derive(Drop)]
+pub struct StdOpened<F> {
+    file: F,
+    /// What it was when it was opened.
+    first: Identity,
+}
+
+impl<F: FileExt> Places for StdOpened<F> {
+    // No contract of the library says what it reads.
+    ghost is_of = { λ _ _. ⊥ };
+
+    fn part(&self, from: usize, buf: &mut [u8]) -> Option<usize> {
+        filled(&self.file, from, buf)
+    }
+}
+
+impl<F: FileExt + OpenFile> OpenedFile for StdOpened<F> {
+    fn is_unchanged(&self) -> bool {
+        match self.file.metadata() {
+            Ok(found) => Identity::of(&found) == self.first,
+            Err(_) => false,
+        }
+    }
+}
+
 impl<'a, R: Files> RawFiles for StdFiles<'a, R>
 where
-    R::File: Drop,
+    R::File: Drop + FileExt,
 {
+    type Opened = StdOpened<R::File>;
+
     // No contract of the library says what it answers.
     ghost tells = { ⊥ };
 
@@ -244,13 +288,17 @@ where
         }
     }
 
-    fn part_of(&self, at: &str, from: usize, buf: &mut [u8]) -> Option<usize> {
-        let Ok(mut file) = File::open(self.rt, at) else {
+    fn opened_at(&self, at: &str) -> Option<StdOpened<R::File>> {
+        let Ok(file) = File::open(self.rt, at) else {
             return None;
         };
-        match file.seek(SeekFrom::Start(from as u64)) {
-            Ok(_) => filled(&mut FromRead::new(file), buf),
-            Err(_) => None,
+        // The file that was opened is looked at: another one may have taken the path since `kind_of`.
+        match file.metadata() {
+            Ok(found) if found.is_file() => Some(StdOpened {
+                file,
+                first: Identity::of(&found),
+            }),
+            _ => None,
         }
     }
 

@@ -1,5 +1,5 @@
 //! What is read, from the answers of a file system: which of them gives which result, and which error.
-ghost use Rattle.std.specs.Prelude.{◌≡◌, ◌≢◌, ◌≤◌, ◌<◌, ◌⊎◌, ◌++◌, ◌∷◌, [], true, false, Ok, OnOk, filter, length, map, string_bytes, ℕ, List, Result, Err, IfOk, IfErr, IfSome, MatchOption, Some, drop, option_map, take, vec_len};
+ghost use Rattle.std.specs.Prelude.{◌≡◌, ◌≢◌, ◌≤◌, ◌<◌, ◌⊎◌, ◌++◌, ◌∷◌, [], true, false, Ok, OnOk, filter, length, map, string_bytes, ℕ, List, Result, Err, IfOk, IfErr, IfSome, MatchOption, Some, option_map, vec_len};
 ghost use Rattle.hwdb_spec.specs.Texts.{max_file};
 ghost use Rattle.hwdb_spec.specs.Folders.{counts};
 ghost use Rattle.hwdb_fs.specs.Raw.{AreFolderNamesAs, AreNamesAs, IsMisnamedAt, IsTold, is_folder, entries, kinds_at, missing_cause, names_answer, IsOfMemory, IsReadAs, IsRefusedFor, at_place, bytes_of, bytes_at, database_answer, failed, text_answer, text_at, text_of_kind, there_answer};
@@ -222,20 +222,19 @@ pub fn database_bytes<F: RawFiles>(
     }
 }
 
-/// Reads a part of a database: what it has from `from` on, up to its end or the buffer's. Answers how many bytes these are, or
-/// None if that can't be told. What is no regular file isn't opened.
-pub fn part_at<F: RawFiles>(files: &F, path: &str, from: usize, buf: &mut [u8]) -> Option<usize>
-    ensures within { IfSome result (λ n. n ≤ length buf.new) }
-    ensures told { F.tells → IfSome result (λ n. (bytes : List ℕ)
+/// Opens a database, of which parts are read then. None if that fails. What is no regular file isn't opened: an open would
+/// wait for the other end of a pipe.
+pub fn open_database<F: RawFiles>(files: &F, path: &str) -> Option<F::Opened>
+    ensures opened { F.tells → IfSome result (λ file. (bytes : List ℕ)
         → database_answer (F.entry files.now path.now) (F.place files.now path.now)
         (F.kind files.now) (F.contents files.now) ≡ Ok (Some bytes)
-        → take n buf.new ≡ take (length buf.new) (drop from bytes)) }
+        → F.Opened.is_of file bytes) }
 {
     let Ok(place) = files.place_of(path) else {
         return None;
     };
     match files.kind_of(place.as_str()) {
-        Ok(Kind::File) => files.part_of(place.as_str(), from, buf),
+        Ok(Kind::File) => files.opened_at(place.as_str()),
         _ => None,
     }
 }

@@ -1,5 +1,5 @@
 //! What the program asks of a file system.
-ghost use Rattle.std.specs.Prelude.{◌≡◌, ◌≤◌, ℕ, List, Some, IfOk, IfErr, IfSome, OnOk, drop, is_some, length, map, option_map, string_bytes, take, vec_len};
+ghost use Rattle.std.specs.Prelude.{◌≡◌, ◌≤◌, ℕ, List, Some, IfOk, IfErr, IfSome, OnOk, is_some, map, option_map, string_bytes, vec_len};
 ghost use Rattle.hwdb_spec.specs.Texts.{max_file};
 ghost use Rattle.hwdb_spec.specs.System.{AreNamesIn, bytes_at};
 ghost use Rattle.hwdb_spec.specs.GivenFolders.{IsUnlistedFolder};
@@ -7,6 +7,7 @@ ghost use Rattle.hwdb_spec.specs.Reading.{IsFolderAt};
 ghost use Rattle.hwdb_spec.specs.Refusals.{HasReason, IsUnlisted, IsUnread, IsUnreadAt, IsUnreadable};
 
 use crate::identity::Identity;
+use crate::opened::OpenedFile;
 use hwdb_io::Cause;
 use hwdb_replace::Store;
 use hwdb_spec::Refusal;
@@ -17,6 +18,9 @@ use std::alloc::{AllocError, Global};
 /// Each call reads, and changes nothing. Refuses what can't be read, with its path and the cause, and where memory is
 /// refused.
 pub trait System: Store {
+    /// A database that was opened.
+    type Opened: OpenedFile + Drop;
+
     /// Reading what stands at a path, or listing it, may fail, for whatever reason.
     ghost may_fail: { Self → List ℕ → Type 0 };
 
@@ -95,13 +99,13 @@ pub trait System: Store {
         None
     }
 
-    /// Reads what a regular file at a path has from `from` on, up to its end or the buffer's. Answers how many bytes these are, or
-    /// None if that can't be told.
-    fn part(&self, path: &str, from: usize, buf: &mut [u8]) -> Option<usize>
-        ensures within { IfSome result (λ n. n ≤ length buf.new) }
-        ensures part { Self.tells → IfSome result (λ n. (bytes : List ℕ)
-            → bytes_at (Self.seen self.now) path.now ≡ Some bytes
-            → take n buf.new ≡ take (length buf.new) (drop from bytes)) }
+    /// Opens a database, of which parts are read then: of the one file that is at the path now. None says nothing of what is
+    /// there. What is no regular file isn't opened.
+    fn open_database(&self, alloc: Global, path: &str) -> Option<Self::Opened>
+        ensures regular { IfSome result (λ _. is_regular self.now path.now) }
+        ensures opened { Self.tells → IfSome result (λ file. (bytes : List ℕ)
+            × (bytes_at (Self.seen self.now) path.now ≡ Some bytes)
+            × Self.Opened.is_of file bytes) }
     {
         None
     }

@@ -1,6 +1,7 @@
--- Which database is asked, by what is at both paths.
-use Rattle.std.proofs.Common.{◌≡◌, ◌∙◌, ap, sym, refl, Bool, true, false, List, ℕ, Option, None, Some, is_some}
+-- Which database is asked, by what is at both paths; and what is said of an opened file, as of the file at its path.
+use Rattle.std.proofs.Common.{◌≡◌, ◌∙◌, ap, sym, refl, subst, Bool, true, false, List, ℕ, Option, None, Some, IfSome, is_some}
 use Rattle.std.proofs.lemmas.Bool.{true≢false}
+use Rattle.std.proofs.lemmas.Option.{IfSome_then, same_Some}
 use Rattle.std.specs.Option.{option_or}
 use Rattle.hwdb_spec.specs.Asked.{database_path}
 use Rattle.hwdb_spec.specs.Store.{Contents}
@@ -32,3 +33,8 @@ usr_asked root etc path contents hidden none at some = go (bytes_at contents etc
       there = is;
       asked = ap (λ o. option_or o (bytes_at contents (database_path true root))) (ap (bytes_at contents) (sym hidden) ∙ gone) ∙ ap (bytes_at contents) (sym at) ∙ is;
     }
+
+-- a file has the bytes of its path, since it was opened there
+pub of_opened : {X : Type 0} (P : X → List ℕ → Type 0) (Is : List ℕ → Type 0) (found : Option (List ℕ)) → ((bytes : List ℕ) × (found ≡ Some bytes) × Is bytes)
+    → (o : Option X) → IfSome o (λ x. (bytes : List ℕ) → Is bytes → P x bytes) → IfSome o (λ x. (bytes : List ℕ) → found ≡ Some bytes → P x bytes)
+of_opened P Is found (held, there, is) o h = IfSome_then o h (λ x all bytes e. all bytes (subst Is (same_Some held bytes (sym there ∙ e)) is))

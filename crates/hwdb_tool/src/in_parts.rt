@@ -1,8 +1,9 @@
 //! `query` of a database of which the strings alone are held. The file is checked while it is read. After that the few records
 //! are read that the devices need.
 //!
-//! None says nothing: the file isn't accepted, a call failed, memory was refused, or the file was replaced meanwhile. Then the
-//! whole file is read, which tells the error if there is one.
+//! The file is opened once, so that another one that takes its path meanwhile isn't read. None says nothing: the file isn't
+//! accepted, a call failed, memory was refused, or the file itself was changed meanwhile. Then the whole file is read, which
+//! tells the error if there is one.
 ghost use Rattle.std.specs.Prelude.{◌≡◌, ◌≤◌, ℕ, List, Some, length, map, string_bytes, IfSome};
 ghost use Rattle.hwdb_spec.specs.Asked.{IsAnswered};
 ghost use Rattle.hwdb_spec.specs.Databases.{IsTextOf};
@@ -15,30 +16,14 @@ ghost use Rattle.hwdb_tool.specs.Views.{texts_in};
 
 use crate::answer::Answer;
 use crate::hiding::database_path;
-use hwdb_fs::System;
+use hwdb_fs::{OpenedFile, System};
 use hwdb_io::MAX_BYTES;
-use hwdb_parts::{Places, accepted};
+use hwdb_parts::accepted;
 use hwdb_print::{Form, texts_of_kept};
 use std::alloc::Global;
 
 /// For more devices than these the whole file is read: the records that many need are most of it.
 const FEW: usize = 8;
-
-/// The file at a path.
-#[derive(Clone, Copy)]
-struct FileAt<'a, D: System> {
-    system: &'a D,
-    path: &'a str,
-}
-
-impl<'a, D: System> Places for FileAt<'a, D> {
-    ghost is_of = { λ f file. D.Store.tells
-        × (bytes_at (D.Store.seen f.system.now) f.path.now ≡ Some file) };
-
-    fn part(&self, from: usize, buf: &mut [u8]) -> Option<usize> {
-        self.system.part(self.path, from, buf)
-    }
-}
 
 /// The path of the database that is asked, if something is there.
 fn asked_path<D: System>(alloc: Global, root: &str, system: &D) -> Option<String>
@@ -62,7 +47,26 @@ fn asked_path<D: System>(alloc: Global, root: &str, system: &D) -> Option<String
     }
 }
 
-/// What `query` prints of the devices, if the file at the path is accepted, and is the same before and after that.
+/// What `query` prints of the devices, if the file is accepted, and isn't changed until then.
+fn text_of_opened<F: OpenedFile>(
+    alloc: Global,
+    file: &F,
+    devices: &[String],
+    json: bool,
+) -> Option<Vec<u8>>
+    ensures { IfSome result (λ text. (bytes : List ℕ) → F.is_of file.now bytes
+        → (length bytes ≤ max_file)
+        × IsTextOf (texts_of (Form.Query json) (map string_bytes devices.now)) bytes text.items) }
+{
+    let kept = accepted(alloc, file, MAX_BYTES as usize)?;
+    let text = texts_of_kept(alloc, file, &kept, devices, json)?;
+    if !file.is_unchanged() {
+        return None;
+    }
+    Some(text)
+}
+
+/// What `query` prints of the devices, if the file at the path can be opened, and is accepted.
 fn text_in_parts<D: System>(
     alloc: Global,
     path: &str,
@@ -74,14 +78,8 @@ fn text_in_parts<D: System>(
         → bytes_at (D.Store.seen system.now) path.now ≡ Some bytes → (length bytes ≤ max_file)
         × IsTextOf (texts_of (Form.Query json) (map string_bytes devices.now)) bytes text.items) }
 {
-    let before = system.identity(path)?;
-    let file = FileAt { system, path };
-    let kept = accepted(alloc, &file, MAX_BYTES as usize)?;
-    let text = texts_of_kept(alloc, &file, &kept, devices, json)?;
-    if system.identity(path) != Some(before) {
-        return None;
-    }
-    Some(text)
+    let file = system.open_database(alloc, path)?;
+    text_of_opened(alloc, &file, devices, json)
 }
 
 /// What `query` prints of the devices, if it can be told without all of the database in memory.

@@ -9,8 +9,16 @@ use hwdb_print::Renewal;
 use hwdb_reader::check;
 use std::alloc::{AllocError, Global};
 
-/// What is in the places of both databases.
+/// What is in the places of both databases. If something is in that of `/etc`, the other one isn't looked at: it isn't asked.
 type Identities = (Option<Identity>, Option<Identity>);
+
+/// What is in the places of both databases. One look at the files, and another one only if nothing is in that of `/etc`.
+fn looked<D: System>(system: &D, etc: &str, usr: &str) -> Identities {
+    match system.identity(etc) {
+        Some(found) => (Some(found), None),
+        None => (None, system.identity(usr)),
+    }
+}
 
 /// The places of both databases, and what was there when the database was read.
 #[derive(Drop)]
@@ -27,16 +35,13 @@ impl Watch {
     pub fn new<D: System>(alloc: Global, root: &str, system: &D) -> Result<Watch, AllocError> {
         let etc = database_path(alloc, root, ETC_FOLDER)?;
         let usr = database_path(alloc, root, USR_FOLDER)?;
-        let seen = (system.identity(etc.as_str()), system.identity(usr.as_str()));
+        let seen = looked(system, etc.as_str(), usr.as_str());
         Ok(Watch { etc, usr, seen })
     }
 
-    /// What is there now. Two calls of the system.
+    /// What is there now.
     fn identities<D: System>(&self, system: &D) -> Identities {
-        (
-            system.identity(self.etc.as_str()),
-            system.identity(self.usr.as_str()),
-        )
+        looked(system, self.etc.as_str(), self.usr.as_str())
     }
 }
 

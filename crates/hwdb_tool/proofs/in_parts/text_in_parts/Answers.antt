@@ -1,9 +1,5 @@
-use Rattle.std.proofs.Common.{arith}
+use Rattle.hwdb_tool.proofs.AskedPartLemmas.{of_opened}
 use Rattle.hwdb_tool.proofs.in_parts.text_in_parts.Goals as goal
 
 pub returns : goal.returns
-returns g c = λ tells bytes there.
-    let kept = c.in_ok-kept.ensures.kept bytes (tells, there) in
-    let size = kept.size in
-    let within = c.in_ok-kept.ensures.within in
-    (omega (arith, size, within), c.in_ok-text.ensures bytes (tells, there) kept)
+returns g c = λ tells. of_opened _ _ _ (c.in_ok-file.ensures.opened tells) _ c.text_of_opened.ensures
