@@ -99,7 +99,7 @@ check: kit
 # What tries the built program and library, in lanes, the longest first.
 scripts: try-memory try-wrong-bodies try-definitions try-reading try-over-proved try-random try-rows try-crash try-documents \
 	try-definitions-page try-refused try-words try-command-line try-installed try-library try-readme try-runs try-folders try-sides \
-	try-refusals try-footprint try-changed try-reload try-streams try-colours try-near try-mistakes try-device try-test-files try-status \
+	try-refusals try-footprint try-changed try-reload try-streams try-colours try-terminals try-near try-mistakes try-device try-test-files try-status \
 	try-text try-fuzz
 
 # What looks at the processor's times, after all others.

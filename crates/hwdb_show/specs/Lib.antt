@@ -1,2 +1,3 @@
 pub mod JsonTokens
+pub mod Rows
 pub mod Lemmas

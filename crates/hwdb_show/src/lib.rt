@@ -3,6 +3,7 @@
 //! | Module | What it does |
 //! |---|---|
 //! | `shown` | lines as they are shown, and the mark below them |
+//! | `visible` | texts and names without bytes that a terminal would act on |
 //! | `colours` | texts in colour |
 //! | `json_values` | values of JSON, token by token |
 #![tactic(auto)]
@@ -10,7 +11,9 @@
 mod colours;
 mod json_values;
 mod shown;
+mod visible;
 
 pub use colours::{colours_are_taken_out, painted};
 pub use json_values::{ended, put_bytes, put_count, put_flag, put_member, put_number, put_text};
 pub use shown::{push_byte, push_mark_line, push_shown, push_shown_line};
+pub use visible::{push_visible, shown_has_no_control, write_visible};
