@@ -8,10 +8,10 @@ mod colours;
 use allowed::status_of_kinds;
 use bypass::status_of_bypass;
 use colours::coloured_kind;
-use hwdb_tool::{Coloured, FromRead, SystemStore, ToWrite, program, write_text};
+use hwdb_tool::{Coloured, FromRead, SystemStore, TextKind, ToWrite, program, write_text};
 use std::env;
 use std::fs::{File, OpenOptions};
-use std::io::{self, ErrorKind};
+use std::io::{self, ErrorKind, IsTerminal};
 use std::os::fd::AsFd;
 use std::process::ExitCode;
 
@@ -48,13 +48,15 @@ fn held_streams(rt: &HostRuntime) -> io::Result<[Option<File>; 3]> {
 fn main(rt: HostRuntime) -> ExitCode {
     let held = held_streams(&rt);
     let mut input = FromRead::new(rt.stdin());
-    let mut err = ToWrite::new(rt.stderr());
+    let alloc = rt.alloc();
+    let is_seen = rt.stderr().is_terminal();
+    let mut err = Coloured::new(alloc, ToWrite::new(rt.stderr()), TextKind::Plain, is_seen);
     if held.is_err() {
         let line = "hwdb: a standard stream is closed, and /dev/null cannot be opened\n";
         let _ = write_text(&mut err, line.as_bytes());
         return ExitCode::from(1);
     }
-    let mut system = SystemStore::new(rt.alloc(), &rt);
+    let mut system = SystemStore::new(alloc, &rt);
     match words_of(&rt) {
         Ok(words) => {
             let Some(kind) = coloured_kind(&rt, &words, &mut err) else {
@@ -66,8 +68,8 @@ fn main(rt: HostRuntime) -> ExitCode {
             if let Some(status) = status_of_bypass(&rt, &words, &mut err) {
                 return ExitCode::from(status);
             }
-            let alloc = rt.alloc();
-            let mut out = Coloured::new(alloc, ToWrite::new(rt.stdout()), kind);
+            let is_seen = rt.stdout().is_terminal();
+            let mut out = Coloured::new(alloc, ToWrite::new(rt.stdout()), kind, is_seen);
             let status = program(alloc, &words, &mut system, &mut input, &mut out, &mut err);
             ExitCode::from(status)
         }

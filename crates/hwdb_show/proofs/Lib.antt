@@ -1,3 +1,4 @@
 pub mod ShownLemmas
 pub mod ColourLemmas
 pub mod WindowLemmas
+pub mod VisibleLemmas

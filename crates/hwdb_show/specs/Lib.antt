@@ -1,3 +1,4 @@
 pub mod JsonTokens
 pub mod Laws
+pub mod Rows
 pub mod Lemmas

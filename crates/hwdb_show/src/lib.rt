@@ -3,6 +3,7 @@
 //! | Module | What it does |
 //! |---|---|
 //! | `shown` | lines as they are shown, and the mark below them |
+//! | `visible` | texts and names without bytes that a terminal would act on |
 //! | `colours` | texts in colour |
 //! | `json_values` | values of JSON, token by token |
 //! | `laws` | what is proved of the definitions alone |
@@ -12,8 +13,10 @@ mod colours;
 mod json_values;
 mod laws;
 mod shown;
+mod visible;
 
 pub use colours::{colours_are_taken_out, painted};
 pub use json_values::{ended, put_bytes, put_count, put_flag, put_member, put_number, put_text};
 pub use laws::{lines_are_shown, marks_are_below};
 pub use shown::{push_byte, push_mark_line, push_shown, push_shown_line};
+pub use visible::{push_visible, shown_has_no_control, write_visible};

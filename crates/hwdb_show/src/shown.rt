@@ -14,7 +14,7 @@ const SHOWN: usize = 160;
 const BEFORE: usize = 80;
 
 /// The digits of a byte that isn't printable.
-const DIGITS: [u8; 16] = *b"0123456789abcdef";
+pub(crate) const DIGITS: [u8; 16] = *b"0123456789abcdef";
 
 /// Whether ASCII prints a byte.
 fn is_printed(byte: u8) -> bool
@@ -25,7 +25,7 @@ fn is_printed(byte: u8) -> bool
 
 /// Adds `\x` and a byte's two hexadecimal digits. The only error, here and below, is `AllocError`.
 #[tactic(auto, unfolding(hex::specs::Hex::encode_with))]
-fn push_digits(text: &mut Vec<u8>, byte: u8) -> Result<(), AllocError>
+pub(crate) fn push_digits(text: &mut Vec<u8>, byte: u8) -> Result<(), AllocError>
     ensures { OnOk result
         (text.new.items ≡ text.old.items ++ (codes "\\x" ++ encode_lower (byte ∷ []))) }
 {

@@ -57,6 +57,7 @@ pub mod NearAsked
 pub mod NearPrefixes
 pub mod Wanted
 pub mod Colours
+pub mod Visible
 pub mod Inputs
 pub mod Lookups
 pub mod DeviceTexts

@@ -6,7 +6,7 @@
 //! | `answer` | what a command prints, and its status |
 //! | `printing` | the one place where that is printed |
 //! | `outlet` | where standard output goes to: a sink whose reader may go away |
-//! | `coloured` | one that shows in colour what it takes |
+//! | `coloured` | one that shows what it takes in colour, and as a terminal is shown it |
 //! | `updates` | `update`; `progress`: what it says of its files; `hiding`: of a database that hides the new one |
 //! | `queries` | `query`, of the devices of the words or of standard input; `in_parts`: of a database whose strings alone are held |
 //! | `answers` | `explain`, `list` and `ask` |
@@ -72,7 +72,7 @@ mod verification;
 pub use answer::Answer;
 pub use answers::{ask_file, explain, list};
 pub use checks::check;
-pub use coloured::{Coloured, kind_of, write_painted};
+pub use coloured::{Coloured, kind_of, terminals_get_no_control, write_shown};
 pub use crash::{crash_then_query, kill_then_query};
 pub use devices::{device, device_form};
 pub use differences::diff;
