@@ -8,8 +8,9 @@ use Rattle.std.specs.BTreeMap.{BTreeMap}
 use Rattle.std.proofs.lemmas.List.Elements.{All-nil, All-cons, All-head, All-tail}
 use Rattle.hwdb_spec.specs.Records.{faults}
 use Rattle.hwdb_spec.specs.Folders.{Choice, path_of, Source, first_of, contents, file_faults, fault_in, faults_of_files, AreAccepted, FaultIn}
-use Rattle.hwdb_compile.specs.declared.sources.ChosenFile.{ChosenFile}
-use Rattle.hwdb_compile.specs.Views.{FewLines, ManyLines, AreChosenOf, bytes_in, choice_in}
+use Rattle.hwdb_text.specs.declared.choice.ChosenFile.{ChosenFile}
+use Rattle.hwdb_compile.specs.Views.{FewLines, ManyLines, AreChosenOf}
+use Rattle.hwdb_text.specs.Views.{bytes_in, choice_in}
 use Rattle.hwdb_spec.specs.CompileErrors.{IsRefusal}
 use Rattle.hwdb_spec.specs.Tree.{Map, surviving, map_of_files}
 use Rattle.hwdb_spec.specs.Written.{IsLonger}

@@ -1,11 +1,11 @@
 -- What the types of this crate mean: files and faults as contracts see them, and when each error comes.
 use Rattle.std.specs.Prelude.{List, map, length, ℕ, ◌<◌, ◌≤◌, ◌≡◌, All}
 use Rattle.std.specs.String.{string_bytes}
-use Rattle.hwdb_spec.specs.Folders.{Choice, Source, FaultIn, contents, fault_in, chosen_of, max_files, max_lines}
+use Rattle.hwdb_spec.specs.Folders.{Source, FaultIn, contents, fault_in, chosen_of, max_files, max_lines}
 use Rattle.hwdb_spec.specs.Lines.{lines}
-use Rattle.hwdb_text.specs.Views.{choice_of}
+use Rattle.hwdb_text.specs.Views.{bytes_in, choice_in}
 use Rattle.hwdb_compile.specs.declared.sources.SourceFile.{SourceFile}
-use Rattle.hwdb_compile.specs.declared.sources.ChosenFile.{ChosenFile}
+use Rattle.hwdb_text.specs.declared.choice.ChosenFile.{ChosenFile}
 use Rattle.hwdb_compile.specs.declared.sources.FileFault.{FileFault}
 
 abbrev pub source_of : SourceFile → Source
@@ -20,13 +20,6 @@ fault_of f = fault_in f.path.items f.fault
 -- the name of a file
 abbrev pub name_of : Source → List ℕ
 name_of s = s.name
-
--- which file was chosen, and what it holds
-abbrev pub choice_in : ChosenFile → Choice
-choice_in f = choice_of f.choice.now
-
-abbrev pub bytes_in : ChosenFile → List ℕ
-bytes_in f = f.bytes.now
 
 -- the files are the chosen ones of two folders, by priority, each with what it holds
 pub record AreChosenOf (etc usr : List Source) (files : List ChosenFile) : Type 0 where

@@ -14,17 +14,18 @@ ghost use Rattle.hwdb_text.specs.Views.{given_in, choice_of};
 ghost use Rattle.std.specs.String.{string_bytes};
 ghost use Rattle.hwdb_spec.specs.Folders.{path_of, all_assignments, file_assignments, file_faults, faults_of_files, fault_in, AreAccepted};
 ghost use Rattle.hwdb_text.specs.Views.{IsStorableChoice};
-ghost use Rattle.hwdb_compile.specs.Views.{FewLines, ForFolders, bytes_in, choice_in};
+ghost use Rattle.hwdb_compile.specs.Views.{FewLines, ForFolders};
+ghost use Rattle.hwdb_text.specs.Views.{bytes_in, choice_in};
 ghost use Rattle.hwdb_compile.specs.Views.{sources, fault_of};
 ghost use Rattle.hwdb_spec.specs.CompileErrors.{IsRefusal};
 ghost use Rattle.hwdb_spec.specs.Tree.{Tree, surviving, map_of_files};
 ghost use Rattle.hwdb_query.specs.Laws.{AnswersAreLast};
 ghost use Rattle.hwdb_compile.specs.Internal.Reading.{path_in, assignments_in, faults_in, IsPuttable, TakesUp, IsFileRefusal, IsFilesRefusal};
 
-use crate::sources::{ChosenFile, Compiled, FileFault, SourceFile, choose, with_bytes};
+use crate::sources::{Compiled, FileFault, SourceFile, choose, with_bytes};
 use hwdb_query::compiled_answers_are_last;
 use hwdb_spec::CompileError;
-use hwdb_text::{Chosen, Fault, Given, scan};
+use hwdb_text::{Chosen, ChosenFile, Fault, Given, scan};
 use hwdb_writer::{Assignments, into_database, keep_pages};
 use std::alloc::{AllocError, Global};
 

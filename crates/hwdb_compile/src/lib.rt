@@ -17,4 +17,4 @@ mod sources;
 pub use compiler::{compile, compile_chosen};
 pub use hwdb_spec::CompileError;
 pub use laws::{last_is_latest, survivors_are_latest};
-pub use sources::{ChosenFile, Compiled, FileFault, SourceFile, choose, with_bytes};
+pub use sources::{Compiled, FileFault, SourceFile, choose, with_bytes};

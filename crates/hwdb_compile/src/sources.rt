@@ -3,12 +3,13 @@ ghost use Rattle.std.specs.Prelude.{◌≡◌, ◌≤◌, ℕ, List, map, length
 ghost use Rattle.std.specs.String.{string_bytes};
 ghost use Rattle.hwdb_spec.specs.Folders.{chosen_of, first_of, max_files};
 ghost use Rattle.hwdb_text.specs.Views.{choice_of, IsStorableChoice};
-ghost use Rattle.hwdb_compile.specs.Views.{sources, name_of, choice_in, AreChosenOf};
+ghost use Rattle.hwdb_compile.specs.Views.{sources, name_of, AreChosenOf};
+ghost use Rattle.hwdb_text.specs.Views.{choice_in};
 ghost use Rattle.hwdb_spec.specs.CompileErrors.{IsChoiceRefusal};
 ghost use Rattle.hwdb_compile.specs.Internal.Reading.{bytes_at};
 
 use hwdb_spec::CompileError;
-use hwdb_text::{Chosen, Fault, select};
+use hwdb_text::{Chosen, ChosenFile, Fault, select};
 use std::alloc::{AllocError, Global};
 use std::collections::BTreeMap;
 
@@ -19,15 +20,6 @@ pub struct SourceFile {
     pub name: String,
     /// What it holds.
     pub bytes: Vec<u8>,
-}
-
-/// A chosen file, and what it holds.
-#[derive(Clone, Copy)]
-pub struct ChosenFile<'a> {
-    /// Its folder, name and priority.
-    pub choice: &'a Chosen,
-    /// What it holds.
-    pub bytes: &'a [u8],
 }
 
 /// A fault, and the file that has it.

@@ -21,9 +21,8 @@ use crate::system::System;
 use crate::text_folders::TextFolders;
 use crate::texts_below::TextsBelow;
 use hwdb_io::{Cause, after_failure, write_on};
-use hwdb_print::ToolError;
 use hwdb_replace::{CallFailed, DATABASE_MODE, PART_MODE, Store};
-use hwdb_spec::Refusal;
+use hwdb_spec::{Refusal, ToolError};
 use std::alloc::{AllocError, Global};
 use std::fs::{self, File, OpenFile, OpenOptions, Permissions};
 use std::io::{self, ErrorKind};
@@ -394,7 +393,7 @@ where
 
 impl<'a, R: Files> TextsBelow for SystemStore<'a, R>
 where
-    R::File: Drop + Lockable,
+    R::File: Drop + FileExt + Lockable,
 {
     fn selected_below(&self, alloc: Global, root: &str) -> Result<Selection, Refusal> {
         let below = self.below(root)?;

@@ -4,7 +4,7 @@ ghost use Rattle.hwdb_spec.specs.Folders.{path_of};
 ghost use Rattle.hwdb_spec.specs.System.{AreNamesIn, bytes_at};
 ghost use Rattle.hwdb_spec.specs.Texts.{max_file};
 ghost use Rattle.hwdb_text.specs.Views.{IsStorableChoice, choice_of};
-ghost use Rattle.hwdb_compile.specs.Views.{bytes_in, choice_in};
+ghost use Rattle.hwdb_text.specs.Views.{bytes_in, choice_in};
 ghost use Rattle.hwdb_spec.specs.Store.{Contents};
 ghost use Rattle.hwdb_spec.specs.Selected.{AreNamed, AreSelected, AreTexts};
 ghost use Rattle.hwdb_spec.specs.Refusals.{HasReason, IsUnlisted, IsUnread, IsUnreadable};
@@ -13,10 +13,8 @@ ghost use Rattle.hwdb_spec.specs.declared.refusals.Refusal.TheVariants.{Plain};
 
 use crate::files::joined;
 use crate::system::System;
-use hwdb_compile::ChosenFile;
-use hwdb_print::ToolError;
-use hwdb_spec::Refusal;
-use hwdb_text::{Chosen, select};
+use hwdb_spec::{Refusal, ToolError};
+use hwdb_text::{Chosen, ChosenFile, select};
 use std::alloc::{AllocError, Global};
 
 pub const ETC_FILES: &str = "/etc/udev/hwdb.d";

@@ -1,7 +1,7 @@
 //! Files that were opened, of which parts are read.
 ghost use Rattle.std.specs.Prelude.{◌≡◌, ◌≤◌, drop, length, take};
 
-use hwdb_parts::Places;
+use hwdb_io::Places;
 
 /// A file that was opened. It stays this file, whatever takes its path.
 pub trait OpenedFile: Places {

@@ -16,9 +16,8 @@ use crate::system::System;
 use crate::text_folders::TextFolders;
 use crate::texts_below::TextsBelow;
 use hwdb_io::{Cause, MAX_BYTES, after_failure};
-use hwdb_print::ToolError;
 use hwdb_replace::{CallFailed, Store};
-use hwdb_spec::Refusal;
+use hwdb_spec::{Refusal, ToolError};
 use hwdb_sysfs::{DeviceFiles, DeviceNode};
 use std::alloc::{AllocError, Global};
 

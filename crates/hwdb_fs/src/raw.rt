@@ -13,7 +13,7 @@ use crate::identity::Identity;
 use crate::opened::OpenedFile;
 use crate::roots::Root;
 use hwdb_io::{Cause, FromRead, MAX_BYTES, ReadError, read_all};
-use hwdb_parts::Places;
+use hwdb_io::Places;
 use std::alloc::Global;
 use std::fs::{self, File, OpenFile};
 use std::io::{self, ErrorKind, Read};

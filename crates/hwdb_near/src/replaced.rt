@@ -7,8 +7,8 @@ ghost use Rattle.hwdb_near.specs.Views.{replacement_of};
 use crate::replacements::{Replaced, replacements};
 use crate::wanted::wanted;
 use crate::{replaced_json, replaced_texts};
-use hwdb_compile::ChosenFile;
 use hwdb_spec::ScanError;
+use hwdb_text::ChosenFile;
 use std::alloc::{AllocError, Global};
 
 /// What is printed of assignments that were replaced and of masked files, as text.

@@ -6,9 +6,8 @@ ghost use Rattle.hwdb_text.specs.Views.{given_in};
 ghost use Rattle.hwdb_near.specs.Views.{assignment_of, origin_of};
 
 use crate::matching::hits;
-use hwdb_compile::ChosenFile;
 use hwdb_spec::ScanError;
-use hwdb_text::{Chosen, Given, scan};
+use hwdb_text::{Chosen, ChosenFile, Given, scan};
 use std::alloc::{AllocError, Global};
 
 /// An assignment, in the bytes of its file.

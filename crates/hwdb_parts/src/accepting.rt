@@ -5,7 +5,8 @@ ghost use Rattle.hwdb_parts.specs.Views.{IsKept};
 
 use crate::kept::KeptFile;
 use crate::passes::is_accepted;
-use crate::places::{Places, ends_at, fill, read_part};
+use crate::places::{ends_at, fill, read_part};
+use hwdb_io::Places;
 use hwdb_passes::{open_outline, open_sections};
 use hwdb_reader::{Frame, u64_at};
 use std::alloc::Global;

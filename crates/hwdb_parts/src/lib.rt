@@ -3,7 +3,7 @@
 //!
 //! | Module | What it does |
 //! |---|---|
-//! | `places` | a file of which parts can be read |
+//! | `places` | what is read of a file of which parts can be read |
 //! | `passes` | a pass over its nodes |
 //! | `kept` | what is kept of a file that was accepted |
 //! | `accepting` | the check of a file |
@@ -18,5 +18,4 @@ mod windows;
 
 pub use accepting::accepted;
 pub use kept::KeptFile;
-pub use places::Places;
 pub use windows::ReadWindows;

@@ -5,7 +5,8 @@ ghost use Rattle.hwdb_spec.specs.Format.{IsDatabase};
 ghost use Rattle.hwdb_passes.specs.Views.{IsOf, Stands};
 ghost use Rattle.hwdb_parts.specs.Internal.{waiting};
 
-use crate::places::{Places, fill};
+use crate::places::fill;
+use hwdb_io::Places;
 use hwdb_passes::{Outline, feed, is_whole};
 use std::alloc::Global;
 

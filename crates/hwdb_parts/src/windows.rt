@@ -5,7 +5,8 @@ ghost use Rattle.hwdb_passes.specs.Views.{IsPart};
 ghost use Rattle.hwdb_parts.specs.Views.{AreOf, IsKept};
 
 use crate::kept::KeptFile;
-use crate::places::{Places, fill};
+use crate::places::fill;
+use hwdb_io::Places;
 use hwdb_lookup::{WINDOW, Windows};
 use hwdb_passes::Outline;
 use std::alloc::{AllocError, Global};

@@ -6,8 +6,9 @@ use Rattle.hwdb_spec.specs.Folders.{Choice, Source, contents, first_of}
 use Rattle.hwdb_spec.specs.Store.{Contents, Outcomes, Stored, LeavesOnly, OldOrNew}
 use Rattle.hwdb_spec.specs.Tree.{map_of_files}
 use Rattle.hwdb_spec.specs.Written.{IsCompiled, IsWritten}
-use Rattle.hwdb_compile.specs.declared.sources.ChosenFile.{ChosenFile}
-use Rattle.hwdb_compile.specs.Views.{AreChosenOf, bytes_in, choice_in}
+use Rattle.hwdb_text.specs.declared.choice.ChosenFile.{ChosenFile}
+use Rattle.hwdb_compile.specs.Views.{AreChosenOf}
+use Rattle.hwdb_text.specs.Views.{bytes_in, choice_in}
 use Rattle.hwdb_spec.specs.Done.{OldOrWritten}
 use Rattle.hwdb_spec.specs.LoneFile.{lone, lone_choice}
 

@@ -13,7 +13,8 @@ use crate::device_texts::behind;
 use crate::json_lines::device_line;
 use crate::texts::property_lines;
 use hwdb_lookup::{Stop, lookup_windows};
-use hwdb_parts::{KeptFile, Places, ReadWindows};
+use hwdb_io::Places;
+use hwdb_parts::{KeptFile, ReadWindows};
 use hwdb_spec::Form;
 use std::alloc::{AllocError, Global};
 

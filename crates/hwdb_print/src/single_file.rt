@@ -12,10 +12,10 @@ ghost use Rattle.hwdb_spec.specs.LoneFile.{lone, lone_choice};
 
 use crate::queries::properties_of;
 use crate::texts::fault_lines_at;
-use hwdb_compile::{ChosenFile, compile_chosen};
+use hwdb_compile::compile_chosen;
 use hwdb_io::{MAX_BYTES, Sink, write_text};
 use hwdb_spec::ToolError;
-use hwdb_text::Chosen;
+use hwdb_text::{Chosen, ChosenFile};
 use std::alloc::{AllocError, Global};
 
 /// What one text file gives.

@@ -9,6 +9,7 @@ use Rattle.hwdb_text.specs.declared.outcome.Given.{Given}
 use Rattle.hwdb_spec.specs.Records.{Origin}
 use Rattle.hwdb_spec.specs.Folders.{Choice, path_of}
 use Rattle.hwdb_text.specs.declared.choice.Chosen.{Chosen}
+use Rattle.hwdb_text.specs.declared.choice.ChosenFile.{ChosenFile}
 
 abbrev pub assigned : OwnedAssignment → Assignment
 assigned a = record {
@@ -54,3 +55,10 @@ pub record IsStorableChoice (c : Choice) : Type 0 where
 
 abbrev pub choice_of : Chosen → Choice
 choice_of c = record { from_etc = c.from_etc; name = string_bytes c.name; priority = c.priority }
+
+-- which file was chosen, and what it holds
+abbrev pub choice_in : ChosenFile → Choice
+choice_in f = choice_of f.choice.now
+
+abbrev pub bytes_in : ChosenFile → List ℕ
+bytes_in f = f.bytes.now

@@ -31,6 +31,15 @@ pub struct Chosen {
     pub priority: u16,
 }
 
+/// A chosen file, and what it holds.
+#[derive(Clone, Copy)]
+pub struct ChosenFile<'a> {
+    /// Its folder, name and priority.
+    pub choice: &'a Chosen,
+    /// What it holds.
+    pub bytes: &'a [u8],
+}
+
 impl Chosen {
     /// The stored path: the folder, without the root that the program was given, and the name.
     pub fn path(&self, alloc: Global) -> Result<String, AllocError>

@@ -9,8 +9,9 @@ use Rattle.hwdb_spec.specs.Folders.{Choice, Source, same, lists, names, choice, 
 use Rattle.hwdb_spec.specs.Store.{Contents, path_in}
 use Rattle.hwdb_spec.specs.System.{bytes_at, AreNamesIn, AreFilesIn, etc_files, usr_files}
 use Rattle.hwdb_spec.specs.Selected.{IsListed, AreSelected, AreTexts}
-use Rattle.hwdb_compile.specs.declared.sources.ChosenFile.{ChosenFile}
-use Rattle.hwdb_compile.specs.Views.{AreChosenOf, bytes_in, choice_in}
+use Rattle.hwdb_text.specs.declared.choice.ChosenFile.{ChosenFile}
+use Rattle.hwdb_compile.specs.Views.{AreChosenOf}
+use Rattle.hwdb_text.specs.Views.{bytes_in, choice_in}
 use Rattle.hwdb_tool.specs.Internal.{AreReadOf}
 use Rattle.hwdb_spec.specs.Reading.{IsText}
 use Rattle.hwdb_spec.specs.Texts.{max_file}

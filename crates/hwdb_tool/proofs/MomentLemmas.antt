@@ -2,7 +2,7 @@
 use Rattle.std.proofs.Common.{◌≡◌, inl, inr, ⊎_elim, ℕ, Bool, List, Option, subst, arith}
 use Rattle.hwdb_spec.specs.Store.{Contents, LeavesOnly, Outcomes, Stored}
 use Rattle.hwdb_spec.specs.System.{database_folder}
-use Rattle.hwdb_compile.specs.declared.sources.ChosenFile.{ChosenFile}
+use Rattle.hwdb_text.specs.declared.choice.ChosenFile.{ChosenFile}
 use Rattle.hwdb_compile.specs.Views.{ForFolders}
 use Rattle.hwdb_spec.specs.Done.{OldOrWritten, OldOrUpdated, OldOrUpdatedLess}
 use Rattle.hwdb_tool.specs.Internal.{AreReadOf}

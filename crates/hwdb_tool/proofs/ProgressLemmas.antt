@@ -9,8 +9,9 @@ use Rattle.hwdb_spec.specs.Format.{IsDatabase}
 use Rattle.hwdb_spec.specs.Progress.{chosen_line, kept_line, progress_text}
 use Rattle.hwdb_spec.specs.Tree.{IsTree, Map, Tree, entry_of, map_of, map_of_files, members_under}
 use Rattle.hwdb_spec.specs.Written.{IsDatabaseOf}
-use Rattle.hwdb_compile.specs.Views.{AreChosenOf, choice_in}
-use Rattle.hwdb_compile.specs.declared.sources.ChosenFile.{ChosenFile}
+use Rattle.hwdb_compile.specs.Views.{AreChosenOf}
+use Rattle.hwdb_text.specs.Views.{choice_in}
+use Rattle.hwdb_text.specs.declared.choice.ChosenFile.{ChosenFile}
 use Rattle.hwdb_compile.specs.declared.sources.Compiled.{Compiled}
 use Rattle.hwdb_inspect.specs.Laws.{MembersAreTheMap}
 use Rattle.hwdb_tool.specs.Internal.{IsCompiledOf}

@@ -4,8 +4,9 @@ use Rattle.std.proofs.Math.Path.{fun_ext}
 use Rattle.std.proofs.lemmas.List.Elements.{All-contains}
 use Rattle.std.specs.Prelude.{codes, if◌then◌else◌, is_some}
 use Rattle.std.specs.Option.{option_or}
-use Rattle.hwdb_compile.specs.Views.{ForFolders, choice_in}
-use Rattle.hwdb_compile.specs.declared.sources.ChosenFile.{ChosenFile}
+use Rattle.hwdb_compile.specs.Views.{ForFolders}
+use Rattle.hwdb_text.specs.Views.{choice_in}
+use Rattle.hwdb_text.specs.declared.choice.ChosenFile.{ChosenFile}
 use Rattle.hwdb_spec.specs.declared.refusals.Refusal.{Refusal}
 use Rattle.hwdb_spec.specs.declared.refusals.Refusal.TheVariants.{Plain}
 use Rattle.hwdb_spec.specs.declared.errors.ToolError.TheVariants.{Memory}

@@ -7,7 +7,7 @@ use Rattle.hwdb_spec.specs.System.{database_folder}
 use Rattle.hwdb_spec.specs.Progress.{given_where, update_text}
 use Rattle.hwdb_spec.specs.Texts.{max_file}
 use Rattle.hwdb_spec.specs.declared.errors.Unreplaced.{Unreplaced}
-use Rattle.hwdb_compile.specs.declared.sources.ChosenFile.{ChosenFile}
+use Rattle.hwdb_text.specs.declared.choice.ChosenFile.{ChosenFile}
 use Rattle.hwdb_compile.specs.Views.{ForFolders}
 use Rattle.hwdb_spec.specs.UpdateErrors.{IsUpdateRefusal, OnUnreplaced, UpdateUndone}
 use Rattle.hwdb_spec.specs.declared.errors.ToolError.{ToolError}

@@ -20,7 +20,7 @@ use Rattle.hwdb_spec.specs.TaskRefusals.{IsNotDone}
 use Rattle.hwdb_spec.specs.declared.job.Job.{Job}
 use Rattle.hwdb_spec.specs.declared.refusals.Refusal.{Refusal}
 use Rattle.hwdb_fs.specs.declared.folders.Selection.{Selection}
-use Rattle.hwdb_compile.specs.declared.sources.ChosenFile.{ChosenFile}
+use Rattle.hwdb_text.specs.declared.choice.ChosenFile.{ChosenFile}
 
 -- a database of the files, and how many assignments they have
 pub record IsCompiledOf (etc usr : List Source) (c : Compiled) : Type 0 where

@@ -1,7 +1,8 @@
 -- What the steps of `status` hold.
 use Rattle.std.specs.Prelude.{◌++◌, ◌≡◌, ◌≤◌, ◌⊎◌, [], Bool, IfSome, List, Option, codes, false, if◌then◌else◌, length, map, true, ℕ}
-use Rattle.hwdb_compile.specs.Views.{ForFolders, choice_in}
-use Rattle.hwdb_compile.specs.declared.sources.ChosenFile.{ChosenFile}
+use Rattle.hwdb_compile.specs.Views.{ForFolders}
+use Rattle.hwdb_text.specs.Views.{choice_in}
+use Rattle.hwdb_text.specs.declared.choice.ChosenFile.{ChosenFile}
 use Rattle.hwdb_spec.specs.Folders.{AreAccepted, Source}
 use Rattle.hwdb_spec.specs.Ignored.{AreIgnoredIn}
 use Rattle.hwdb_spec.specs.Readable.{AreAllRead}

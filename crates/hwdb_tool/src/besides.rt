@@ -10,10 +10,10 @@ ghost use Rattle.hwdb_spec.specs.declared.refusals.Refusal.TheVariants.{Plain};
 use crate::given::is_dash;
 use crate::statuses::masked_paths;
 use hwdb_cli::Task;
-use hwdb_compile::ChosenFile;
 use hwdb_fs::Refusal;
 use hwdb_near::replaced_in_files;
 use hwdb_print::ToolError;
+use hwdb_text::ChosenFile;
 use std::alloc::Global;
 
 /// What is said besides of a device: which assignments were replaced, and which of the listed files of /usr/lib are masked.

@@ -7,16 +7,17 @@ ghost use Rattle.hwdb_spec.specs.Progress.{chosen_line, kept_line, masks, progre
 ghost use Rattle.hwdb_spec.specs.Tree.{Map};
 ghost use Rattle.hwdb_spec.specs.Written.{IsDatabaseOf};
 ghost use Rattle.hwdb_text.specs.Views.{choice_of};
-ghost use Rattle.hwdb_compile.specs.Views.{ForFolders, choice_in};
+ghost use Rattle.hwdb_compile.specs.Views.{ForFolders};
+ghost use Rattle.hwdb_text.specs.Views.{choice_in};
 ghost use Rattle.hwdb_fs.specs.Internal.{IsNameSet};
 ghost use Rattle.hwdb_tool.specs.Internal.{IsCompiledOf};
 
-use hwdb_compile::{ChosenFile, Compiled};
+use hwdb_compile::Compiled;
 use hwdb_fs::name_set;
 use hwdb_inspect::{assignments, members_are_the_map};
 use hwdb_lint::push_count;
 use hwdb_reader::{check, law_ascending, law_one_tree};
-use hwdb_text::Chosen;
+use hwdb_text::{Chosen, ChosenFile};
 use itoa::Buffer;
 use std::alloc::{AllocError, Global};
 use std::collections::BTreeSet;

@@ -1,6 +1,7 @@
 //! `status`: the database that is asked, beside the one that the text files make. Nothing is written.
 ghost use Rattle.std.specs.Prelude.{◌≡◌, ◌≤◌, ◌++◌, ℕ, List, All, None, Some, codes, false, length, map, option_map, string_bytes, true, IfErr, IfOk, IfSome, OnOk};
-ghost use Rattle.hwdb_compile.specs.Views.{ForFolders, choice_in};
+ghost use Rattle.hwdb_compile.specs.Views.{ForFolders};
+ghost use Rattle.hwdb_text.specs.Views.{choice_in};
 ghost use Rattle.hwdb_fs.specs.Internal.{IsNameSet};
 ghost use Rattle.hwdb_spec.specs.Format.{IsDatabase};
 ghost use Rattle.hwdb_spec.specs.Refusals.{HasReason, IsUnreadAt};
@@ -27,12 +28,12 @@ use crate::answer::Answer;
 use crate::databases::{ETC_FOLDER, USR_FOLDER, found_in};
 use crate::hiding::database_path;
 use crate::progress::masks;
-use hwdb_compile::{ChosenFile, Compiled, compile_chosen};
+use hwdb_compile::{Compiled, compile_chosen};
 use hwdb_fs::{Refusal, System, TextFolders, name_set, selected, with_texts};
 use hwdb_inspect::{Amount, Report, Standing, amount_of, in_order, report_in, standing_of};
 use hwdb_io::MAX_BYTES;
 use hwdb_print::ToolError;
-use hwdb_text::Chosen;
+use hwdb_text::{Chosen, ChosenFile};
 use std::alloc::{AllocError, Global};
 use std::collections::BTreeSet;
 

@@ -7,7 +7,8 @@ ghost use Rattle.hwdb_spec.specs.System as Folder;
 ghost use Rattle.hwdb_spec.specs.Texts.{max_file};
 ghost use Rattle.hwdb_spec.specs.Folders.{Choice};
 ghost use Rattle.hwdb_text.specs.Views.{IsStorableChoice, choice_of};
-ghost use Rattle.hwdb_compile.specs.Views.{ForFolders, choice_in};
+ghost use Rattle.hwdb_compile.specs.Views.{ForFolders};
+ghost use Rattle.hwdb_text.specs.Views.{choice_in};
 ghost use Rattle.hwdb_spec.specs.Runs.{WasCut, files_by, told_by};
 ghost use Rattle.hwdb_spec.specs.UpdateErrors.{IsUpdateRefusal, OnUnreplaced, UpdateUndone};
 ghost use Rattle.hwdb_spec.specs.Done.{OldOrWritten, Updated, IsUpdated, OldOrUpdated, OldOrUpdatedLess};
@@ -21,11 +22,12 @@ ghost use Rattle.hwdb_spec.specs.Undone.{IsSelectedRefused, IsUnwritable};
 use crate::databases::database_folder;
 use crate::printing::say;
 use crate::progress::progress;
-use hwdb_compile::{ChosenFile, compile_chosen};
+use hwdb_compile::compile_chosen;
 use hwdb_fs::{Refusal, Selection, System, path_in, selected_readable, with_texts};
 use hwdb_io::{MAX_BYTES, Sink};
 use hwdb_print::{ToolError, put_in_place};
 use hwdb_replace::{DATABASE, Store, Unreplaced};
+use hwdb_text::ChosenFile;
 use std::alloc::Global;
 
 /// Compiles chosen files, says of them what is to be said, and puts their database in its place in a folder of the

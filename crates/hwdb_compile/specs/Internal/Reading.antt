@@ -7,8 +7,9 @@ use Rattle.std.specs.Option.{option_map_or}
 use Rattle.std.specs.Cmp.Lexicographic.{slice_cmp}
 use Rattle.hwdb_spec.specs.Folders.{FaultIn, file_assignments, file_faults, path_of}
 use Rattle.hwdb_text.specs.Views.{HasNoZero, IsStorable}
-use Rattle.hwdb_compile.specs.Views.{ManyLines, bytes_in, choice_in}
-use Rattle.hwdb_compile.specs.declared.sources.ChosenFile.{ChosenFile}
+use Rattle.hwdb_compile.specs.Views.{ManyLines}
+use Rattle.hwdb_text.specs.Views.{bytes_in, choice_in}
+use Rattle.hwdb_text.specs.declared.choice.ChosenFile.{ChosenFile}
 use Rattle.hwdb_spec.specs.Assignment.{Assignment}
 use Rattle.hwdb_spec.specs.Tree.{Map, surviving}
 use Rattle.hwdb_spec.specs.declared.errors.CompileError.{CompileError}

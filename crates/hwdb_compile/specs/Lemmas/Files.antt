@@ -4,8 +4,9 @@ use Rattle.std.specs.Prelude.{flat_map}
 use Rattle.std.proofs.lemmas.List.Elements.{All-head, All-tail}
 use Rattle.hwdb_spec.specs.Records.{assignments}
 use Rattle.hwdb_spec.specs.Folders.{Choice, Source, all_assignments, contents, file_assignments, path_of}
-use Rattle.hwdb_compile.specs.declared.sources.ChosenFile.{ChosenFile}
-use Rattle.hwdb_compile.specs.Views.{AreChosenOf, bytes_in, choice_in}
+use Rattle.hwdb_text.specs.declared.choice.ChosenFile.{ChosenFile}
+use Rattle.hwdb_compile.specs.Views.{AreChosenOf}
+use Rattle.hwdb_text.specs.Views.{bytes_in, choice_in}
 use Rattle.hwdb_compile.specs.Internal.Reading.{assignments_in}
 
 -- what the chosen files give is what those of the folders give

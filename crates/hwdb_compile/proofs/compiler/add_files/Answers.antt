@@ -3,8 +3,9 @@ use Rattle.std.specs.Prelude.{flat_map}
 use Rattle.std.specs.String.{string_bytes}
 use Rattle.std.proofs.lemmas.List.Elements.{All-push}
 use Rattle.hwdb_text.specs.Views.{IsStorableChoice}
-use Rattle.hwdb_compile.specs.declared.sources.ChosenFile.{ChosenFile}
-use Rattle.hwdb_compile.specs.Views.{FewLines, ManyLines, bytes_in, choice_in, fault_of}
+use Rattle.hwdb_text.specs.declared.choice.ChosenFile.{ChosenFile}
+use Rattle.hwdb_compile.specs.Views.{FewLines, ManyLines, fault_of}
+use Rattle.hwdb_text.specs.Views.{bytes_in, choice_in}
 use Rattle.hwdb_compile.specs.Internal.Reading.{path_in, assignments_in, faults_in, IsFilesRefusal}
 use Rattle.hwdb_compile.proofs.GatherLemmas.{all_at, same_at, as_long, any_here, counted_more, tree_step, list_step}
 use Rattle.hwdb_compile.proofs.AcceptanceLemmas.{error_given, files_refusal}

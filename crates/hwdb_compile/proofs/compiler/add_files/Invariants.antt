@@ -3,7 +3,8 @@ use Rattle.std.specs.Prelude.{flat_map}
 use Rattle.hwdb_spec.specs.Assignment.{Assignment}
 use Rattle.hwdb_spec.specs.Progress.{within_64_bits}
 use Rattle.hwdb_spec.specs.Tree.{surviving}
-use Rattle.hwdb_compile.specs.Views.{FewLines, bytes_in, fault_of}
+use Rattle.hwdb_compile.specs.Views.{FewLines, fault_of}
+use Rattle.hwdb_text.specs.Views.{bytes_in}
 use Rattle.hwdb_compile.specs.Internal.Reading.{assignments_in, faults_in}
 use Rattle.hwdb_compile.proofs.compiler.add_files.Given as goal
 

@@ -1,6 +1,6 @@
 use Rattle.std.proofs.Common.{◌≡◌, map, take, All}
 use Rattle.hwdb_text.specs.Views.{choice_of}
-use Rattle.hwdb_compile.specs.Views.{bytes_in, choice_in}
+use Rattle.hwdb_text.specs.Views.{bytes_in, choice_in}
 use Rattle.hwdb_compile.specs.Internal.Reading.{bytes_at}
 use Rattle.hwdb_compile.proofs.sources.with_bytes.Given as goal
 

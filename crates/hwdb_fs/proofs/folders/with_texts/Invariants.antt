@@ -1,6 +1,6 @@
 use Rattle.std.proofs.Common.{◌≡◌, map, length, take}
 use Rattle.hwdb_text.specs.Views.{choice_of}
-use Rattle.hwdb_compile.specs.Views.{choice_in, bytes_in}
+use Rattle.hwdb_text.specs.Views.{choice_in, bytes_in}
 use Rattle.hwdb_fs.proofs.folders.with_texts.Given as goal
 
 abbrev pub invariant-loop-choice : goal.invariant-loop-choice

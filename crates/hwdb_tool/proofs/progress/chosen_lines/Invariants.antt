@@ -1,7 +1,7 @@
 use Rattle.std.proofs.Common.{◌≡◌, map, string_bytes, take}
 use Rattle.std.specs.Prelude.{flat_map}
 use Rattle.hwdb_spec.specs.Progress.{chosen_line}
-use Rattle.hwdb_compile.specs.Views.{choice_in}
+use Rattle.hwdb_text.specs.Views.{choice_in}
 use Rattle.hwdb_tool.proofs.progress.chosen_lines.Given as goal
 
 abbrev pub invariant-loop-file : goal.invariant-loop-file

@@ -1,6 +1,6 @@
 use Rattle.std.proofs.Common.{List, ap, inl, inr, map, refl, string_bytes, subst, ◌∙◌, ◌≡◌, ◌⊎◌}
 use Rattle.hwdb_compile.specs.Views.{ForFolders}
-use Rattle.hwdb_compile.specs.declared.sources.ChosenFile.{ChosenFile}
+use Rattle.hwdb_text.specs.declared.choice.ChosenFile.{ChosenFile}
 use Rattle.hwdb_spec.specs.Lemmas.Calls.{given_error}
 use Rattle.hwdb_spec.specs.StatusErrors.{AreNotMade, IsNotCompiled}
 use Rattle.hwdb_spec.specs.declared.errors.ToolError.TheVariants.{Memory}

@@ -1,6 +1,7 @@
 use Rattle.std.proofs.Common.{List, ap, inl, inr, map, refl, string_bytes, subst, sym, ◌∙◌}
-use Rattle.hwdb_compile.specs.Views.{ForFolders, choice_in}
-use Rattle.hwdb_compile.specs.declared.sources.ChosenFile.{ChosenFile}
+use Rattle.hwdb_compile.specs.Views.{ForFolders}
+use Rattle.hwdb_text.specs.Views.{choice_in}
+use Rattle.hwdb_text.specs.declared.choice.ChosenFile.{ChosenFile}
 use Rattle.hwdb_spec.specs.Refusals.{HasReason}
 use Rattle.hwdb_spec.specs.Status.{masked_paths}
 use Rattle.hwdb_spec.specs.StatusErrors.{IsNotCompiled}

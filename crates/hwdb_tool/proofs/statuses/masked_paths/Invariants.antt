@@ -1,6 +1,6 @@
 use Rattle.std.proofs.Common.{◌≡◌, map, string_bytes, take}
 use Rattle.std.specs.Prelude.{flat_map}
-use Rattle.hwdb_compile.specs.Views.{choice_in}
+use Rattle.hwdb_text.specs.Views.{choice_in}
 use Rattle.hwdb_spec.specs.Status.{masked_of}
 use Rattle.hwdb_tool.proofs.statuses.masked_paths.Given as goal
 
