@@ -64,6 +64,7 @@
 //! | `NearPrefixes` | of some strings with a prefix and of some patterns with it the two that are nearest |
 //! | `Wanted` | test files, whether a database gives what they want, and what `test` prints |
 //! | `Colours` | how a text is shown in colour |
+//! | `Visible` | what a terminal and a log are shown of bytes that a terminal acts on |
 //! | `Inputs` | what kinds of input device udev sees in one |
 //! | `Lookups` | the strings that udev's rules ask for a device, in their order |
 //! | `DeviceTexts` | what `device` prints: the strings that are asked for a device, and what each gets |

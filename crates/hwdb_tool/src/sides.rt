@@ -35,7 +35,8 @@ use hwdb_text::{Chosen, counts};
 use std::alloc::{AllocError, Global};
 
 /// What the error of a folder without text files says after its path.
-const NO_TEXTS: &str = ": no text file is in it, nor in its etc/udev/hwdb.d or usr/lib/udev/hwdb.d: \
+const NO_TEXTS: &str =
+    ": no text file is in it, nor in its etc/udev/hwdb.d or usr/lib/udev/hwdb.d: \
     name a folder that has one, a text file or a database";
 
 /// The texts before and after the first slash of a path.

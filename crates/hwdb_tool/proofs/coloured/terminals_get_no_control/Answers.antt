@@ -9,6 +9,6 @@ returns-clause-no_control c =
     λ kind text shown bytes is.
     let kept = c.shown_has_no_control.ensures.kept false text bytes in
     let same : without_sequences false shown ≡ visible text =
-        ⊎_elim (λ p. ap (without_sequences false) p ∙ c.shown_has_no_control.ensures.coloured kind text bytes)
-        (λ p. ap (without_sequences false) (p ∙ sym (c.colours_are_taken_out.ensures.plain (visible text))) ∙ c.shown_has_no_control.ensures.coloured Plain text bytes) is in
+    ⊎_elim (λ p. ap (without_sequences false) p ∙ c.shown_has_no_control.ensures.coloured kind text bytes)
+    (λ p. ap (without_sequences false) (p ∙ sym (c.colours_are_taken_out.ensures.plain (visible text))) ∙ c.shown_has_no_control.ensures.coloured Plain text bytes) is in
     ap (are_kept false) same ∙ kept
