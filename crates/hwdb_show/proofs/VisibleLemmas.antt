@@ -1,5 +1,5 @@
 -- What is shown has kept characters alone, and a text that has no others is shown as it is.
-use Rattle.std.proofs.Common.{◌≡◌, ◌≢◌, ◌∙◌, ◌<◌, ◌≤◌, ◌+◌, ◌-◌, ◌/◌, ◌%◌, ◌&&◌, ◌==◌, All, Bool, List, Option, [], ◌∷◌, ◌++◌, ap, ap₂, append_assoc, arith, drop, false, length, ltb-true, refl, subst, suc, sym, take, true, zero, ℕ}
+use Rattle.std.proofs.Common.{◌≡◌, ◌≢◌, ◌∙◌, ◌<◌, ◌≤◌, ◌+◌, ◌-◌, ◌/◌, ◌%◌, ◌&&◌, All, Bool, List, Option, [], ◌∷◌, ◌++◌, ap, ap₂, append_assoc, arith, drop, false, length, ltb-true, refl, subst, suc, sym, take, true, zero, ℕ}
 use Rattle.std.specs.Prelude.{if◌then◌else◌, nat_lt, slice_index}
 use Rattle.std.specs.List.{list_all}
 use lib.Utf8.{low_scalar, scalar, scalar_cases}
@@ -16,7 +16,7 @@ use Rattle.std.proofs.str.Laws.{IsUtf8-append, Shape, both, of1, of2, of3, of4, 
 use Rattle.hex.specs.Hex.{IsBytes, encode_with, lower_digits}
 use Rattle.hwdb_show.specs.Rows.{Rows}
 use Rattle.hwdb_spec.specs.Lemmas.Orders.{not_utf8}
-use Rattle.hwdb_spec.specs.Visible.{are_kept, first_bytes, hex_byte, is_kept, is_layout, shown_as, visible, visible_after}
+use Rattle.hwdb_spec.specs.Visible.{are_kept, first_bytes, hex_byte, is_kept, is_layout, shown_as, visible_after}
 
 both_true : (a b : Bool) → a ≡ true → b ≡ true → (a && b) ≡ true
 both_true true b e f = f
