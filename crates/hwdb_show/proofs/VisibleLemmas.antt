@@ -1,5 +1,5 @@
 -- What is shown has kept characters alone, and a text that has no others is shown as it is.
-use Rattle.std.proofs.Common.{◌≡◌, ◌≢◌, ◌∙◌, ◌<◌, ◌≤◌, ◌+◌, ◌-◌, ◌/◌, ◌%◌, ◌&&◌, ◌==◌, All, Bool, List, Option, [], ◌∷◌, ◌++◌, ap, ap₂, append_assoc, arith, drop, false, length, ltb-true, refl, subst, suc, sym, take, true, zero, ℕ}
+use Rattle.std.proofs.Common.{◌≡◌, ◌≢◌, ◌∙◌, ◌<◌, ◌≤◌, ◌+◌, ◌-◌, ◌/◌, ◌%◌, ◌&&◌, All, Bool, List, Option, [], ◌∷◌, ◌++◌, ap, ap₂, append_assoc, arith, drop, false, length, ltb-true, refl, subst, suc, sym, take, true, zero, ℕ}
 use Rattle.std.specs.Prelude.{if◌then◌else◌, nat_lt, slice_index}
 use Rattle.std.specs.List.{list_all}
 use lib.Utf8.{low_scalar, scalar, scalar_cases}
@@ -16,7 +16,7 @@ use Rattle.std.proofs.str.Laws.{IsUtf8-append, Shape, both, of1, of2, of3, of4, 
 use Rattle.hex.specs.Hex.{IsBytes, encode_with, lower_digits}
 use Rattle.hwdb_show.specs.Rows.{Rows}
 use Rattle.hwdb_spec.specs.Lemmas.Orders.{not_utf8}
-use Rattle.hwdb_spec.specs.Visible.{are_kept, first_bytes, hex_byte, is_kept, is_layout, shown_as, visible, visible_after}
+use Rattle.hwdb_spec.specs.Visible.{are_kept, first_bytes, hex_byte, is_kept, is_layout, shown_as, visible_after}
 
 both_true : (a b : Bool) → a ≡ true → b ≡ true → (a && b) ≡ true
 both_true true b e f = f
@@ -83,7 +83,7 @@ plain_kept n (c ∷ cs) h =
     let here = (both (is_plain c) (list_all is_plain cs) h).0 in
     let small = plain_small c here in
     let first : are_kept n (encode_utf8_all (c ∷ [])) ≡ true =
-        kept_from n (c ∷ []) (scalar_small c small) (both_true _ _ (kept_in_all n c (both (nat_lt c 128) (is_kept true c) here).1) refl) in
+    kept_from n (c ∷ []) (scalar_small c small) (both_true _ _ (kept_in_all n c (both (nat_lt c 128) (is_kept true c) here).1) refl) in
     let is : encode_utf8_all (c ∷ []) ≡ c ∷ [] = ap (λ (l : List ℕ). l ++ []) (one c small) in
     kept_append n (c ∷ []) cs (subst (λ l. are_kept n l ≡ true) is first) (plain_kept n cs (both (is_plain c) (list_all is_plain cs) h).1)
 
@@ -129,10 +129,10 @@ record Led (c : ℕ) : Type 0 where
   pub long : length rest ≡ continuation_len first
 
 led : (c : ℕ) → Shape c → Led c
-led c (of1 h e) = record { first = c; rest = []; is = e; long = grind (arith); }
-led c (of2 a b l h f s e) = record { first = a; rest = b ∷ []; is = e; long = grind (arith); }
-led c (of3 a b d l h f g s e) = record { first = a; rest = b ∷ d ∷ []; is = e; long = grind (arith); }
-led c (of4 a b d x l h f g k s e) = record { first = a; rest = b ∷ d ∷ x ∷ []; is = e; long = grind (arith); }
+led c (of1 h e) = record { first = c; rest = []; is = e; long = grind (arith) }
+led c (of2 a b l h f s e) = record { first = a; rest = b ∷ []; is = e; long = grind (arith) }
+led c (of3 a b d l h f g s e) = record { first = a; rest = b ∷ d ∷ []; is = e; long = grind (arith) }
+led c (of4 a b d x l h f g k s e) = record { first = a; rest = b ∷ d ∷ x ∷ []; is = e; long = grind (arith) }
 
 over : (n : Bool) (front more : List ℕ) → visible_after n (length front) (front ++ more) ≡ front ++ visible_after n 0 more
 unfolding visible_after
@@ -286,9 +286,9 @@ cut_within whole front piece behind a b c is p q =
     let all = sym (ap length is) ∙ length-append (front ++ piece) behind in
     let n = length front + q.0 in
     let same : take n whole ≡ front ++ take q.0 piece =
-        ap (λ (l : List ℕ). take n l) (sym is)
-        ∙ take-append-le n (front ++ piece) behind (omega (arith, q.1, size))
-        ∙ take_past front piece n q.0 refl in
+    ap (λ (l : List ℕ). take n l) (sym is)
+    ∙ take-append-le n (front ++ piece) behind (omega (arith, q.1, size))
+    ∙ take_past front piece n q.0 refl in
     let P : List ℕ → Type 0 = λ l. Appends a c l in
     (n, omega (arith, q.1, size, all), subst P (sym same) (Appends-trans a b c _ _ p q.2))
 
@@ -300,4 +300,4 @@ piece_more whole done piece before after so_far one = append_assoc done piece af
 
 pub rows_are : Rows
 unfolding visible_after is_utf8 chars encode_utf8 encode_with
-rows_are = record { below = refl; csi = refl; letters = refl; cut = refl; name = refl; }
+rows_are = record { below = refl; csi = refl; letters = refl; cut = refl; name = refl }

@@ -1,4 +1,4 @@
-use Rattle.std.proofs.Common.{false, refl}
+use Rattle.std.proofs.Common.{false}
 use Rattle.hwdb_spec.specs.Visible.{visible}
 use Rattle.hwdb_spec.specs.declared.colours.LinePart.TheVariants as part
 use Rattle.hwdb_show.proofs.ColourLemmas.{taken_out}
