@@ -1,5 +1,5 @@
 //! Where a path below a root leads: each link on the way is followed inside the root, as if the root were `/`.
-ghost use Rattle.std.specs.Prelude.{◌≡◌, ◌<◌, ◌==◌, All, None, Some, false, if◌then◌else◌, length, map, option_map, string_bytes, IfErr, IfOk, IfSome};
+ghost use Rattle.std.specs.Prelude.{◌≡◌, ◌<◌, All, None, Some, false, length, map, option_map, string_bytes, IfErr, IfOk, IfSome};
 ghost use Rattle.hwdb_spec.specs.Lines.{has};
 ghost use Rattle.hwdb_spec.specs.Refusals.{IsUnentered};
 ghost use Rattle.hwdb_fs.specs.Roots.{IsBelow, IsName, below};
@@ -121,7 +121,9 @@ pub struct Root {
 
 impl Root {
     /// No root: each path leads where the system has it lead.
-    pub fn none(alloc: Global) -> Root {
+    pub fn none(alloc: Global) -> Root
+        ensures { result.root ≡ None }
+    {
         Root {
             alloc,
             root: None,
@@ -132,13 +134,16 @@ impl Root {
 
     /// This root, of which the caller knows that it is a folder; an empty one is none.
     pub fn below(alloc: Global, root: &str) -> Result<Root, AllocError>
-        ensures { IfOk result (λ r. option_map string_bytes r.root
-            ≡ (if length root.now == 0 then None else Some root.now)) }
+        ensures none { length root.now ≡ 0 → IfOk result (λ r. r.root ≡ None) }
+        ensures named { 0 < length root.now
+            → IfOk result (λ r. option_map string_bytes r.root ≡ Some root.now) }
     {
         let mut below = Root::none(alloc);
-        if !root.is_empty() {
-            below.root = Some(String::from_str(alloc, root)?);
+        if root.is_empty() {
+            return Ok(below);
         }
+        let named = String::from_str(alloc, root)?;
+        below.root = Some(named);
         Ok(below)
     }
 
