@@ -105,7 +105,7 @@ none_between k (x ∷ xs) zero le parted = (
 none_between k (x ∷ xs) (suc i) le parted = (
   ap is_eq (parted.0 0 x (omega arith) (omega arith)),
   none_between k xs i (omega arith)
-  ((λ n d from lt. parted.0 (suc n) d (omega arith) (omega (arith, lt))), λ n d from lt. parted.1 (suc n) d (omega (arith, from)) (omega (arith, lt))),
+      ((λ n d from lt. parted.0 (suc n) d (omega arith) (omega (arith, lt))), λ n d from lt. parted.1 (suc n) d (omega (arith, from)) (omega (arith, lt))),
 )
 
 pub absent_with : (k : List ℕ) (xs : List Found) (i : ℕ) (r : Result ℕ ℕ) → AscendByKey xs → r ≡ Err i → IsSearchInRange r (length xs)
