@@ -4,3 +4,5 @@ pub mod GivenLemmas
 pub mod LawLemmas
 pub mod ComputedRows
 pub mod FileLemmas
+pub mod AboutLemmas
+pub mod TrialLemmas

@@ -4,6 +4,7 @@ ghost use Rattle.hwdb_query.specs.Views.{assignment_of_answer, explained_values}
 ghost use Rattle.hwdb_spec.specs.Answers.{effective_of};
 ghost use Rattle.hwdb_spec.specs.Tree.{answers};
 ghost use Rattle.hwdb_spec.specs.Wanted.{counting, given_of};
+ghost use Rattle.hwdb_expect.specs.Internal.{AscendByKey};
 ghost use Rattle.hwdb_expect.specs.Views.{given_at, pair_at};
 
 use hwdb_query::{Explained, explain, explained_are_effective};
@@ -66,6 +67,7 @@ pub fn found<'a>(
         ≡ counting (answers device.now db.now)) }
     ensures effective { IfOk result (λ found. map pair_at found.items
         ≡ effective_of (answers device.now db.now)) }
+    ensures ascend { IfOk result (λ found. AscendByKey found.items) }
 {
     explained_are_effective();
     let list = explain(alloc, db, device)?;

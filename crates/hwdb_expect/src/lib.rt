@@ -1,13 +1,13 @@
 //! Test files: what is wanted of devices, and whether a database gives it. What `test` says.
 //!
 //! A test file looks like the text files of hwdb(7): records of match lines, which are devices here, and properties. For each
-//! device one descent of the database finds its properties. Each line of the record is then looked at among these.
+//! device one descent of the database finds its properties. Each line of the record then finds those that it is about.
 //!
 //! | Module | What it does |
 //! |---|---|
 //! | `wanted_lines` | what a line wants |
 //! | `given_values` | the properties that a database gives a device, and where from |
-//! | `holding` | whether a line holds |
+//! | `holding` | which of them a line is about, and whether it holds |
 //! | `records` | the records of a test file |
 //! | `malformed_lines` | its malformed lines |
 //! | `failures` | what is printed of a line that doesn't hold |

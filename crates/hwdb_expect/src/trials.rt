@@ -1,14 +1,15 @@
 //! The lines of test files, each tried for each of its devices.
-ghost use Rattle.std.specs.Prelude.{◌≡◌, ◌≤◌, ◌++◌, ◌∷◌, [], false, flat_map, map, IfErr, IfOk, OnOk};
+ghost use Rattle.std.specs.Prelude.{◌≡◌, ◌≤◌, ◌++◌, ◌∷◌, [], List, false, flat_map, map, IfErr, IfOk, OnOk};
 ghost use Rattle.hwdb_spec.specs.CheckErrors.{IsCheckRefusal, IsFileRefusal};
 ghost use Rattle.hwdb_lint.specs.Checks.{source_of};
+ghost use Rattle.hwdb_spec.specs.Lines.{Line};
 ghost use Rattle.hwdb_spec.specs.Wanted;
-ghost use Rattle.hwdb_expect.specs.Internal.{tried_text};
+ghost use Rattle.hwdb_expect.specs.Internal.{AscendByKey, IsApart, tried_text};
 ghost use Rattle.hwdb_expect.specs.Views.{given_at, line_at, pair_at, record_at};
 
 use crate::failures::push_failures;
 use crate::given_values::{GivenValue, found};
-use crate::holding::{about, holds};
+use crate::holding::{about, holds, others};
 use crate::malformed_lines::malformed_of;
 use crate::records::{Record, records_of};
 use crate::wanted_lines::WantedLine;
@@ -46,37 +47,41 @@ pub struct Tested {
     pub status: u8,
 }
 
-/// Tries a line of a record among the properties of a device. The only error, here and below, is `AllocError`.
+/// Tries a line of a record among the properties of a device, of which `others` are those that no line of the record names. The only
+/// error, here and below, is `AllocError`.
 fn try_line(
     alloc: Global,
     form: FileForm<'_>,
     told: &mut Told,
     device: &[u8],
-    all: &[WantedLine<'_>],
     found: &[GivenValue<'_>],
+    others: &[GivenValue<'_>],
     line: &WantedLine<'_>,
 ) -> Result<(), AllocError>
-    ensures text { OnOk result (told.new.text.items ≡ told.old.text.items
-        ++ tried_text form.entry.json form.entry.path.now device.now (map line_at all.now)
+    requires { AscendByKey found.now }
+    ensures text { OnOk result ((all : List Line) → IsApart all found.now others.now
+        → told.new.text.items ≡ told.old.text.items
+        ++ tried_text form.entry.json form.entry.path.now device.now all
         (map given_at found.now) (map pair_at found.now) (line_at line.now)) }
-    ensures held { OnOk result (told.new.held.items ≡ told.old.held.items
-        ++ Wanted.holds (map line_at all.now) (map pair_at found.now) (line_at line.now) ∷ []) }
+    ensures held { OnOk result ((all : List Line) → IsApart all found.now others.now
+        → told.new.held.items ≡ told.old.held.items
+        ++ Wanted.holds all (map pair_at found.now) (line_at line.now) ∷ []) }
 {
-    let fits = holds(all, found, line);
+    let about = about(found, others, line);
+    let fits = holds(line, about);
     told.held.push(fits)?;
-    if !fits {
-        let instead = about(alloc, all, found, line)?;
-        push_failures(
-            alloc,
-            form.json,
-            &mut told.text,
-            form.path,
-            device,
-            line,
-            &instead,
-        )?;
+    if fits {
+        return Ok(());
     }
-    Ok(())
+    push_failures(
+        alloc,
+        form.json,
+        &mut told.text,
+        form.path,
+        device,
+        line,
+        about,
+    )
 }
 
 /// Tries the lines of a record among the properties of a device.
@@ -87,7 +92,9 @@ fn try_lines(
     device: &[u8],
     all: &[WantedLine<'_>],
     found: &[GivenValue<'_>],
+    others: &[GivenValue<'_>],
 ) -> Result<(), AllocError>
+    requires { IsApart (map line_at all.now) found.now others.now }
     ensures text { OnOk result (told.new.text.items ≡ told.old.text.items ++ flat_map
         (tried_text form.entry.json form.entry.path.now device.now (map line_at all.now)
         (map given_at found.now) (map pair_at found.now)) (map line_at all.now)) }
@@ -95,7 +102,7 @@ fn try_lines(
         (Wanted.holds (map line_at all.now) (map pair_at found.now)) (map line_at all.now)) }
 {
     for line in all {
-        try_line(alloc, form, told, device, all, found, line)?;
+        try_line(alloc, form, told, device, found, others, line)?;
     }
     Ok(())
 }
@@ -116,7 +123,8 @@ fn try_device(
         ++ Wanted.device_held (map line_at all.now) db.now device.now) }
 {
     let found = found(alloc, db, device)?;
-    try_lines(alloc, form, told, device, all, &found)
+    let others = others(alloc, all, &found)?;
+    try_lines(alloc, form, told, device, all, &found, &others)
 }
 
 /// Tries a record for each of its devices.
@@ -285,8 +293,8 @@ fn push_end(json: bool, text: &mut Vec<u8>, held: &[bool]) -> Result<(), AllocEr
 /// What the test files say of a database: each line that doesn't hold of a device, or each malformed line of a file. At the end it
 /// says how many. The status is 0 if each line holds, else 1.
 ///
-/// One descent of the tree for each device, and a look at its properties for each line. It is an error if a file has more than
-/// 4,294,967,295 lines, or if an allocation fails.
+/// For each device one descent of the tree, and a set of the keys that the lines of its record name. For each line the property of its
+/// key is found by halving. It is an error if a file has more than 4,294,967,295 lines, or if an allocation fails.
 pub fn test_files(
     alloc: Global,
     db: &Db<'_>,

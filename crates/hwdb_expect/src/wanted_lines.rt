@@ -1,6 +1,5 @@
 //! What a line of a test file wants.
-ghost use Rattle.std.specs.Prelude.{◌≡◌, drop, map};
-ghost use Rattle.std.specs.List.{list_any};
+ghost use Rattle.std.specs.Prelude.{◌≡◌, drop};
 ghost use Rattle.hwdb_spec.specs.Folders;
 ghost use Rattle.hwdb_spec.specs.Lines;
 ghost use Rattle.hwdb_spec.specs.Wanted;
@@ -100,7 +99,7 @@ pub fn tail(text: &[u8]) -> &[u8]
 }
 
 /// The key that a line speaks of.
-fn wanted_key<'b>(line: &WantedLine<'b>) -> &'b [u8]
+pub fn wanted_key<'b>(line: &WantedLine<'b>) -> &'b [u8]
     ensures { result.now ≡ Wanted.wanted_key (line_at line.now) }
 {
     if has_equals(line) {
@@ -122,27 +121,4 @@ pub fn names(key: &[u8], line: &WantedLine<'_>) -> bool
     ensures { result ≡ Wanted.names key.now (line_at line.now) }
 {
     same(key, wanted_key(line))
-}
-
-/// Whether one of some lines does.
-fn any_names(key: &[u8], all: &[WantedLine<'_>]) -> bool
-    ensures { result ≡ list_any (Wanted.names key.now) (map line_at all.now) }
-{
-    for line in all {
-        if names(key, line) {
-            return true;
-        }
-    }
-    false
-}
-
-/// Whether a line is about a property with a key: it names it, or no line of its record does and it is `=`.
-pub fn is_about(all: &[WantedLine<'_>], line: &WantedLine<'_>, key: &[u8]) -> bool
-    ensures { result ≡ Wanted.is_about (map line_at all.now) (line_at line.now) key.now }
-{
-    if wants_no_others(line) {
-        !any_names(key, all)
-    } else {
-        names(key, line)
-    }
 }
