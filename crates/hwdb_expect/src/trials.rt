@@ -222,6 +222,15 @@ fn try_well_formed(
     try_records(alloc, db, FileForm { json, path }, told, &records)
 }
 
+/// The malformed lines of a test file.
+fn malformed_in(alloc: Global, bytes: &[u8]) -> Result<Vec<Fault>, ScanError>
+    ensures malformed { IfOk result (λ wrong. wrong.items ≡ Wanted.malformed bytes.now) }
+    ensures errors { IfErr result (IsFileRefusal bytes.now) }
+{
+    let scanned = scan(alloc, bytes)?;
+    Ok(malformed_of(alloc, bytes, &scanned.faults)?)
+}
+
 /// Tries a test file: says which lines are malformed, or if none is tries its records.
 fn try_file(
     alloc: Global,
@@ -236,8 +245,7 @@ fn try_file(
         ++ Wanted.file_held db.now (source_of file.entry)) }
     ensures errors { IfErr result (IsFileRefusal file.entry.bytes.now) }
 {
-    let scanned = scan(alloc, file.bytes)?;
-    let wrong = malformed_of(alloc, file.bytes, &scanned.faults)?;
+    let wrong = malformed_in(alloc, file.bytes)?;
     if wrong.is_empty() {
         Ok(try_well_formed(alloc, db, json, told, file)?)
     } else {
