@@ -3,7 +3,7 @@ use Rattle.std.proofs.Common.{◌≡◌, ◌∙◌, ap, refl, ℕ, List, [], ◌
 use Rattle.hwdb_spec.specs.Inputs.{Kinds, no_kinds}
 use Rattle.hwdb_spec.specs.Lines.{is_none}
 use Rattle.hwdb_spec.specs.Lookups.{Found, Lookup, Question, Scene, Told, all_asked, asked_in, early_rules, found_for, found_in, input_id_rules, kinds_after, kinds_seen, late_rules, middle_rules}
-use Rattle.hwdb_spec.specs.Sysfs.{Ancestor, written}
+use Rattle.hwdb_spec.specs.Sysfs.{Ancestor, cut_short}
 
 -- a string, and what it gets
 abbrev with_told : (rule : List ℕ) → Question → Told → Found
@@ -48,4 +48,4 @@ module _ (f g : List ℕ → Told) (same : (text : List ℕ) → f text ≡ g te
 
   pub for_same : (machine : List ℕ) (chain : List Ancestor) → found_for f machine chain ≡ found_for g machine chain
   for_same machine [] = refl
-  for_same machine (own ∷ parents) = in_same (record { own = own; chain = own ∷ parents; machine = written machine })
+  for_same machine (own ∷ parents) = in_same (record { own = own; chain = own ∷ parents; machine = cut_short machine })
