@@ -586,6 +586,8 @@ WARNINGS = {
     "long": (b"udev takes at most 2046 bytes from the first *, ? or [ on", b"shorten it: systemd 252 and 257 crash at it, and 262 finds nothing"),
 }
 MOST_SHOWN = 160
+# How many bytes before a place are shown, if the line's front isn't.
+BEFORE_PLACE = 80
 
 
 def shown(text):
@@ -595,9 +597,12 @@ def shown(text):
 
 def report(path, number, what, text, place, hint):
     """A line and the place in it, counted in bytes from 0, between what is said of it and what to do."""
-    cut = b"..." if len(text) > MOST_SHOWN else b""
-    mark = b"    " + b" " * len(shown(text[:place])) + b"^\n" if place < MOST_SHOWN else b""
-    line = b"    " + shown(text[:MOST_SHOWN]) + cut + b"\n"
+    # A long line is shown around its place, if that isn't among the bytes at its front (hwdb(8)).
+    start = place - BEFORE_PLACE if len(text) > MOST_SHOWN and place >= MOST_SHOWN else 0
+    end = start + MOST_SHOWN
+    front, back = b"..." if start > 0 else b"", b"..." if len(text) > end else b""
+    mark = b"    " + b" " * len(front + shown(text[start:place])) + b"^\n"
+    line = b"    " + front + shown(text[start:end]) + back + b"\n"
     return b"%s:%d: %s\n" % (path, number, what) + line + mark + b"    hint: " + hint + b"\n"
 
 
