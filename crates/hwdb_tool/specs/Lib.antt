@@ -8,3 +8,4 @@ pub mod Crash
 pub mod Failures
 pub mod OneOutcome
 pub mod OneRefusal
+pub mod AsBefore

@@ -4,6 +4,8 @@ use Rattle.hwdb_spec.specs.declared.refusals.Refusal.{Refusal}
 use Rattle.hwdb_spec.specs.declared.refusals.Refusal.TheVariants.{Plain}
 use Rattle.hwdb_spec.specs.Outputs.{Texts}
 use Rattle.hwdb_spec.specs.Runs.{Printed, PrintedPart, Told}
+use Rattle.hwdb_plan.specs.Plans.{End}
+use Rattle.hwdb_plan.specs.Plans.End.{Answers}
 use Rattle.hwdb_tool.specs.declared.answer.Answer.{Answer}
 use Rattle.hwdb_spec.specs.declared.errors.ToolError.TheVariants.{Write}
 
@@ -21,3 +23,7 @@ abbrev pub IsNotPrinted : Result Answer Refusal → Refusal → (err_before err_
 IsNotPrinted answer refusal err_before err_now out_before out_now =
     MatchResult answer (λ a. (refusal ≡ Plain Write) × PrintedPart (λ texts. texts ≡ texts_in a) err_before err_now out_before out_now)
     (λ why. (refusal ≡ why) × (err_now ≡ err_before) × (out_now ≡ out_before))
+
+-- what it ends in
+abbrev pub end_of : Answer → End
+end_of a = Answers a.status a.err.items a.out.items

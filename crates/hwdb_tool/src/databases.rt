@@ -8,6 +8,10 @@ ghost use Rattle.hwdb_spec.specs.Refusals.{HasReason, IsUnreadAt, IsUnreadable};
 ghost use Rattle.hwdb_spec.specs.Asked.{IsNamedPath, named_database, IsAskedPath};
 ghost use Rattle.hwdb_spec.specs.NamedDatabases.{IsUnnamed};
 ghost use Rattle.hwdb_spec.specs.Undone.{IsUnfound, IsUnreadableIf};
+ghost use Rattle.hwdb_spec.specs.Told.{IsReadTo};
+ghost use Rattle.hwdb_plan.specs.Asking.{asked, if_read, named};
+ghost use Rattle.hwdb_plan.specs.Plans.{Reaches};
+ghost use Rattle.hwdb_plan.specs.Plans.Plan.{Input};
 
 use hwdb_fs::{Refusal, System, joined, path_in};
 use hwdb_replace::DATABASE;
@@ -28,6 +32,8 @@ pub struct FoundDatabase {
 
 /// The database that is asked: the one of `/etc` below the root, else the one of `/usr/lib`.
 pub fn asked<D: System>(alloc: Global, root: &str, system: &D) -> Result<FoundDatabase, Refusal>
+    ensures follows { D.Store.tells → Reaches (λ f. string_bytes f.path) (λ f. f.bytes.items)
+        (D.System.reads system.now) (asked root.now) result }
     ensures asked { D.Store.tells → IfOk result
         (λ f. asked_database root.now (D.Store.seen system.now) ≡ Some f.bytes.items) }
     ensures path { D.Store.tells → IfOk result
@@ -55,6 +61,10 @@ pub(crate) fn found_in<D: System>(
     folder: &str,
     system: &D,
 ) -> Result<Option<FoundDatabase>, Refusal>
+    ensures told { D.Store.tells → IsReadTo (λ found. option_map (λ f. f.bytes.items) found)
+        ((D.System.reads system.now).database
+        (spec.path_in (root.now ++ folder.now) spec.database_name))
+        (spec.path_in (root.now ++ folder.now) spec.database_name) result }
     ensures found { D.Store.tells → IfOk result (λ found. option_map (λ f. f.bytes.items) found
         ≡ bytes_at (D.Store.seen system.now)
         (spec.path_in (root.now ++ folder.now) spec.database_name)) }
@@ -91,6 +101,9 @@ pub fn named<D: System>(
     given: Option<&str>,
     system: &D,
 ) -> Result<FoundDatabase, Refusal>
+    ensures follows { D.Store.tells → Reaches (λ f. string_bytes f.path) (λ f. f.bytes.items)
+        (D.System.reads system.now) (named (option_map (λ t. t.now) given.entry) root.now)
+        result }
     ensures named { D.Store.tells → IfOk result
         (λ f. named_database (option_map (λ t. t.now) given.entry) root.now
         (D.Store.seen system.now) ≡ Some f.bytes.items) }
@@ -114,6 +127,8 @@ pub fn named<D: System>(
 
 /// What stands at a path.
 fn given_at<D: System>(alloc: Global, path: &str, system: &D) -> Result<FoundDatabase, Refusal>
+    ensures follows { D.Store.tells → Reaches (λ f. string_bytes f.path) (λ f. f.bytes.items)
+        (D.System.reads system.now) (λ next. Input path.now (if_read path.now next)) result }
     ensures bytes { D.Store.tells → IfOk result
         (λ f. bytes_at (D.Store.seen system.now) path.now ≡ Some f.bytes.items) }
     ensures path { IfOk result (λ f. string_bytes f.path ≡ path.now) }

@@ -2,7 +2,11 @@
 ghost use Rattle.std.specs.Prelude.{◌≡◌, is_some, option_map, IfOk, IfErr};
 ghost use Rattle.hwdb_spec.specs.Refusals.{HasReason, IsInWords};
 ghost use Rattle.hwdb_spec.specs.NamedDatabases.{IsDumpRefused, IsOfDump};
-ghost use Rattle.hwdb_tool.specs.Views.{texts_in};
+ghost use Rattle.hwdb_tool.specs.Views.{end_of, texts_in};
+ghost use Rattle.hwdb_spec.specs.Told.{IsStop};
+ghost use Rattle.hwdb_spec.specs.Told.Stop.{Says};
+ghost use Rattle.hwdb_plan.specs.Dump.{dump_plan, dump_stop};
+ghost use Rattle.hwdb_plan.specs.Plans.{Follows};
 ghost use Rattle.hwdb_spec.specs.Asked.{IsDumped, unsayable_text};
 ghost use Rattle.hwdb_spec.specs.Runs.{OnOut};
 ghost use Rattle.hwdb_spec.specs.Undone.{IsUnreadableIf};
@@ -13,10 +17,12 @@ use hwdb_fs::{Refusal, System};
 use hwdb_inspect::DumpError;
 use hwdb_lint::push_shown;
 use hwdb_print::ToolError;
+use hwdb_reader::law_one_tree;
 use std::alloc::{AllocError, Global};
 
 /// The database at the path, or if none is given the one that is asked, as a text file. Refuses bytes that are no
 /// database, and one with an assignment that no text file can say.
+#[tactic(auto, using(hwdb_plan::specs::Lemmas::Steps::stopped))]
 pub fn dump<D: System>(
     alloc: Global,
     root: &str,
@@ -24,6 +30,8 @@ pub fn dump<D: System>(
     system: &D,
 ) -> Result<Answer, Refusal>
     ensures status { IfOk result (λ a. a.status ≡ 0) }
+    ensures follows { D.Store.tells → Follows end_of (D.System.reads system.now)
+        (dump_plan (option_map (λ t. t.now) given.entry) root.now) result }
     ensures dumped { D.Store.tells → IfOk result (λ a. OnOut
         (IsDumped (option_map (λ t. t.now) given.entry) root.now (D.Store.seen system.now))
         (texts_in a)) }
@@ -34,6 +42,7 @@ pub fn dump<D: System>(
         (IsUnreadableIf (is_some (option_map (λ t. t.now) given.entry))
         (D.System.may_fail system.now) (D.Store.seen system.now)) ⊥ (D.Store.seen system.now)) }
 {
+    law_one_tree();
     let found = named(alloc, root, given, system)?;
     match hwdb_inspect::dump(alloc, &found.bytes) {
         Ok(text) => Ok(Answer::new(alloc, text, 0)),
@@ -43,11 +52,12 @@ pub fn dump<D: System>(
 
 /// What is refused if the bytes at the path can't be dumped.
 fn refusal_of(alloc: Global, error: DumpError, path: &[u8]) -> Refusal
-    ensures { IsOfDump error path.now result }
+    ensures refusal { IsOfDump error path.now result }
+    ensures stops { IsStop (dump_stop path.now error) result }
 {
     match error {
         DumpError::Database(fault) => {
-            Refusal::at(alloc, ToolError::BadDatabase(fault), path, None)
+            Refusal::of_cause(alloc, ToolError::BadDatabase(fault), path, None)
         }
         DumpError::Unsayable(pattern) => refused_pattern(alloc, path, &pattern),
         DumpError::Memory => Refusal::from(ToolError::Memory),
@@ -56,7 +66,8 @@ fn refusal_of(alloc: Global, error: DumpError, path: &[u8]) -> Refusal
 
 /// The refusal of a database with an assignment of this pattern that no text says.
 fn refused_pattern(alloc: Global, path: &[u8], pattern: &[u8]) -> Refusal
-    ensures { IsInWords (unsayable_text path.now pattern.now) result }
+    ensures refusal { IsInWords (unsayable_text path.now pattern.now) result }
+    ensures stops { IsStop (Says (unsayable_text path.now pattern.now)) result }
 {
     match unsayable(alloc, path, pattern) {
         Ok(text) => Refusal::InWords(text),

@@ -25,6 +25,7 @@
 //! | `given` | files that words name, or standard input |
 //! | `given_folders` | the text files for which the paths of `check` stand |
 //! | `laws` | what an update and a query after it say together |
+//! | `as_before` | what follows a plan keeps the older promises of its command |
 //! | `one_outcome` | two runs over one input end alike |
 //! | `one_refusal` | so they do with an error, and what it says of standard input is so |
 //! | `crash` | what a crash, a start and a query make of a run |
@@ -36,6 +37,7 @@
 
 mod answer;
 mod answers;
+mod as_before;
 mod besides;
 mod checks;
 mod coloured;
@@ -71,6 +73,7 @@ mod verification;
 
 pub use answer::Answer;
 pub use answers::{ask_file, explain, list};
+pub use as_before::{dump_as_before, verify_as_before};
 pub use checks::check;
 pub use coloured::{Coloured, kind_of, terminals_get_no_control, write_shown};
 pub use crash::{crash_then_query, kill_then_query};

@@ -1,5 +1,6 @@
-use Rattle.std.proofs.Common.{◌∙◌, ap, inl, inr, refl, sym, true, false}
-use Rattle.std.specs.Prelude.{option_map}
+use Rattle.std.proofs.Common.{◌∙◌, ap, inl, inr, option_map, refl, string_bytes, sym, true, false, List, Ok, ℕ}
+use Rattle.hwdb_plan.specs.Lemmas.Asking.{first_found, first_stops, none_found, second_found, second_stops}
+use Rattle.hwdb_tool.specs.declared.databases.FoundDatabase.{FoundDatabase}
 use Rattle.hwdb_spec.specs.Undone.{IsUnfound}
 use Rattle.hwdb_spec.specs.Asked.{database_path}
 use Rattle.hwdb_tool.proofs.AnswerLemmas.{unfound}
@@ -20,3 +21,32 @@ returns-in_err-found-2-clause-refused g c = λ tells.
     given_error c.in_err-found-2.field-0.0 (IsUnfound root seen) c.from_residual-in_err-found-2.result c.from_residual-in_err-found-2.ensures.1
     (unfound root seen (database_path true root) c.in_err-found-2.field-0.0
     (inr (refl, sym (c.in_ok-found.ensures.found tells) ∙ ap (option_map (λ f. f.bytes.items)) c.in_default.is)) (c.in_err-found-2.ensures.refused tells))
+
+abbrev at : FoundDatabase → List ℕ
+at f = string_bytes f.path
+
+abbrev of : FoundDatabase → List ℕ
+of f = f.bytes.items
+
+pub returns-in_err-found-clause-follows : goal.returns-in_err-found-clause-follows
+returns-in_err-found-clause-follows g c = λ tells.
+    first_stops at of (g.D.System.reads c.args.system.now) c.args.root.now c.in_err-found.field-0.0 c.from_residual.result (c.in_err-found.ensures.told tells) c.from_residual.ensures.1
+
+pub returns-in-Some-clause-follows : goal.returns-in-Some-clause-follows
+returns-in-Some-clause-follows g c = λ tells.
+    first_found at of (g.D.System.reads c.args.system.now) c.args.root.now c.in_ok-found.field-0 c.in-Some.found (c.in_ok-found.ensures.told tells) c.in_ok-found.ensures.path c.in-Some.is
+
+pub returns-in_err-found-2-clause-follows : goal.returns-in_err-found-2-clause-follows
+returns-in_err-found-2-clause-follows g c = λ tells.
+    second_stops at of (g.D.System.reads c.args.system.now) c.args.root.now c.in_err-found-2.field-0.0 c.from_residual-in_err-found-2.result
+    (c.in_ok-found.ensures.told tells ∙ ap (λ o. Ok (option_map of o)) c.in_default.is) (c.in_err-found-2.ensures.told tells) c.from_residual-in_err-found-2.ensures.1
+
+pub returns-in-Some-2-clause-follows : goal.returns-in-Some-2-clause-follows
+returns-in-Some-2-clause-follows g c = λ tells.
+    second_found at of (g.D.System.reads c.args.system.now) c.args.root.now c.in_ok-found-2.field-0 c.in-Some-2.found
+    (c.in_ok-found.ensures.told tells ∙ ap (λ o. Ok (option_map of o)) c.in_default.is) (c.in_ok-found-2.ensures.told tells) c.in_ok-found-2.ensures.path c.in-Some-2.is
+
+pub returns-in-None-clause-follows : goal.returns-in-None-clause-follows
+returns-in-None-clause-follows g c = λ tells.
+    inr (none_found (g.D.System.reads c.args.system.now) c.args.root.now (c.in_ok-found.ensures.told tells ∙ ap (λ o. Ok (option_map of o)) c.in_default.is)
+    (c.in_ok-found-2.ensures.told tells ∙ ap (λ o. Ok (option_map of o)) c.in-None.is))

@@ -1,0 +1,7 @@
+use Rattle.hwdb_tool.proofs.AsBeforeLemmas.{verify_as_before}
+use Rattle.hwdb_tool.proofs.as_before.verify_as_before.Goals as goal
+
+pub returns : goal.returns
+returns g c = λ tells.
+    let s = c.args.system.now in
+    λ given root result follows. verify_as_before (g.D.System.reads s) (g.D.Store.seen s) (g.D.System.may_fail s) (g.met.D.System.agrees s tells) given root result follows
