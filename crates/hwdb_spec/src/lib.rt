@@ -34,6 +34,7 @@
 //! | `Findings` | what `check` prints of a file: reports, or lines of JSON |
 //! | `Checks` | what `check` prints, how much it finds, and its status |
 //! | `Progress` | what `update` says of its work |
+//! | `Reloads` | what `query --reload -` says of a database that came in another one's place |
 //! | `ManyDevices` | what `explain` prints of several devices, and a line of devices that is too long |
 //! | `ChangeCounts` | how many changes there are, by file and by key, and what `diff --stat` prints of that |
 //! | `Comparisons` | what `diff` compares, and what it prints, as text or JSON |
