@@ -1,8 +1,8 @@
 //! The database that answers a stream of devices, and the one that replaces it.
-ghost use Rattle.std.specs.Prelude.{◌≡◌, IfOk, IfSome, None, Some, false, string_bytes, true};
+ghost use Rattle.std.specs.Prelude.{◌≡◌, ℕ, IfOk, IfSome, List, None, Some, false, string_bytes, true};
 ghost use Rattle.hwdb_spec.specs.Store as spec;
 ghost use Rattle.hwdb_spec.specs.System.{asked_database};
-ghost use Rattle.hwdb_spec.specs.Reloads.{IsReloadLine, kept_line, taken_line};
+ghost use Rattle.hwdb_spec.specs.Reloads.{kept_line, taken_line};
 ghost use Rattle.hwdb_tool.specs.Reloading.{AreNone, IsCalm};
 
 use crate::databases::{ETC_FOLDER, USR_FOLDER, asked, database_path};
@@ -103,7 +103,7 @@ impl Watch {
 
     /// The line to say if what is there now can't be taken. It is said once.
     fn kept(&mut self, alloc: Global, now: Identities) -> Option<Vec<u8>>
-        ensures { IfSome result (λ line. IsReloadLine line.items) }
+        ensures { IfSome result (λ line. (path : List ℕ) × (line.items ≡ kept_line path)) }
     {
         if self.is_failing {
             return None;
@@ -115,7 +115,7 @@ impl Watch {
 
     /// The line to say if what is there now answers: one, if it was said before that it can't.
     fn taken(&mut self, alloc: Global, now: Identities) -> Option<Vec<u8>>
-        ensures line { IfSome result (λ line. IsReloadLine line.items) }
+        ensures line { IfSome result (λ line. (path : List ℕ) × (line.items ≡ taken_line path)) }
         ensures calm { IsCalm self.old → IsCalm self.new × (result ≡ None) }
     {
         if !self.is_failing {
