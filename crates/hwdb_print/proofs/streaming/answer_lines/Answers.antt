@@ -10,7 +10,7 @@ use Rattle.hwdb_spec.specs.Streams.{texts_of}
 use Rattle.hwdb_spec.specs.declared.errors.ToolError.TheVariants.{Memory, Write}
 use Rattle.hwdb_print.proofs.AnsweredLemmas.{at_start, handed_on, many_before, memory_before, one_more, told_all, told_line, told_long, told_many, told_whole, unread_before, write_before}
 use Rattle.hwdb_print.proofs.LineLemmas.{read_too_long}
-use Rattle.hwdb_print.proofs.StreamLemmas.{none_of, some_of, some_weaker}
+use Rattle.hwdb_print.proofs.StreamLemmas.{heard, none_of, some_of, some_weaker}
 use Rattle.hwdb_print.proofs.streaming.answer_lines.Goals as goal
 
 pub answering-init : goal.answering-init
@@ -23,6 +23,8 @@ answering-init g c = record {
   same_input = refl;
   same_out = refl;
   flushed = λ f. f;
+  quiet = λ _. refl;
+  heard = (refl, λ f. f);
 }
 
 pub returns-in_err-device-clause-too_long : goal.returns-in_err-device-clause-too_long
@@ -107,6 +109,8 @@ answering-preserved g c =
       same_input = c.in_ok-device.ensures.failures ∙ c.answering.invariant.same_input;
       same_out = c.in_ok-write_text.ensures.took.unfailed ∙ c.answering.invariant.same_out;
       flushed = λ _. c.in_ok-write_text.ensures.flushed;
+      quiet = λ s. c.renew.ensures.quiet (c.answering.invariant.stays s) ∙ c.answering.invariant.quiet s;
+      heard = c.renew.ensures.heard c.args.err.now c.answering.invariant.heard;
     }
 
 pub returns-clause-line : goal.returns-clause-line
@@ -120,3 +124,24 @@ returns-clause-before g c = λ stays.
     let is = c.requires.database.1 in
     let Is : List (List ℕ) → List ℕ → Type 0 = λ lines. IsTextOf (texts_of c.args.form lines) (g.R.Renewal.held c.args.database.now) in
     many_before c.args.form t c.answering.counter c.answering.is_first Is (λ lines. record { tree = t; database = is; is = refl }) _ _ _ _ (omega (arith, c.answering-test.false)) (c.answering.invariant.so_far stays t is)
+
+pub returns-in_err-device-clause-err_hands_on : goal.returns-in_err-device-clause-err_hands_on
+returns-in_err-device-clause-err_hands_on g c = heard c.answering.is_heard _ _ _ _ c.answering.invariant.heard
+
+pub returns-in_default-clause-err_hands_on : goal.returns-in_default-clause-err_hands_on
+returns-in_default-clause-err_hands_on g c = heard c.answering.is_heard _ _ _ _ c.answering.invariant.heard
+
+pub returns-in_err-text-clause-quiet : goal.returns-in_err-text-clause-quiet
+returns-in_err-text-clause-quiet g c = λ stays. c.renew.ensures.quiet (c.answering.invariant.stays stays) ∙ c.answering.invariant.quiet stays
+
+pub returns-in_err-text-clause-err_hands_on : goal.returns-in_err-text-clause-err_hands_on
+returns-in_err-text-clause-err_hands_on g c = heard c.renew.result _ _ _ _ (c.renew.ensures.heard c.args.err.now c.answering.invariant.heard)
+
+pub returns-in_err-write_text-clause-quiet : goal.returns-in_err-write_text-clause-quiet
+returns-in_err-write_text-clause-quiet g c = λ stays. c.renew.ensures.quiet (c.answering.invariant.stays stays) ∙ c.answering.invariant.quiet stays
+
+pub returns-in_err-write_text-clause-err_hands_on : goal.returns-in_err-write_text-clause-err_hands_on
+returns-in_err-write_text-clause-err_hands_on g c = heard c.renew.result _ _ _ _ (c.renew.ensures.heard c.args.err.now c.answering.invariant.heard)
+
+pub returns-clause-err_hands_on : goal.returns-clause-err_hands_on
+returns-clause-err_hands_on g c = heard c.answering.is_heard _ _ _ _ c.answering.invariant.heard
