@@ -28,6 +28,7 @@ pub mod Findings
 pub mod Checks
 pub mod Progress
 pub mod ManyDevices
+pub mod Reloads
 pub mod ChangeCounts
 pub mod Comparisons
 pub mod LoneFile
