@@ -1,5 +1,5 @@
 //! The devices of a source, each answered as it comes.
-ghost use Rattle.std.specs.Prelude.{◌≡◌, List, None, IfErr, IfSome, OnOk, IsErrOf};
+ghost use Rattle.std.specs.Prelude.{◌≡◌, List, None, IfErr, IfSome, OnOk, IsErrOf, true};
 ghost use Rattle.std.specs.Io.KnownBytes.{Appends};
 ghost use Rattle.hwdb_spec.specs.Flushing.{HandsOn};
 ghost use Rattle.hwdb_spec.specs.Folders.{Source};
