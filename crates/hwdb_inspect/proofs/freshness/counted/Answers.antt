@@ -5,7 +5,7 @@ use Rattle.hwdb_spec.specs.Status.{amount_of, stale_by}
 use Rattle.hwdb_spec.specs.Summary.{summary_of}
 use Rattle.hwdb_spec.specs.Tree.{IsTree, Tree, map_of, members_under}
 use Rattle.hwdb_inspect.specs.Views.{amount_shown, state_shown}
-use Rattle.hwdb_inspect.proofs.freshness.compared.Goals as goal
+use Rattle.hwdb_inspect.proofs.freshness.counted.Goals as goal
 
 pub walked-requires-clause-old : goal.walked-requires-clause-old
 walked-requires-clause-old c = subst (λ t. IsTree t) (sym c.root.ensures.root) c.requires.old
