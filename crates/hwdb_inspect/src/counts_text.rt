@@ -198,7 +198,7 @@ fn json_of(alloc: Global, of_devices: bool, stat: Stat<'_>) -> Result<Vec<u8>, A
 {
     let mut json = Writer::new(Vec::new(alloc));
     put_stat(&mut json, of_devices, stat)?;
-    ended(json)
+    ended(alloc, json)
 }
 
 /// The counts as text or JSON, of devices if devices were asked for.
