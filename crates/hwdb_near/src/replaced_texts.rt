@@ -86,7 +86,7 @@ fn push_masked(text: &mut Vec<u8>, path: &[u8]) -> Result<(), AllocError>
 {
     text.extend_from_slice(b"masked")?;
     text.extend_from_slice(b": ")?;
-    text.extend_from_slice(path)?;
+    push_name(text, path)?;
     text.push(b'\n')?;
     Ok(())
 }

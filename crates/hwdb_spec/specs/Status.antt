@@ -18,6 +18,7 @@ use Rattle.hwdb_spec.specs.Summary.{Summary, count_line, summary_of}
 use Rattle.hwdb_spec.specs.System.{AreFilesIn, asked_database, bytes_at, etc_files, usr_files}
 use Rattle.hwdb_spec.specs.Texts.{max_file}
 use Rattle.hwdb_spec.specs.Tree.{Map, Tree, map_of, map_of_files}
+use Rattle.hwdb_spec.specs.Visible.{shown_name}
 use Rattle.hwdb_spec.specs.Written.{IsWritten}
 
 -- ---- how a database is, beside what the text files make
@@ -112,9 +113,9 @@ state_word Broken = codes "no database"
 state_word Fresh = codes "fresh"
 state_word (Stale changes first) = codes "stale"
 
--- a line: a name, `: ` and a text
+-- a line: a name, `: ` and a text, which may be a path, as names are shown
 abbrev pub said_line : (name text : List ℕ) → List ℕ
-said_line name text = name ++ (codes ": " ++ (text ++ byte "\n" ∷ []))
+said_line name text = name ++ (codes ": " ++ (shown_name text ++ byte "\n" ∷ []))
 
 -- the same of a text that there may be
 abbrev pub said_if : (name : List ℕ) → Option (List ℕ) → List ℕ
