@@ -4,6 +4,9 @@ use Rattle.std.specs.Fmt.{digits}
 use Rattle.hwdb_spec.specs.Lines.{pieces, trimmed, numbered}
 use Rattle.hwdb_spec.specs.Records.{behind, first_section, sections_from}
 use Rattle.hwdb_spec.specs.Wanted.{records_from}
+use Rattle.hwdb_spec.specs.Visible.{visible_after}
+use Rattle.std.specs.Str.{is_utf8, chars}
+use Rattle.std.specs.Char.{encode_utf8}
 use Rattle.hwdb_expect.specs.Rows.{AssignRows, FileRows, HoldRows, MalformedRows, TextRows}
 
 pub hold_rows : HoldRows
@@ -22,5 +25,5 @@ unfolding pieces trimmed numbered behind first_section sections_from
 malformed_rows = refl
 
 pub text_rows : TextRows
-unfolding digits
+unfolding digits visible_after is_utf8 chars encode_utf8
 text_rows = refl

@@ -9,6 +9,7 @@ use Rattle.hwdb_spec.specs.Answers.{effective_of}
 use Rattle.hwdb_spec.specs.Json.{json_text}
 use Rattle.hwdb_spec.specs.Lines.{Line}
 use Rattle.hwdb_spec.specs.Texts.{place_text}
+use Rattle.hwdb_spec.specs.Visible.{shown_name}
 use Rattle.hwdb_spec.specs.Wanted.{GivenValue, about, counting, device_line, failed, failure, failure_json, failures, given_line, held, holds, wanted_line, wanted_text}
 use Rattle.hwdb_expect.specs.Laws.{FailingIsTold, HoldingIsSilent, ZeroIfAllHold}
 
@@ -25,7 +26,7 @@ failure_is_some : (json : Bool) (path device : List ℕ) (l : Line) (given : Opt
 failure_is_some true path device l given = some_more (json_text (failure_json path device l given)) 10 []
 failure_is_some false path device l given =
     some_before (wanted_line path l) (device_line device ++ given_line given)
-    (some_before (place_text path l.number) (codes ": wanted " ++ (wanted_text l ++ 10 ∷ [])) (some_more path 58 (decimal l.number)))
+    (some_before (place_text path l.number) (codes ": wanted " ++ (wanted_text l ++ 10 ∷ [])) (some_more (shown_name path) 58 (decimal l.number)))
 
 failures_are_some : (json : Bool) (path device : List ℕ) (l : Line) (instead : List GivenValue) → failures json path device l instead ≢ []
 failures_are_some json path device l [] = failure_is_some json path device l None

@@ -7,6 +7,7 @@ ghost use Rattle.hwdb_expect.specs.Views.{given_at, line_at};
 use crate::given_values::GivenValue;
 use crate::json_lines::push_json;
 use crate::wanted_lines::{WantedLine, property_of, wants_no_others};
+use hwdb_show::push_name;
 use itoa::Buffer;
 use std::alloc::{AllocError, Global};
 
@@ -26,7 +27,7 @@ fn push_place(text: &mut Vec<u8>, path: &[u8], line: u64) -> Result<(), AllocErr
     ensures { OnOk result (text.new.items ≡ text.old.items ++ place_text path.now line) }
 {
     let mut digits = Buffer::new();
-    text.extend_from_slice(path)?;
+    push_name(text, path)?;
     text.push(b':')?;
     text.extend_from_slice(digits.format(line).as_bytes())?;
     Ok(())

@@ -85,7 +85,7 @@ fn failure_line(
 {
     let mut json = Writer::new(Vec::new(alloc));
     put_failure(&mut json, path, device, line, given)?;
-    ended(json)
+    ended(alloc, json)
 }
 
 /// Adds the line of JSON.

@@ -8,6 +8,7 @@ use crate::amounts::{Amount, push_amount_if};
 use crate::freshness::State;
 use crate::json_reports::report_line;
 use crate::verification::push_count;
+use hwdb_show::push_name;
 use std::alloc::{AllocError, Global};
 
 /// What `status` reports.
@@ -102,13 +103,13 @@ fn state_note(bare: bool, state: &State) -> &'static str
     }
 }
 
-/// Adds a line: a name and a text. The only error, here and below, is `AllocError`.
+/// Adds a line: a name and a text, as names are shown. The only error, here and below, is `AllocError`.
 fn push_line(text: &mut Vec<u8>, name: &str, said: &[u8]) -> Result<(), AllocError>
     ensures { OnOk result (text.new.items ≡ text.old.items ++ said_line name.now said.now) }
 {
     text.extend_from_slice(name.as_bytes())?;
     text.extend_from_slice(b": ")?;
-    text.extend_from_slice(said)?;
+    push_name(text, said)?;
     text.push(b'\n')?;
     Ok(())
 }

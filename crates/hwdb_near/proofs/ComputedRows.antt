@@ -9,6 +9,9 @@ use Rattle.hwdb_spec.specs.Lines.{numbered, pieces, trimmed}
 use Rattle.hwdb_spec.specs.Patterns.{bracket_at, byte_then, classes, item_at, items_from, matches, piece_then, some_ending, token_at, tokens_from}
 use Rattle.hwdb_spec.specs.Tree.{some_up_to}
 use Rattle.hwdb_spec.specs.Near.{first_up_to, last_up_to}
+use Rattle.hwdb_spec.specs.Visible.{visible_after}
+use Rattle.std.specs.Str.{is_utf8, chars}
+use Rattle.std.specs.Char.{encode_utf8}
 use Rattle.hwdb_near.specs.Rows.{FileRows, GatheredRows, HeadRows, MarkRows, MaskedRows, MatchingRows, NearestRows, PlaceRows, RatedRows, ReplacedFileRows, ReplacedRows, ReplacedTextRows, StopRows, WordRows}
 
 pub stop_rows : StopRows
@@ -62,5 +65,5 @@ unfolding put ascending
 masked_rows = refl
 
 pub replaced_text_rows : ReplacedTextRows
-unfolding digits
+unfolding digits visible_after is_utf8 chars encode_utf8
 replaced_text_rows = refl

@@ -8,6 +8,7 @@ use Rattle.hwdb_spec.specs.Folders.{Choice, Source, all_assignments, chosen_of, 
 use Rattle.hwdb_spec.specs.Lines.{byte}
 use Rattle.hwdb_spec.specs.Texts.{faults_text}
 use Rattle.hwdb_spec.specs.Tree.{map_of_files}
+use Rattle.hwdb_spec.specs.Visible.{shown_name}
 
 -- a chosen file masks one of /usr/lib, which lists these names
 abbrev pub masks : (listed : List (List ℕ)) → Choice → Bool
@@ -15,7 +16,7 @@ masks listed c = if c.from_etc then lists c.name listed else false
 
 -- the line of a chosen file: its path, and that of the one which it masks
 abbrev pub chosen_line : (listed : List (List ℕ)) → Choice → List ℕ
-chosen_line listed c = path_of c ++ ((if masks listed c then codes " masks /usr/lib/udev/hwdb.d/" ++ c.name else []) ++ byte "\n" ∷ [])
+chosen_line listed c = shown_name (path_of c) ++ ((if masks listed c then codes " masks /usr/lib/udev/hwdb.d/" ++ shown_name c.name else []) ++ byte "\n" ∷ [])
 
 -- a number, or the greatest one of 64 bits if it is larger
 abbrev pub within_64_bits : ℕ → ℕ

@@ -18,6 +18,7 @@ use Rattle.hwdb_spec.specs.Summary.{Summary, count_line, summary_of}
 use Rattle.hwdb_spec.specs.System.{AreFilesIn, asked_database, bytes_at, etc_files, usr_files}
 use Rattle.hwdb_spec.specs.Texts.{max_file}
 use Rattle.hwdb_spec.specs.Tree.{Map, Tree, map_of, map_of_files}
+use Rattle.hwdb_spec.specs.Visible.{shown_name}
 use Rattle.hwdb_spec.specs.Written.{IsWritten}
 
 -- ---- how a database is, beside what the text files make
@@ -137,9 +138,9 @@ state_note true state = codes " (there are no text files)"
 state_note false Alike = codes " (written by another tool)"
 state_note false state = []
 
--- a line: a name, `: ` and a text
+-- a line: a name, `: ` and a text, which may be a path, as names are shown
 abbrev pub said_line : (name text : List ℕ) → List ℕ
-said_line name text = name ++ (codes ": " ++ (text ++ byte "\n" ∷ []))
+said_line name text = name ++ (codes ": " ++ (shown_name text ++ byte "\n" ∷ []))
 
 -- the same of a text that there may be
 abbrev pub said_if : (name : List ℕ) → Option (List ℕ) → List ℕ

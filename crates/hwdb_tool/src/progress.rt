@@ -17,6 +17,7 @@ use hwdb_fs::name_set;
 use hwdb_inspect::{assignments, members_are_the_map};
 use hwdb_lint::push_count;
 use hwdb_reader::{check, law_ascending, law_one_tree};
+use hwdb_show::push_name;
 use hwdb_text::{Chosen, ChosenFile};
 use itoa::Buffer;
 use std::alloc::{AllocError, Global};
@@ -41,10 +42,10 @@ fn push_chosen(
         → text.new.items ≡ text.old.items ++ chosen_line listed (choice_of file.now)) }
 {
     let path = file.path(alloc)?;
-    text.extend_from_slice(path.as_bytes())?;
+    push_name(text, path.as_bytes())?;
     if masks(file, set) {
         text.extend_from_slice(b" masks /usr/lib/udev/hwdb.d/")?;
-        text.extend_from_slice(file.name.as_bytes())?;
+        push_name(text, file.name.as_bytes())?;
     }
     text.push(b'\n')?;
     Ok(())
