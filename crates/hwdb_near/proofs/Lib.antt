@@ -8,3 +8,4 @@ pub mod ReportLemmas
 pub mod MatchingLemmas
 pub mod ReplacedLemmas
 pub mod ComputedRows
+pub mod OnceLemmas

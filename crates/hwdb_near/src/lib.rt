@@ -30,6 +30,7 @@
 
 mod asked;
 mod databases;
+mod each_once;
 mod found;
 mod fronts;
 mod json_lines;
@@ -54,8 +55,8 @@ pub use found::PatternAt;
 pub use fronts::{Stop, stops};
 pub use hwdb_spec::NearError;
 pub use laws::{
-    last_and_replaced_are_all, patterns_are_of_files, replaced_rows, stops_are_computed,
-    worked_rows,
+    last_and_replaced_are_all, none_replaces_itself, patterns_are_of_files, replaced_rows,
+    stops_are_computed, worked_rows,
 };
 pub use patterns::{PatternFile, push_patterns};
 pub use prefixes::push_prefix_report;
