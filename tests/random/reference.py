@@ -840,7 +840,8 @@ def verified(data):
         "depth": depth,
         "bytes": len(data),
     }
-    return b"".join(b"%s: %d\n" % (name.encode(), number) for name, number in counts.items())
+    text = b"".join(b"%s: %d\n" % (name.encode(), number) for name, number in counts.items())
+    return text + (b"warning: udev of systemd 262 refuses a depth of more than 2048\n" if depth > 2048 else b"")
 
 
 CUT = "the file was cut short or written over"
