@@ -3,6 +3,7 @@ mod PrefixLemmas
 pub mod OrderedLemmas
 pub mod NearestLemmas
 pub mod FileLemmas
+pub mod CountLemmas
 pub mod GatheredLemmas
 pub mod ReportLemmas
 pub mod MatchingLemmas
