@@ -148,7 +148,7 @@ fn warning_place(kind: WarningKind, line: &[u8], clean: &[u8]) -> usize
 }
 
 /// Adds the line of a warning.
-fn push_warning_line(
+pub fn push_warning_line(
     text: &mut Vec<u8>,
     path: &[u8],
     number: u64,

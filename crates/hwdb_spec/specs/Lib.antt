@@ -26,6 +26,7 @@ pub mod Kinds
 pub mod Warnings
 pub mod Findings
 pub mod Checks
+pub mod Once
 pub mod Progress
 pub mod ManyDevices
 pub mod Reloads

@@ -33,6 +33,7 @@
 //! | `Warnings` | the warnings of a file, and their reports |
 //! | `Findings` | what `check` prints of a file: reports, or lines of JSON |
 //! | `Checks` | what `check` prints, how much it finds, and its status |
+//! | `Once` | some assignments, each once |
 //! | `Progress` | what `update` says of its work |
 //! | `Reloads` | what `query --reload -` says of a database that came in another one's place |
 //! | `ManyDevices` | what `explain` prints of several devices, and a line of devices that is too long |
