@@ -78,6 +78,7 @@ pub mod DumpErrors
 pub mod CheckErrors
 pub mod AnsweredLines
 pub mod Refusals
+pub mod Told
 pub mod Selected
 pub mod Reading
 pub mod LeftOutTold
