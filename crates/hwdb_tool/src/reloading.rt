@@ -9,6 +9,7 @@ use crate::databases::{ETC_FOLDER, USR_FOLDER, asked, database_path};
 use hwdb_fs::{Identity, System};
 use hwdb_print::Renewal;
 use hwdb_reader::check;
+use hwdb_show::push_name;
 use std::alloc::{AllocError, Global};
 
 /// What is in the places of both databases. If something is in that of `/etc`, the other one isn't looked at: it isn't asked.
@@ -132,7 +133,7 @@ fn kept_line(alloc: Global, path: &str) -> Result<Vec<u8>, AllocError>
     ensures { IfOk result (λ line. line.items ≡ kept_line path.now) }
 {
     let mut line = b"hwdb: ".to_vec(alloc)?;
-    line.extend_from_slice(path.as_bytes())?;
+    push_name(&mut line, path.as_bytes())?;
     line.extend_from_slice(b": no database that can be read is there now; the one before answers. ")?;
     line.extend_from_slice(b"'hwdb verify' says more\n")?;
     Ok(line)
@@ -143,7 +144,7 @@ fn taken_line(alloc: Global, path: &str) -> Result<Vec<u8>, AllocError>
     ensures { IfOk result (λ line. line.items ≡ taken_line path.now) }
 {
     let mut line = b"hwdb: ".to_vec(alloc)?;
-    line.extend_from_slice(path.as_bytes())?;
+    push_name(&mut line, path.as_bytes())?;
     line.extend_from_slice(b": a database is there again, and answers\n")?;
     Ok(line)
 }
