@@ -164,7 +164,8 @@ fn many_cell(kind: Kind, set: ByteSet, token: &[u8], here: u128, next: u128) -> 
 }
 
 /// The row of one byte of the set.
-fn byte_row(kind: Kind, set: ByteSet, tokens: &[&[u8]], cells: Cells) -> Cells
+#[inline(always)]
+fn byte_cells(kind: Kind, set: ByteSet, tokens: &[&[u8]], cells: Cells) -> Cells
     requires kind { Internal.IsKind kind }
     requires row { length cells.row.items ≡ length tokens.now + 1 }
     requires room { length cells.room.items ≡ length tokens.now + 1 }
@@ -186,8 +187,25 @@ fn byte_row(kind: Kind, set: ByteSet, tokens: &[&[u8]], cells: Cells) -> Cells
     }
 }
 
+/// As `byte_cells`. Each kind gets a loop of its own.
+fn byte_row(kind: Kind, set: ByteSet, tokens: &[&[u8]], cells: Cells) -> Cells
+    requires kind { Internal.IsKind kind }
+    requires row { length cells.row.items ≡ length tokens.now + 1 }
+    requires room { length cells.room.items ≡ length tokens.now + 1 }
+    ensures row { result.row.items
+        ≡ Internal.byte_numbers kind set (views tokens.now) cells.row.items }
+    ensures long { length result.row.items ≡ length tokens.now + 1 }
+    ensures room { length result.room.items ≡ length tokens.now + 1 }
+{
+    match kind {
+        Kind::Longest => byte_cells(Kind::Longest, set, tokens, cells),
+        Kind::After(first) => byte_cells(Kind::After(first), set, tokens, cells),
+    }
+}
+
 /// The row of any number of bytes of the set.
-fn many_row(kind: Kind, set: ByteSet, tokens: &[&[u8]], cells: Cells) -> Cells
+#[inline(always)]
+fn many_cells(kind: Kind, set: ByteSet, tokens: &[&[u8]], cells: Cells) -> Cells
     requires kind { Internal.IsKind kind }
     requires row { length cells.row.items ≡ length tokens.now + 1 }
     requires room { length cells.room.items ≡ length tokens.now + 1 }
@@ -206,6 +224,22 @@ fn many_row(kind: Kind, set: ByteSet, tokens: &[&[u8]], cells: Cells) -> Cells
     Cells {
         row: new,
         room: row,
+    }
+}
+
+/// As `many_cells`. Each kind gets a loop of its own.
+fn many_row(kind: Kind, set: ByteSet, tokens: &[&[u8]], cells: Cells) -> Cells
+    requires kind { Internal.IsKind kind }
+    requires row { length cells.row.items ≡ length tokens.now + 1 }
+    requires room { length cells.room.items ≡ length tokens.now + 1 }
+    ensures row { result.row.items
+        ≡ Internal.many_numbers kind set (views tokens.now) cells.row.items }
+    ensures long { length result.row.items ≡ length tokens.now + 1 }
+    ensures room { length result.room.items ≡ length tokens.now + 1 }
+{
+    match kind {
+        Kind::Longest => many_cells(Kind::Longest, set, tokens, cells),
+        Kind::After(first) => many_cells(Kind::After(first), set, tokens, cells),
     }
 }
 
@@ -285,7 +319,8 @@ fn pieces_row(kind: Kind, pieces: &[Piece], tokens: &[&[u8]], cells: Cells) -> C
 }
 
 /// The row of one thing or another, in the room that is there for it.
-fn either_row(
+#[inline(always)]
+fn either_cells(
     kind: Kind,
     tokens: &[&[u8]],
     left: &[u128],
@@ -306,6 +341,26 @@ fn either_row(
         new[at] = either(kind, left[at], other[at]);
     }
     new
+}
+
+/// As `either_cells`. Each kind gets a loop of its own.
+fn either_row(
+    kind: Kind,
+    tokens: &[&[u8]],
+    left: &[u128],
+    other: &[u128],
+    room: Vec<u128>,
+) -> Vec<u128>
+    requires left { length left.now ≡ length tokens.now + 1 }
+    requires other { length other.now ≡ length tokens.now + 1 }
+    requires room { length room.items ≡ length tokens.now + 1 }
+    ensures row { result.items ≡ Internal.either_numbers kind (views tokens.now) left.now other.now }
+    ensures long { length result.items ≡ length tokens.now + 1 }
+{
+    match kind {
+        Kind::Longest => either_cells(Kind::Longest, tokens, left, other, room),
+        Kind::After(first) => either_cells(Kind::After(first), tokens, left, other, room),
+    }
 }
 
 /// The cell of a token before the text's end.

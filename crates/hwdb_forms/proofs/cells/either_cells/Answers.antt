@@ -1,6 +1,6 @@
 use Rattle.std.proofs.Common.{arith, rules, ◌-◌}
 use Rattle.hwdb_forms.proofs.CellLoopLemmas.{either_start, either_kept}
-use Rattle.hwdb_forms.proofs.cells.either_row.Goals as goal
+use Rattle.hwdb_forms.proofs.cells.either_cells.Goals as goal
 
 pub loop-at-init : goal.loop-at-init
 loop-at-init c = record {

@@ -1,6 +1,6 @@
 use Rattle.std.proofs.Common.{arith, rules, ◌-◌}
 use Rattle.hwdb_forms.proofs.CellLoopLemmas.{byte_start, byte_kept}
-use Rattle.hwdb_forms.proofs.cells.byte_row.Goals as goal
+use Rattle.hwdb_forms.proofs.cells.byte_cells.Goals as goal
 
 pub loop-at-init : goal.loop-at-init
 loop-at-init c = record {

@@ -1,7 +1,7 @@
 use Rattle.std.proofs.Common.{◌≡◌, ◌+◌, ◌≤◌, length, drop}
 use Rattle.hwdb_forms.specs.Internal.{views}
 use Rattle.hwdb_forms.specs.Internal.{many_numbers}
-use Rattle.hwdb_forms.proofs.cells.many_row.Given as goal
+use Rattle.hwdb_forms.proofs.cells.many_cells.Given as goal
 
 abbrev pub invariant-loop-at : goal.invariant-loop-at
 invariant-loop-at l = record {

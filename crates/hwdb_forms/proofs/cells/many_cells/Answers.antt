@@ -1,7 +1,7 @@
 use Rattle.std.proofs.Common.{ℕ, ap, arith, get_or, rules, length, ◌-◌, ◌∙◌}
 use Rattle.hwdb_forms.specs.Internal.{either}
 use Rattle.hwdb_forms.proofs.CellLoopLemmas.{cell_read, many_start, many_kept}
-use Rattle.hwdb_forms.proofs.cells.many_row.Goals as goal
+use Rattle.hwdb_forms.proofs.cells.many_cells.Goals as goal
 
 pub loop-at-init : goal.loop-at-init
 loop-at-init c = record {
