@@ -284,4 +284,3 @@ module _ (kind : Kind) where
   fields_kept fs ts old new n at d e h k v =
       let before : old ≡ fields_numbers kind (map (λ field. map (λ way. map piece_of way.now) field.now) (drop (suc at) fs)) ts = subst (λ (i : ℕ). old ≡ fields_numbers kind (map (λ field. map (λ way. map piece_of way.now) field.now) (drop i fs)) ts) e k in
       v ∙ rw (drop-cons fs at d h, before) refl
-

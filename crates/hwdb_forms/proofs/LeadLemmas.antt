@@ -326,6 +326,16 @@ led_stops ps ts us done at d p dead h u k dies led rows f =
     if_alive false x e = refl
     if_alive true x e = cc
 
+pub led_next : (ps : List Piece) (ts us : List Token) (done next at to : ℕ) (d p : Piece) (told : Passed) → done < length ps → next ≡ suc done → us ≡ drop at ts → at ≤ length ts → to ≡ at + piece_size p → p ≡ get_or ps done d
+    → told ≡ passed p us → told ≡ Yes → ((more : List Token) → Led ps (ts ++ more) done at) → (more : List Token) → Led ps (ts ++ more) next to
+led_next ps ts us done next at to d p told h n u w e k t y led more =
+    led_more ps (ts ++ more) (us ++ more) done next at to d p h n (rest_more ts us more at u w) e k (yes_more p us more told t y) (led more)
+
+pub led_ended : (ps : List Piece) (ts us : List Token) (done at : ℕ) (d p : Piece) (told : Passed) (dead : Bool) → done < length ps → us ≡ drop at ts → at ≤ length ts → p ≡ get_or ps done d
+    → told ≡ passed p us → dead ≡ is_no told → ((more : List Token) → Led ps (ts ++ more) done at) → (more : List Token) → Leads ps (ts ++ more) (record { is_dead = dead; pieces = done; tokens = at })
+led_ended ps ts us done at d p told dead h u w k t e led more =
+    led_stops ps (ts ++ more) (us ++ more) done at d p dead h (rest_more ts us more at u w) k (no_more p us more told dead t e) (led more)
+
 -- lists of Rust's, and what they stand for
 pub views_drop : (texts : List (Bor (List ℕ))) (n : ℕ) → views (drop n texts) ≡ drop n (views texts)
 views_drop [] zero = refl

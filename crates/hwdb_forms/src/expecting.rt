@@ -200,11 +200,7 @@ fn word_after(
 }
 
 /// What is told of the first 128 bytes, if no bracket is in the beginning of the pattern.
-fn first_word(
-    alloc: Global,
-    known: &Following<'_>,
-    front: &[u8],
-) -> Result<Word, AllocError>
+fn first_word(alloc: Global, known: &Following<'_>, front: &[u8]) -> Result<Word, AllocError>
     requires { IsAfter front.now known.now }
     ensures { IfOk result (λ word. known.now.is_plain ≡ true → IsWordAfter front.now word) }
 {

@@ -11,9 +11,9 @@ returns-then-lead c = λ i h. no_way_bits (map piece_of c.args.way.now) (fields_
 
 pub returns : goal.returns
 returns c = λ i h.
-    way_bits (map piece_of c.args.way.now) _ (fields_of c.args.fields.now) (views c.args.tokens.now) _ c.lead_of-lead.result c.args.first i c.index.result.now c.pieces_row-cells-2.result.row.items c.in_ok-cells.cells.row.items
+    way_bits (map piece_of c.args.way.now) _ (fields_of c.args.fields.now) (views c.args.tokens.now) _ c.lead_of-lead.result c.args.first i c.index.result.now c.pieces_row-cells.result.row.items c.in_ok-cells.cells.row.items
     c.lead_of-lead.ensures.leads c.if-lead.false
     (ap (map piece_of) (take_rest c.args.way.now c.lead_of-lead.result.pieces) ∙ mapped_drop c.args.way.now c.lead_of-lead.result.pieces)
     (ap views (take_rest c.args.tokens.now c.lead_of-lead.result.tokens) ∙ views_drop c.args.tokens.now c.lead_of-lead.result.tokens)
     (long_views c.args.tokens.now c.lead_of-lead.result.tokens c.lead_of-lead.ensures.tokens) c.requires.ways h
-    (c.in_ok-cells.ensures.row ∙ c.in_ok-row.ensures.row) c.pieces_row-cells-2.ensures.row (first_at c.pieces_row-cells-2.result.row.items c.index.result.now (omega (arith, c.pieces_row-cells-2.ensures.long)) c.index.ensures)
+    (c.in_ok-cells.ensures.row ∙ c.in_ok-row.ensures.row) c.pieces_row-cells.ensures.row (first_at c.pieces_row-cells.result.row.items c.index.result.now (omega (arith, c.pieces_row-cells.ensures.long)) c.index.ensures)
