@@ -330,7 +330,8 @@ fn either_cells(
     requires left { length left.now ≡ length tokens.now + 1 }
     requires other { length other.now ≡ length tokens.now + 1 }
     requires room { length room.items ≡ length tokens.now + 1 }
-    ensures row { result.items ≡ Internal.either_numbers kind (views tokens.now) left.now other.now }
+    ensures row { result.items
+        ≡ Internal.either_numbers kind (views tokens.now) left.now other.now }
     ensures long { length result.items ≡ length tokens.now + 1 }
 {
     let mut new = room;
@@ -354,7 +355,8 @@ fn either_row(
     requires left { length left.now ≡ length tokens.now + 1 }
     requires other { length other.now ≡ length tokens.now + 1 }
     requires room { length room.items ≡ length tokens.now + 1 }
-    ensures row { result.items ≡ Internal.either_numbers kind (views tokens.now) left.now other.now }
+    ensures row { result.items
+        ≡ Internal.either_numbers kind (views tokens.now) left.now other.now }
     ensures long { length result.items ≡ length tokens.now + 1 }
 {
     match kind {
@@ -508,7 +510,8 @@ pub(crate) fn cell_of(
     tokens: &[&[u8]],
 ) -> Result<u128, AllocError>
     requires { Internal.IsKind kind }
-    ensures { IfOk result (λ cell. cell ≡ Internal.form_number kind (views tokens.now) (form_of form)) }
+    ensures { IfOk result (λ cell. cell
+        ≡ Internal.form_number kind (views tokens.now) (form_of form)) }
 {
     let row = fields_row(alloc, kind, form.fields, tokens)?;
     let cells = with_room(alloc, row)?;
@@ -552,7 +555,8 @@ fn fields_bits(
     requires first { first ≤ 128 }
     requires ways { HaveWays (fields_of fields.now) }
     ensures { IfOk result (λ bits. (i : ℕ) → i < 128 → has_bit bits i
-        ≡ head (Forms.fields_row (fields_of fields.now) (followed (views tokens.now) (first + i)))) }
+        ≡ head (Forms.fields_row (fields_of fields.now)
+        (followed (views tokens.now) (first + i)))) }
 {
     if !fields.is_empty() {
         if fields[0].len() == 1 {

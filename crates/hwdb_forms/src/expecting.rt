@@ -231,8 +231,10 @@ fn begins(
     requires known { IsAfter front.now known.now }
     requires last { known.now.is_plain ≡ true → IsWordAfter front.now last.old }
     requires plain { Forms.is_wild byte ≡ false }
-    ensures last { IfOk result (λ met. known.now.is_plain ≡ true → IsWordAfter front.now last.new) }
-    ensures met { IfOk result (λ met. met ≡ Forms.can_begin asked (tokens (front.now ++ byte ∷ []))) }
+    ensures last { IfOk result
+        (λ met. known.now.is_plain ≡ true → IsWordAfter front.now last.new) }
+    ensures met { IfOk result (λ met. met
+        ≡ Forms.can_begin asked (tokens (front.now ++ byte ∷ []))) }
 {
     if !known.is_plain {
         let met = begins_anew(alloc, &known.forms, front, byte)?;
@@ -257,7 +259,8 @@ fn put_expected(
 ) -> Result<(), AllocError>
     requires known { IsAfter front.now known.now }
     requires last { known.now.is_plain ≡ true → IsWordAfter front.now last.old }
-    ensures last { IfOk result (λ done. known.now.is_plain ≡ true → IsWordAfter front.now last.new) }
+    ensures last { IfOk result
+        (λ done. known.now.is_plain ≡ true → IsWordAfter front.now last.new) }
     ensures bytes { IfOk result (λ done. bytes.new.items
         ≡ bytes.old.items ++ filter (Forms.is_expected asked front.now) (byte ∷ [])) }
 {
