@@ -919,7 +919,9 @@ def text_value(text):
 
 
 def json_line(value):
-    return json.dumps(value, ensure_ascii=False, separators=(",", ":")).encode() + b"\n"
+    text = json.dumps(value, ensure_ascii=False, separators=(",", ":"))
+    # What a terminal acts on is escaped too, which json leaves as it is.
+    return re.sub("[\x7f-\x9f]", lambda its: "\\u%04x" % ord(its[0]), text).encode() + b"\n"
 
 
 def properties_json(assignments, device):

@@ -63,7 +63,7 @@ unfolding put put_all escape_byte print_from items_of members_of is_utf8 chars e
 json_row = refl
 
 pub link_rows : LinkRows
-unfolding above first_given last_after pieces after_words count_bits asked_in flag_after strings_from told_value cut_back first_at replaced value_of put put_all
+unfolding above first_given last_after pieces after_words count_bits asked_in flag_after strings_from told_value cut_back first_at replaced value_of put put_all visible_after is_utf8 chars encode_utf8
 link_rows = refl
 
 pub missing_rows : MissingRows

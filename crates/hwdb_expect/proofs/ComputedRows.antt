@@ -4,13 +4,11 @@ use Rattle.std.specs.Fmt.{digits}
 use Rattle.std.specs.Char.{encode_utf8}
 use Rattle.std.specs.Str.{chars, is_utf8}
 use Rattle.json.specs.Print.{escape_byte, print_from}
-use Rattle.hwdb_spec.specs.Json.{items_of, members_of}
+use Rattle.hwdb_spec.specs.Json.{escaped_after, items_of, members_of}
 use Rattle.hwdb_spec.specs.Lines.{pieces, trimmed, numbered}
 use Rattle.hwdb_spec.specs.Records.{behind, first_section, sections_from}
 use Rattle.hwdb_spec.specs.Wanted.{records_from}
 use Rattle.hwdb_spec.specs.Visible.{visible_after}
-use Rattle.std.specs.Str.{chars, is_utf8}
-use Rattle.std.specs.Char.{encode_utf8}
 use Rattle.hwdb_expect.specs.Rows.{AssignRows, FileRows, HoldRows, JsonRows, MalformedRows, TextRows}
 
 pub hold_rows : HoldRows
@@ -33,5 +31,5 @@ unfolding digits visible_after is_utf8 chars encode_utf8
 text_rows = refl
 
 pub json_rows : JsonRows
-unfolding digits escape_byte print_from items_of members_of is_utf8 chars encode_utf8
+unfolding digits escape_byte print_from items_of members_of is_utf8 chars encode_utf8 escaped_after
 json_rows = refl
