@@ -17,6 +17,7 @@ use crate::updates::update;
 use hwdb_fs::{Refusal, System, path_in};
 use hwdb_io::Sink;
 use hwdb_replace::DATABASE;
+use hwdb_show::push_name;
 use std::alloc::{AllocError, Global};
 
 /// The path of the database of a folder below the root.
@@ -32,9 +33,11 @@ fn hiding_line(alloc: Global, root: &str) -> Result<Vec<u8>, AllocError>
     ensures { IfOk result (λ line. line.items ≡ hiding_line root.now) }
 {
     let usr = database_path(alloc, root, true)?;
-    let mut line = database_path(alloc, root, false)?.into_bytes();
+    let etc = database_path(alloc, root, false)?;
+    let mut line = Vec::new(alloc);
+    push_name(&mut line, etc.as_bytes())?;
     line.extend_from_slice(b" hides ")?;
-    line.extend_from_slice(usr.as_bytes())?;
+    push_name(&mut line, usr.as_bytes())?;
     line.extend_from_slice(b": it is asked first\n")?;
     Ok(line)
 }
