@@ -17,6 +17,16 @@ use Rattle.hwdb_text.specs.declared.choice.ChosenFile.{ChosenFile}
 use Rattle.hwdb_inspect.specs.Laws.{MembersAreTheMap}
 use Rattle.hwdb_spec.specs.Lemmas.Lists.{gathered_more, mapped_more}
 
+-- two pieces, added one after another
+pub two_names : (o a b t u : List ℕ) → t ≡ o ++ a → u ≡ t ++ b → u ≡ o ++ (a ++ b)
+two_names o a b t u first second = second ∙ ap (λ l. l ++ b) first ∙ append_assoc o a b
+
+-- four pieces of a line, added one after another
+pub four_names : (a b k e o t u v w : List ℕ) → o ≡ [] → t ≡ o ++ a → u ≡ t ++ b → v ≡ u ++ k → w ≡ v ++ e → w ≡ a ++ (b ++ (k ++ e))
+four_names a b k e o t u v w empty first second third fourth =
+    fourth ∙ ap (λ l. l ++ e) (third ∙ ap (λ l. l ++ k) (second ∙ ap (λ l. l ++ b) (first ∙ ap (λ l. l ++ a) empty)))
+    ∙ append_assoc (a ++ b) k e ∙ append_assoc a b (k ++ e)
+
 -- the pieces of the line that counts, added one after another
 pub kept_pieces : (o a s b k t u y : List ℕ) → t ≡ o ++ (a ++ s) → u ≡ t ++ (b ++ s) → y ≡ u ++ k → y ≡ o ++ (a ++ (s ++ (b ++ (s ++ k))))
 kept_pieces o a s b k t u y first second third =

@@ -3,6 +3,8 @@ ghost use Rattle.std.specs.Prelude.{◌≡◌, ◌++◌, ℕ, List, Option, leng
 ghost use Rattle.std.specs.Fmt.{decimal};
 ghost use Rattle.std.specs.FinMap as finite;
 ghost use Rattle.hwdb_spec.specs.Checks.{count_text};
+ghost use Rattle.hwdb_spec.specs.Folders.{path_of};
+ghost use Rattle.hwdb_spec.specs.Visible.{shown_name};
 ghost use Rattle.hwdb_spec.specs.Progress.{chosen_line, given_count, kept_line, masks, progress_text, too_long_lines};
 ghost use Rattle.hwdb_spec.specs.Tree.{Map};
 ghost use Rattle.hwdb_spec.specs.Written.{IsCompiled, IsDatabaseOf};
@@ -31,6 +33,26 @@ pub(crate) fn masks(file: &Chosen, set: &BTreeSet<&str>) -> bool
     file.from_etc && set.contains(file.name.as_str())
 }
 
+/// Adds the path of a chosen file, as names are shown.
+fn push_path(alloc: Global, text: &mut Vec<u8>, file: &Chosen) -> Result<(), AllocError>
+    ensures { OnOk result
+        (text.new.items ≡ text.old.items ++ shown_name (path_of (choice_of file.now))) }
+{
+    let path = file.path(alloc)?;
+    push_name(text, path.as_bytes())?;
+    Ok(())
+}
+
+/// Adds the path of a file of /usr/lib, as names are shown.
+fn push_masked(text: &mut Vec<u8>, name: &[u8]) -> Result<(), AllocError>
+    ensures { OnOk result (text.new.items ≡ text.old.items
+        ++ (codes " masks /usr/lib/udev/hwdb.d/" ++ shown_name name.now)) }
+{
+    text.extend_from_slice(b" masks /usr/lib/udev/hwdb.d/")?;
+    push_name(text, name)?;
+    Ok(())
+}
+
 /// Adds the line of a chosen file: its path, and that of the one which it masks.
 fn push_chosen(
     alloc: Global,
@@ -41,11 +63,9 @@ fn push_chosen(
     ensures { OnOk result ((listed : List (List ℕ)) → IsNameSet listed set.now
         → text.new.items ≡ text.old.items ++ chosen_line listed (choice_of file.now)) }
 {
-    let path = file.path(alloc)?;
-    push_name(text, path.as_bytes())?;
+    push_path(alloc, text, file)?;
     if masks(file, set) {
-        text.extend_from_slice(b" masks /usr/lib/udev/hwdb.d/")?;
-        push_name(text, file.name.as_bytes())?;
+        push_masked(text, file.name.as_bytes())?;
     }
     text.push(b'\n')?;
     Ok(())

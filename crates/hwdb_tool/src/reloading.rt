@@ -1,8 +1,9 @@
 //! The database that answers a stream of devices, and the one that replaces it.
-ghost use Rattle.std.specs.Prelude.{◌≡◌, ℕ, IfOk, IfSome, List, None, Some, false, string_bytes, true};
+ghost use Rattle.std.specs.Prelude.{◌≡◌, ◌++◌, ℕ, IfOk, IfSome, List, None, Some, codes, false, string_bytes, true};
 ghost use Rattle.hwdb_spec.specs.Store as spec;
 ghost use Rattle.hwdb_spec.specs.System.{asked_database};
 ghost use Rattle.hwdb_spec.specs.Reloads.{kept_line, taken_line};
+ghost use Rattle.hwdb_spec.specs.Visible.{shown_name};
 ghost use Rattle.hwdb_tool.specs.Reloading.{AreNone, IsCalm};
 
 use crate::databases::{ETC_FOLDER, USR_FOLDER, asked, database_path};
@@ -128,25 +129,33 @@ impl Watch {
     }
 }
 
+/// The line that says this of a path.
+fn line_of(alloc: Global, path: &str, said: &[u8]) -> Result<Vec<u8>, AllocError>
+    ensures { IfOk result
+        (λ line. line.items ≡ codes "hwdb: " ++ (shown_name path.now ++ said.now)) }
+{
+    let mut line = b"hwdb: ".to_vec(alloc)?;
+    push_name(&mut line, path.as_bytes())?;
+    line.extend_from_slice(said)?;
+    Ok(line)
+}
+
 /// The line that is said once what came at a path can't be taken.
 fn kept_line(alloc: Global, path: &str) -> Result<Vec<u8>, AllocError>
     ensures { IfOk result (λ line. line.items ≡ kept_line path.now) }
 {
-    let mut line = b"hwdb: ".to_vec(alloc)?;
-    push_name(&mut line, path.as_bytes())?;
-    line.extend_from_slice(b": no database that can be read is there now; the one before answers. ")?;
-    line.extend_from_slice(b"'hwdb verify' says more\n")?;
-    Ok(line)
+    line_of(
+        alloc,
+        path,
+        b": no database that can be read is there now; the one before answers. 'hwdb verify' says more\n",
+    )
 }
 
 /// The line that is said once a database is there again.
 fn taken_line(alloc: Global, path: &str) -> Result<Vec<u8>, AllocError>
     ensures { IfOk result (λ line. line.items ≡ taken_line path.now) }
 {
-    let mut line = b"hwdb: ".to_vec(alloc)?;
-    push_name(&mut line, path.as_bytes())?;
-    line.extend_from_slice(b": a database is there again, and answers\n")?;
-    Ok(line)
+    line_of(alloc, path, b": a database is there again, and answers\n")
 }
 
 /// The bytes of the database that is asked. If it is watched, they are read anew once another file is in its place. As long as
