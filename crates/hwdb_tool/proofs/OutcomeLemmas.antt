@@ -5,6 +5,7 @@ use Rattle.std.specs.Prelude.{if◌then◌else◌, codes}
 use Rattle.std.specs.FinMap as finite
 use Rattle.std.specs.Io.KnownBytes.{Appends}
 use Rattle.std.specs.Option.{option_map_or}
+use Rattle.hwdb_spec.specs.Visible.{shown_name}
 use Rattle.hwdb_spec.specs.Assignment.{Assignment}
 use Rattle.hwdb_spec.specs.Folders.{Source, Choice, FaultIn, all_assignments, chosen_of, contents, faults_of_files, file_assignments, file_faults, path_of}
 use Rattle.hwdb_spec.specs.Format.{IsDatabase}
@@ -74,7 +75,7 @@ module _ (etc usr etc2 usr2 : List Source) (one : IsOneReading etc usr etc2 usr2
 
   one_line : (c : Choice) → chosen_line (names_in usr) c ≡ chosen_line (names_in usr2) c
   unfolding names_in
-  one_line c = ap (λ (b : Bool). path_of c ++ ((if (if c.from_etc then b else false) then codes " masks /usr/lib/udev/hwdb.d/" ++ c.name else []) ++ byte "\n" ∷ [])) (one.named c.name)
+  one_line c = ap (λ (b : Bool). shown_name (path_of c) ++ ((if (if c.from_etc then b else false) then codes " masks /usr/lib/udev/hwdb.d/" ++ shown_name c.name else []) ++ byte "\n" ∷ [])) (one.named c.name)
 
   abbrev progress : (Choice → List ℕ) → List Choice → List Assignment → (Choice → List ℕ) → List ℕ
   progress line chosen all read =

@@ -71,14 +71,14 @@ fn watched<D: System>(
     root: &str,
     reload: bool,
     system: &D,
-) -> Result<Option<Watch>, AllocError>
-    ensures { D.Store.tells → IfOk result (λ watch. IfSome watch IsCalm) }
+) -> Result<Watch, AllocError>
+    ensures { D.Store.tells → IfOk result IsCalm }
 {
     if !reload {
-        return Ok(None);
+        return Ok(Watch::off(alloc));
     }
     let watch = Watch::new(alloc, root, system)?;
-    Ok(Some(watch))
+    Ok(watch)
 }
 
 /// What is refused where the devices of standard input can't be answered from the database at the path.

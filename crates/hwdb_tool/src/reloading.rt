@@ -61,6 +61,8 @@ pub struct Watch {
     bad: Option<Identities>,
     /// Whether it was said that what is there can't be taken.
     is_failing: bool,
+    /// Whether the places are looked at.
+    is_on: bool,
 }
 
 impl Watch {
@@ -77,7 +79,25 @@ impl Watch {
             seen,
             bad: None,
             is_failing: false,
+            is_on: true,
         })
+    }
+
+    /// Looks at no place.
+    pub fn off(alloc: Global) -> Watch
+        ensures { IsCalm result }
+    {
+        Watch {
+            etc: String::new(alloc),
+            usr: String::new(alloc),
+            seen: Identities {
+                etc: None,
+                usr: None,
+            },
+            bad: None,
+            is_failing: false,
+            is_on: false,
+        }
     }
 
     /// What is there now.
@@ -167,8 +187,8 @@ pub struct Asked<'a, D: System> {
     pub system: &'a D,
     /// The bytes.
     pub bytes: Vec<u8>,
-    /// The places that are watched, if any are.
-    pub watch: Option<Watch>,
+    /// The places that are watched.
+    pub watch: Watch,
 }
 
 impl<'a, D: System> Renewal for Asked<'a, D> {
@@ -176,33 +196,33 @@ impl<'a, D: System> Renewal for Asked<'a, D> {
 
     ghost stays = { λ a. D.Store.tells
         × (asked_database a.root.now (D.Store.seen a.system.now) ≡ Some a.bytes.items)
-        × IfSome a.watch IsCalm };
+        × IsCalm a.watch };
 
     fn bytes(&self) -> &[u8] {
         &self.bytes
     }
 
     fn renew(&mut self) -> Option<Vec<u8>> {
-        let Some(watch) = &mut self.watch else {
+        if !self.watch.is_on {
             return None;
-        };
-        let now = watch.identities(self.system);
-        if watch.seen.are(now) {
-            return watch.taken(self.alloc, now);
         }
-        if watch.is_bad(now) {
+        let now = self.watch.identities(self.system);
+        if self.watch.seen.are(now) {
+            return self.watch.taken(self.alloc, now);
+        }
+        if self.watch.is_bad(now) {
             return None;
         }
         let Ok(found) = asked(self.alloc, self.root, self.system) else {
-            return watch.kept(self.alloc, now);
+            return self.watch.kept(self.alloc, now);
         };
         if check(&found.bytes).is_err() {
-            watch.bad = Some(now);
-            return watch.kept(self.alloc, now);
+            self.watch.bad = Some(now);
+            return self.watch.kept(self.alloc, now);
         }
-        watch.seen = now;
-        watch.bad = None;
+        self.watch.seen = now;
+        self.watch.bad = None;
         self.bytes = found.bytes;
-        watch.taken(self.alloc, now)
+        self.watch.taken(self.alloc, now)
     }
 }
