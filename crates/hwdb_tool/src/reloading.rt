@@ -21,6 +21,16 @@ struct Identities {
 }
 
 impl Identities {
+    /// Those of no file.
+    fn none() -> Identities
+        ensures { AreNone result }
+    {
+        Identities {
+            etc: None,
+            usr: None,
+        }
+    }
+
     /// One look at the files, and another one only if nothing is in the place of `/etc`.
     fn new<D: System>(system: &D, etc: &str, usr: &str) -> Identities
         ensures { D.Store.tells → AreNone result }
@@ -90,10 +100,7 @@ impl Watch {
         Watch {
             etc: String::new(alloc),
             usr: String::new(alloc),
-            seen: Identities {
-                etc: None,
-                usr: None,
-            },
+            seen: Identities::none(),
             bad: None,
             is_failing: false,
             is_on: false,
