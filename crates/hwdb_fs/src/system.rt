@@ -1,5 +1,5 @@
 //! What the program asks of a file system.
-ghost use Rattle.std.specs.Prelude.{◌≡◌, ◌≤◌, ℕ, List, Some, IfOk, IfErr, IfSome, OnOk, is_some, map, option_map, string_bytes, vec_len};
+ghost use Rattle.std.specs.Prelude.{◌≡◌, ◌≤◌, ℕ, List, None, Some, IfOk, IfErr, IfSome, OnOk, is_some, map, option_map, string_bytes, vec_len};
 ghost use Rattle.hwdb_spec.specs.Texts.{max_file};
 ghost use Rattle.hwdb_spec.specs.System.{AreNamesIn, bytes_at};
 ghost use Rattle.hwdb_spec.specs.GivenFolders.{IsUnlistedFolder};
@@ -103,9 +103,11 @@ pub trait System: Store {
         None
     }
 
-    /// What tells the file at a path from one that replaces it; None if nothing is there, or it can't be told. No promise
-    /// speaks of it.
-    fn identity(&self, _path: &str) -> Option<Identity> {
+    /// What tells the file at a path from one that replaces it; None if nothing is there, or it can't be told. In a system that
+    /// tells its files nothing is replaced.
+    fn identity(&self, _path: &str) -> Option<Identity>
+        ensures { Self.tells → result ≡ None }
+    {
         None
     }
 

@@ -22,6 +22,7 @@ pub mod ReadLemmas
 pub mod PlacedLemmas
 pub mod StateLemmas
 pub mod ToldLemmas
+pub mod AlikeLemmas
 pub mod ChangeLemmas
 pub mod GiftLemmas
 pub mod ReportLemmas

@@ -1,4 +1,5 @@
 -- What the proofs of this crate speak of.
+pub mod Alike
 pub mod Trails
 pub mod Spellings
 pub mod Walks

@@ -10,7 +10,7 @@ use Rattle.hwdb_spec.specs.Status as status
 use Rattle.hwdb_inspect.specs.declared.amounts.Amount.{Amount}
 use Rattle.hwdb_inspect.specs.declared.amounts.Amount.TheVariants.{Counted, Uncounted}
 use Rattle.hwdb_inspect.specs.declared.freshness.State.{State}
-use Rattle.hwdb_inspect.specs.declared.freshness.State.TheVariants.{Broken, Fresh, Missing, Stale}
+use Rattle.hwdb_inspect.specs.declared.freshness.State.TheVariants.{Alike, Broken, Fresh, Missing, Stale}
 use Rattle.hwdb_inspect.specs.declared.reports.Report.{Report}
 use Rattle.hwdb_inspect.specs.declared.pairs.Pair.{Pair}
 use Rattle.hwdb_inspect.specs.declared.pairs.Pair.TheVariants.{Old, New, Both}
@@ -46,6 +46,7 @@ abbrev pub state_shown : State → status.State
 state_shown Missing = status.State.Missing
 state_shown Broken = status.State.Broken
 state_shown Fresh = status.State.Fresh
+state_shown Alike = status.State.Alike
 state_shown (Stale changes first) = status.State.Stale changes first.items
 
 abbrev pub amount_shown : Amount → status.Amount
@@ -60,6 +61,7 @@ report_shown r = record {
   hidden = option_map amount_shown r.hidden;
   masked = map (λ v. v.items) r.masked.items;
   ignored = map (λ v. v.items) r.ignored.items;
+  bare = r.bare;
   state = state_shown r.state;
-  remedy = r.remedy.items;
+  remedy = option_map (λ v. v.items) r.remedy;
 }

@@ -11,10 +11,13 @@ ghost use Rattle.hwdb_spec.specs.Summary.{different, summary_of};
 ghost use Rattle.hwdb_reader.specs.Unread.{new_file, old_file};
 ghost use Rattle.hwdb_reader.specs.Views.{tree_of};
 ghost use Rattle.hwdb_inspect.specs.Views.{amount_shown, state_shown};
+ghost use Rattle.hwdb_inspect.specs.Internal.Alike;
+ghost use Rattle.hwdb_inspect.specs.Internal.Alike.{IsHow};
 ghost use Rattle.hwdb_inspect.specs.Internal.Counting.{IsHeldFrom, files_in, first_kept};
 ghost use Rattle.hwdb_inspect.specs.Internal.Meeting.{AreFrom, changes_at, old_by};
 
 use crate::abreast::Abreast;
+use crate::alike::are_alike;
 use crate::amounts::{Amount, amount_of};
 use crate::inventory::Inventory;
 use crate::meeting::{Side, is_change, least, pass_over, tell};
@@ -32,7 +35,9 @@ pub enum State {
     Broken,
     /// Its bytes are those that the text files make.
     Fresh,
-    /// They are others.
+    /// They are others that say the same.
+    Alike,
+    /// They are a database that says something else.
     Stale {
         /// How many changes there are from it to what the text files make.
         changes: usize,
@@ -139,8 +144,8 @@ fn walked(alloc: Global, size: usize, old: Node<'_>, new: Node<'_>) -> Result<St
     })
 }
 
-/// How a database of so many bytes is beside another one.
-fn compared(alloc: Global, size: usize, old: &Db<'_>, new: &Db<'_>) -> Result<Standing, AllocError>
+/// The changes of a database to another one, and how much is in it.
+fn counted(alloc: Global, size: usize, old: &Db<'_>, new: &Db<'_>) -> Result<Standing, AllocError>
     requires old { IsTree old.now }
     requires new { IsTree new.now }
     requires few { length (members_under [] old.now) + length (members_under [] new.now) < 2 ^ 64 }
@@ -152,13 +157,68 @@ fn compared(alloc: Global, size: usize, old: &Db<'_>, new: &Db<'_>) -> Result<St
     walked(alloc, size, old.root(), new.root())
 }
 
+/// Whether no change was counted.
+fn is_unchanged(state: &State) -> bool
+    ensures { result ≡ Alike.is_unchanged (state_shown state.now) }
+{
+    match state {
+        State::Stale { changes, .. } => *changes == 0,
+        _ => false,
+    }
+}
+
+/// How a database is beside another one, if each assignment is looked at.
+fn looked_at(alloc: Global, state: State, old: &Db<'_>, new: &Db<'_>) -> Result<State, AllocError>
+    requires old { IsTree old.now }
+    requires new { IsTree new.now }
+    requires counted { state_shown state
+        ≡ stale_by (differences (map_of old.now) (map_of new.now)) }
+    ensures { IfOk result (λ s. IsHow (map_of old.now) (map_of new.now) (state_shown s)) }
+{
+    let same = are_alike(alloc, old, new)?;
+    if same {
+        return Ok(State::Alike);
+    }
+    Ok(state)
+}
+
+/// How a database is beside another one, by the changes that were counted. If there is none, they may say the same. A change is of a
+/// value alone, and so each assignment is looked at.
+fn settled(alloc: Global, state: State, old: &Db<'_>, new: &Db<'_>) -> Result<State, AllocError>
+    requires old { IsTree old.now }
+    requires new { IsTree new.now }
+    requires counted { state_shown state
+        ≡ stale_by (differences (map_of old.now) (map_of new.now)) }
+    ensures { IfOk result (λ s. IsHow (map_of old.now) (map_of new.now) (state_shown s)) }
+{
+    if is_unchanged(&state) {
+        return looked_at(alloc, state, old, new);
+    }
+    Ok(state)
+}
+
+/// How a database of so many bytes is beside another one.
+fn compared(alloc: Global, size: usize, old: &Db<'_>, new: &Db<'_>) -> Result<Standing, AllocError>
+    requires old { IsTree old.now }
+    requires new { IsTree new.now }
+    requires few { length (members_under [] old.now) + length (members_under [] new.now) < 2 ^ 64 }
+    ensures state { IfOk result
+        (λ s. IsHow (map_of old.now) (map_of new.now) (state_shown s.state)) }
+    ensures holds { IfOk result (λ s. option_map amount_shown s.holds
+        ≡ Some (Status.amount_of (summary_of size old.now))) }
+{
+    let Standing { state, holds } = counted(alloc, size, old, new)?;
+    let state = settled(alloc, state, old, new)?;
+    Ok(Standing { state, holds })
+}
+
 /// How a database of so many bytes is beside the bytes of another one, which is a database.
 fn stale(alloc: Global, size: usize, old: &Db<'_>, made: &[u8]) -> Result<Standing, AllocError>
     requires tree { IsTree old.now }
     requires few { length (members_under [] old.now) + length (members_under [] old.now) < size }
     requires made { (t : Tree) × IsDatabase made.now t }
     ensures state { IfOk result (λ s. (m : Map) → IsDatabaseOf m made.now
-        → state_shown s.state ≡ stale_by (differences (map_of old.now) m)) }
+        → IsHow (map_of old.now) m (state_shown s.state)) }
     ensures holds { IfOk result (λ s. option_map amount_shown s.holds
         ≡ Some (Status.amount_of (summary_of size old.now))) }
 {

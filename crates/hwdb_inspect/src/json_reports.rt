@@ -4,7 +4,7 @@ ghost use Rattle.json.specs.Tree.{json_tokens};
 ghost use Rattle.hwdb_spec.specs.Json.{array_of, json_line, text_json};
 ghost use Rattle.hwdb_show.specs.JsonTokens.{tokens_of_member, tokens_of_members};
 ghost use Rattle.hwdb_spec.specs.Status;
-ghost use Rattle.hwdb_spec.specs.Status.{maybe_json, remedy_members, report_json, report_object, stale_members};
+ghost use Rattle.hwdb_spec.specs.Status.{bare_members, maybe_json, remedy_members, report_json, report_object, state_members};
 ghost use Rattle.hwdb_inspect.specs.Views.{report_shown, state_shown};
 
 use crate::amounts::put_amount_at;
@@ -69,13 +69,36 @@ fn without_end(line: &[u8]) -> &[u8]
     }
 }
 
-/// Adds the members that a stale database alone has.
-fn put_stale(json: &mut Writer, state: &State) -> Result<(), AllocError>
+/// Adds the member of a report without text files.
+fn put_bare(json: &mut Writer, bare: bool) -> Result<(), AllocError>
+    ensures before { json.new.before ≡ json.old.before }
+    ensures tokens { OnOk result (json.new.tokens
+        ≡ json.old.tokens ++ tokens_of_members (bare_members bare)) }
+{
+    if bare {
+        put_member(json, "text_files", b"none")
+    } else {
+        Ok(())
+    }
+}
+
+/// Adds that another tool wrote the database.
+fn put_writer(json: &mut Writer) -> Result<(), AllocError>
+    ensures before { json.new.before ≡ json.old.before }
+    ensures tokens { OnOk result (json.new.tokens
+        ≡ json.old.tokens ++ tokens_of_members (state_members Status.State.Alike)) }
+{
+    put_member(json, "written_by", b"another tool")
+}
+
+/// Adds the members of a database that another tool wrote, and of a stale one.
+fn put_state(json: &mut Writer, state: &State) -> Result<(), AllocError>
     ensures before { json.new.before ≡ json.old.before }
     ensures tokens { OnOk result (json.new.tokens ≡ json.old.tokens
-        ++ tokens_of_members (stale_members (state_shown state.now))) }
+        ++ tokens_of_members (state_members (state_shown state.now))) }
 {
     match state {
+        State::Alike => put_writer(json),
         State::Stale { changes, first } => {
             put_count(json, "changes", *changes as u64)?;
             put_member(json, "first", without_end(first))
@@ -84,16 +107,16 @@ fn put_stale(json: &mut Writer, state: &State) -> Result<(), AllocError>
     }
 }
 
-/// Adds what to run, unless the database is fresh and hides none.
-fn put_remedy(json: &mut Writer, report: &Report) -> Result<(), AllocError>
+/// Adds what to run, if there is such a command.
+fn put_remedy(json: &mut Writer, remedy: &Option<Vec<u8>>) -> Result<(), AllocError>
     ensures before { json.new.before ≡ json.old.before }
     ensures tokens { OnOk result (json.new.tokens ≡ json.old.tokens
-        ++ tokens_of_members (remedy_members (report_shown report.now))) }
+        ++ tokens_of_members (remedy_members (option_map (λ t. t.items) remedy.now))) }
 {
-    if report.is_well() {
-        return Ok(());
+    match remedy {
+        Some(remedy) => put_member(json, "run", remedy),
+        None => Ok(()),
     }
-    put_member(json, "run", &report.remedy)
 }
 
 /// Adds the object of a report.
@@ -109,9 +132,14 @@ fn put_report(json: &mut Writer, report: &Report) -> Result<(), AllocError>
     put_amount_at(json, "hidden", report.hidden)?;
     put_texts_at(json, "masked", &report.masked)?;
     put_texts_at(json, "ignored", &report.ignored)?;
-    put_member(json, "state", state_word(&report.state).as_bytes())?;
-    put_stale(json, &report.state)?;
-    put_remedy(json, report)?;
+    put_member(
+        json,
+        "state",
+        state_word(report.bare, &report.state).as_bytes(),
+    )?;
+    put_bare(json, report.bare)?;
+    put_state(json, &report.state)?;
+    put_remedy(json, &report.remedy)?;
     json.end_object()
 }
 
@@ -121,5 +149,5 @@ pub(crate) fn report_line(alloc: Global, report: &Report) -> Result<Vec<u8>, All
 {
     let mut json = Writer::new(Vec::new(alloc));
     put_report(&mut json, report)?;
-    ended(json)
+    ended(alloc, json)
 }

@@ -17,7 +17,7 @@
 //! | `difference` | `diff`: what changed from one database to another, of all or for devices |
 //! | `summary` | how much is in a database |
 //! | `texts` | whether texts are one; `ordering`: texts in order, each once |
-//! | `freshness` | `status`: how a database is beside what the text files make |
+//! | `freshness` | `status`: how a database is beside what the text files make; `alike`: whether two databases assign the same |
 //! | `amounts` | how much is in a database, as `status` says it; `inventory`: what is counted for it |
 //! | `reports` | the lines of `status`; `json_reports`: the same as JSON |
 //! | `verification` | `verify`: whether bytes are a database, and how much is in it |
@@ -29,6 +29,7 @@
 #![tactic(auto)]
 
 mod abreast;
+mod alike;
 mod amounts;
 mod counting;
 mod counts_text;
@@ -64,6 +65,6 @@ pub use hwdb_spec::{DiffError, DumpError, VerifyError};
 pub use laws::{dump_says, dump_tells, gifts_are_effective, members_are_the_map};
 pub use listing::dump;
 pub use ordering::in_order;
-pub use reports::{Report, report_in};
+pub use reports::{Report, is_well, report_in};
 pub use verification::verify;
 pub use walk::assignments;

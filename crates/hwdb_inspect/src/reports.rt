@@ -1,13 +1,14 @@
 //! The lines of `status`.
-ghost use Rattle.std.specs.Prelude.{◌≡◌, ◌≤◌, ◌++◌, codes, flat_map, map, option_map, unwrap_or, IfOk, OnOk};
+ghost use Rattle.std.specs.Prelude.{◌≡◌, ◌≤◌, ◌++◌, ℕ, List, Option, codes, flat_map, if◌then◌else◌, is_some, map, option_map, unwrap_or, IfOk, OnOk};
 ghost use Rattle.hwdb_spec.specs.Status;
-ghost use Rattle.hwdb_spec.specs.Status.{amount_line, changes_lines, first_line, is_well, remedy_line, report_form, report_text, said_if, said_line, status_of};
+ghost use Rattle.hwdb_spec.specs.Status.{amount_line, changes_lines, first_line, remedy_line, report_form, report_text, said_if, said_line, status_of, words_line};
 ghost use Rattle.hwdb_inspect.specs.Views.{report_shown, state_shown};
 
 use crate::amounts::{Amount, push_amount_if};
 use crate::freshness::State;
 use crate::json_reports::report_line;
 use crate::verification::push_count;
+use hwdb_show::push_name;
 use std::alloc::{AllocError, Global};
 
 /// What `status` reports.
@@ -25,52 +26,90 @@ pub struct Report {
     pub masked: Vec<Vec<u8>>,
     /// The paths of files that are none, by their names.
     pub ignored: Vec<Vec<u8>>,
+    /// Whether there are no text files.
+    pub bare: bool,
     /// The state of the database that is asked.
     pub state: State,
-    /// The command after which it is fresh and hides none.
-    pub remedy: Vec<u8>,
+    /// The command after which it is fresh and hides none, if there is one.
+    pub remedy: Option<Vec<u8>>,
 }
 
 impl Report {
-    /// Whether the database is fresh and hides none.
-    pub(crate) fn is_well(&self) -> bool
-        ensures { result ≡ is_well (state_shown self.now.state)
-            (option_map (λ t. t.items) self.now.hides) }
-    {
-        match (&self.state, &self.hides) {
-            (State::Fresh, None) => true,
-            _ => false,
-        }
-    }
-
-    /// The status: 0 if the database is fresh and hides none, else 1.
+    /// The status: 0 if the database is fresh and hides none, and there are text files, else 1.
     pub fn status(&self) -> u8
         ensures is { result ≡ status_of (report_shown self.now) }
         ensures small { result ≤ 1 }
     {
-        if self.is_well() { 0 } else { 1 }
+        if is_well(self.bare, &self.state, self.hides.is_some()) {
+            0
+        } else {
+            1
+        }
     }
 }
 
+/// Whether a database says what the text files say.
+fn is_fresh(state: &State) -> bool
+    ensures { result ≡ Status.is_fresh (state_shown state.now) }
+{
+    match state {
+        State::Fresh => true,
+        State::Alike => true,
+        _ => false,
+    }
+}
+
+/// Whether the database is fresh and hides none, and there are text files.
+pub fn is_well(bare: bool, state: &State, hides: bool) -> bool
+    ensures { (path : Option (List ℕ)) → hides ≡ is_some path
+        → result ≡ Status.is_well bare (state_shown state.now) path }
+{
+    if bare || hides {
+        return false;
+    }
+    is_fresh(state)
+}
+
+/// The word of a database that says what the text files say.
+fn fresh_word(bare: bool) -> &'static str
+    ensures { result.now ≡ (if bare then codes "empty" else codes "fresh") }
+{
+    if bare { "empty" } else { "fresh" }
+}
+
 /// The word of a state.
-pub(crate) fn state_word(state: &State) -> &'static str
-    ensures { result.now ≡ Status.state_word (state_shown state.now) }
+pub(crate) fn state_word(bare: bool, state: &State) -> &'static str
+    ensures { result.now ≡ Status.state_word bare (state_shown state.now) }
 {
     match state {
         State::Missing => "missing",
         State::Broken => "no database",
-        State::Fresh => "fresh",
+        State::Fresh => fresh_word(bare),
+        State::Alike => fresh_word(bare),
         State::Stale { .. } => "stale",
     }
 }
 
-/// Adds a line: a name and a text. The only error, here and below, is `AllocError`.
+/// What is said after it.
+fn state_note(bare: bool, state: &State) -> &'static str
+    ensures { result.now ≡ Status.state_note bare (state_shown state.now) }
+{
+    if bare {
+        return " (there are no text files)";
+    }
+    match state {
+        State::Alike => " (written by another tool)",
+        _ => "",
+    }
+}
+
+/// Adds a line: a name and a text, as names are shown. The only error, here and below, is `AllocError`.
 fn push_line(text: &mut Vec<u8>, name: &str, said: &[u8]) -> Result<(), AllocError>
     ensures { OnOk result (text.new.items ≡ text.old.items ++ said_line name.now said.now) }
 {
     text.extend_from_slice(name.as_bytes())?;
     text.extend_from_slice(b": ")?;
-    text.extend_from_slice(said)?;
+    push_name(text, said)?;
     text.push(b'\n')?;
     Ok(())
 }
@@ -164,27 +203,31 @@ fn push_changes(text: &mut Vec<u8>, state: &State) -> Result<(), AllocError>
     }
 }
 
-/// Adds what to run, unless the database is fresh and hides none.
-fn push_remedy(text: &mut Vec<u8>, report: &Report) -> Result<(), AllocError>
-    ensures { OnOk result
-        (text.new.items ≡ text.old.items ++ remedy_line (report_shown report.now)) }
+/// Adds the line of a state.
+fn push_word(text: &mut Vec<u8>, bare: bool, state: &State) -> Result<(), AllocError>
+    ensures { OnOk result (text.new.items ≡ text.old.items ++ words_line (codes "state")
+        (Status.state_word bare (state_shown state.now)
+        ++ Status.state_note bare (state_shown state.now))) }
 {
-    if report.is_well() {
-        return Ok(());
-    }
-    push_line(text, "run", &report.remedy)
+    text.extend_from_slice(b"state: ")?;
+    text.extend_from_slice(state_word(bare, state).as_bytes())?;
+    text.extend_from_slice(state_note(bare, state).as_bytes())?;
+    text.push(b'\n')?;
+    Ok(())
 }
 
 /// Adds the lines of the state, and what to run.
 fn push_state(text: &mut Vec<u8>, report: &Report) -> Result<(), AllocError>
     ensures { OnOk result (text.new.items ≡ text.old.items
-        ++ (said_line (codes "state") (Status.state_word (state_shown report.now.state))
+        ++ (words_line (codes "state")
+        (Status.state_word report.now.bare (state_shown report.now.state)
+        ++ Status.state_note report.now.bare (state_shown report.now.state))
         ++ (changes_lines (state_shown report.now.state)
         ++ remedy_line (report_shown report.now)))) }
 {
-    push_line(text, "state", state_word(&report.state).as_bytes())?;
+    push_word(text, report.bare, &report.state)?;
     push_changes(text, &report.state)?;
-    push_remedy(text, report)
+    push_if(text, "run", &report.remedy)
 }
 
 /// The report as lines.

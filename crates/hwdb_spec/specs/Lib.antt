@@ -26,8 +26,10 @@ pub mod Kinds
 pub mod Warnings
 pub mod Findings
 pub mod Checks
+pub mod Once
 pub mod Progress
 pub mod ManyDevices
+pub mod Reloads
 pub mod ChangeCounts
 pub mod Comparisons
 pub mod LoneFile

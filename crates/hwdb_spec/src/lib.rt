@@ -33,8 +33,10 @@
 //! | `Warnings` | the warnings of a file, and their reports |
 //! | `Findings` | what `check` prints of a file: reports, or lines of JSON |
 //! | `Checks` | what `check` prints, how much it finds, and its status |
+//! | `Once` | some assignments, each once |
 //! | `Progress` | what `update` says of its work |
 //! | `ManyDevices` | what `explain` prints of several devices, and a line of devices that is too long |
+//! | `Reloads` | what `query --reload -` says of a database that came in another one's place |
 //! | `ChangeCounts` | how many changes there are, by file and by key, and what `diff --stat` prints of that |
 //! | `Comparisons` | what `diff` compares, and what it prints, as text or JSON |
 //! | `LoneFile` | one text file alone, as `ask` reads it and `dump` writes it |

@@ -1,8 +1,8 @@
 -- What `status` says is one, and what it refuses.
-use Rattle.std.proofs.Common.{◌≡◌, ◌≤◌, ◌∙◌, ◌++◌, ◌∷◌, [], ap, inl, inr, refl, sym, subst, Bool, true, false, IfSome, List, flat_map, length, map, ℕ, Option, Some, None}
+use Rattle.std.proofs.Common.{◌≡◌, ◌≤◌, ◌∙◌, ◌++◌, ◌∷◌, ◌==◌, [], ap, arith, ne_eqb, inl, inr, refl, sym, subst, Bool, true, false, IfSome, List, flat_map, length, map, ℕ, Option, Some, None}
 use Rattle.std.proofs.Math.Path.{fun_ext}
 use Rattle.std.proofs.lemmas.List.Elements.{All-contains}
-use Rattle.std.specs.Prelude.{codes, if◌then◌else◌, is_some}
+use Rattle.std.specs.Prelude.{◌≢◌, codes, if◌then◌else◌, is_some}
 use Rattle.std.specs.Option.{option_or}
 use Rattle.hwdb_compile.specs.Views.{ForFolders}
 use Rattle.hwdb_text.specs.Views.{choice_in}
@@ -17,9 +17,9 @@ use Rattle.hwdb_spec.specs.Summary.{summary_of}
 use Rattle.hwdb_spec.specs.Texts.{max_file}
 use Rattle.hwdb_text.specs.Lemmas.Ascending.{ascending_holds, ascending_ordered, holds_ascending, one_list}
 use Rattle.hwdb_text.specs.Lemmas.Members.{Holds, held, holds_it}
-use Rattle.hwdb_spec.specs.Status.{Amount, IsAmount, IsAmountOf, IsMade, IsState, IsStateOf, IsStatus, Report, State, amount_of, has_database, hidden_database, ignored_paths, masked_of, masked_paths, report_form, report_of, stale_by, status_of}
+use Rattle.hwdb_spec.specs.Status.{Amount, IsAmount, IsAmountOf, IsMade, IsOfMap, IsState, IsStateOf, IsStatus, Report, State, amount_of, has_database, hidden_database, ignored_paths, is_bare, masked_of, masked_paths, report_form, report_of, stale_by, status_of}
 use Rattle.hwdb_spec.specs.Status.Amount.{Counted, Uncounted}
-use Rattle.hwdb_spec.specs.Status.State.{Broken, Fresh, Missing, Stale}
+use Rattle.hwdb_spec.specs.Status.State.{Alike, Broken, Fresh, Missing, Stale}
 use Rattle.hwdb_spec.specs.Asked.{database_path}
 use Rattle.hwdb_spec.specs.Differences.{differences}
 use Rattle.hwdb_spec.specs.Folders.{Choice, Source, chosen_of}
@@ -40,21 +40,33 @@ use Rattle.hwdb_tool.proofs.OutcomeLemmas.{one_map}
 
 -- bytes have one state
 module _ (tree : (bytes : List ℕ) (t u : Tree) → IsDatabase bytes t → IsDatabase bytes u → t ≡ u) (made : List ℕ) (m : Map) where
+  -- the tree of a database of the map has that map
+  of_map : (bytes : List ℕ) → IsOfMap m bytes → (t : Tree) → IsDatabase bytes t → map_of t ≢ m → ⊥
+  of_map bytes one t is other = other (ap map_of (tree bytes t one.0 is one.1) ∙ one.2)
+
   state_of_bytes : (bytes : List ℕ) (s t : State) → IsStateOf made m bytes s → IsStateOf made m bytes t → s ≡ t
   state_of_bytes bytes Missing t one two = absurd one
   state_of_bytes bytes Fresh Missing one two = absurd two
   state_of_bytes bytes Fresh Fresh one two = refl
   state_of_bytes bytes Fresh Broken one two = absurd (two.0 one)
+  state_of_bytes bytes Fresh Alike one two = absurd (two.0 one)
   state_of_bytes bytes Fresh (Stale n first) one two = absurd (two.0 one)
   state_of_bytes bytes Broken Missing one two = absurd two
   state_of_bytes bytes Broken Fresh one two = absurd (one.0 two)
   state_of_bytes bytes Broken Broken one two = refl
+  state_of_bytes bytes Broken Alike one two = absurd (one.1 two.1.0 two.1.1)
   state_of_bytes bytes Broken (Stale n first) one two = absurd (one.1 two.1.0 two.1.1)
+  state_of_bytes bytes Alike Missing one two = absurd two
+  state_of_bytes bytes Alike Fresh one two = absurd (one.0 two)
+  state_of_bytes bytes Alike Broken one two = absurd (two.1 one.1.0 one.1.1)
+  state_of_bytes bytes Alike Alike one two = refl
+  state_of_bytes bytes Alike (Stale n first) one two = absurd (of_map bytes one.1 two.1.0 two.1.1 two.1.2)
   state_of_bytes bytes (Stale n first) Missing one two = absurd two
   state_of_bytes bytes (Stale n first) Fresh one two = absurd (one.0 two)
   state_of_bytes bytes (Stale n first) Broken one two = absurd (two.1 one.1.0 one.1.1)
+  state_of_bytes bytes (Stale n first) Alike one two = absurd (of_map bytes two.1 one.1.0 one.1.1 one.1.2)
   state_of_bytes bytes (Stale n first) (Stale k other) one two =
-      one.1.2 ∙ ap (λ (t : Tree). stale_by (differences (map_of t) m)) (tree bytes one.1.0 two.1.0 one.1.1 two.1.1) ∙ sym two.1.2
+      one.1.3 ∙ ap (λ (t : Tree). stale_by (differences (map_of t) m)) (tree bytes one.1.0 two.1.0 one.1.1 two.1.1) ∙ sym two.1.3
 
   one_state : (asked : Option (List ℕ)) (s t : State) → IsState made m asked s → IsState made m asked t → s ≡ t
   one_state None s t one two = one ∙ sym two
@@ -122,23 +134,32 @@ one_status_text tree form one_reading root json quiet files text text2 status st
     let ignored : ignored_paths a.ignored_etc a.ignored_usr ≡ ignored_paths b.ignored_etc b.ignored_usr =
     all_ignored_paths a.ignored_etc a.ignored_usr b.ignored_etc b.ignored_usr
     (one_ignored (etc_files root) files a.ignored_etc b.ignored_etc a.are_in_etc b.are_in_etc) (one_ignored (usr_files root) files a.ignored_usr b.ignored_usr a.are_in_usr b.are_in_usr) in
-    let report : Option Amount → Option Amount → List (List ℕ) → List (List ℕ) → State → Report =
-    λ h k l i s. report_of root (has_database false root files) (has_database true root files) h k l i s in
+    let report : Option Amount → Option Amount → List (List ℕ) → List (List ℕ) → Bool → State → Report =
+    λ h k l i e s. report_of root (has_database false root files) (has_database true root files) h k l i e s in
     let masks = masked_paths (map (λ (s : Source). s.name) b.of_usr) (chosen_of b.of_etc b.of_usr) in
     let others = ignored_paths b.ignored_etc b.ignored_usr in
     let own_masks = masked_paths (map (λ (s : Source). s.name) a.of_usr) (chosen_of a.of_etc a.of_usr) in
     let own_others = ignored_paths a.ignored_etc a.ignored_usr in
+    let bare = is_bare (chosen_of b.of_etc b.of_usr) in
+    let own_bare = is_bare (chosen_of a.of_etc a.of_usr) in
     let reports : a.report ≡ b.report =
     a.of
-    ∙ ap (λ h. report h a.hidden own_masks own_others a.state) holds
-    ∙ ap (λ k. report b.holds k own_masks own_others a.state) hidden
-    ∙ ap (λ l. report b.holds b.hidden l own_others a.state) masked
-    ∙ ap (λ i. report b.holds b.hidden masks i a.state) ignored
-    ∙ ap (λ s. report b.holds b.hidden masks others s) state
+    ∙ ap (λ h. report h a.hidden own_masks own_others own_bare a.state) holds
+    ∙ ap (λ k. report b.holds k own_masks own_others own_bare a.state) hidden
+    ∙ ap (λ l. report b.holds b.hidden l own_others own_bare a.state) masked
+    ∙ ap (λ i. report b.holds b.hidden masks i own_bare a.state) ignored
+    ∙ ap (λ (cs : List Choice). report b.holds b.hidden masks others (is_bare cs) a.state) reading.chosen
+    ∙ ap (λ s. report b.holds b.hidden masks others bare s) state
     ∙ sym b.of in
     (a.is ∙ ap (report_form json quiet) reports ∙ sym b.is, a.says ∙ ap status_of reports ∙ sym b.says)
 
 -- ---- what was read
+
+-- there are none, by how many were read
+pub bare_files : (files : List ChosenFile) (n : ℕ) (b : Bool) → n ≡ length files → b ≡ (n == 0) → b ≡ is_bare (map choice_in files)
+bare_files [] n b size e = e ∙ ap (λ (m : ℕ). m == 0) size
+bare_files (c ∷ more) n b size e = e ∙ ne_eqb n 0 (omega (arith, size))
+
 module _ (root : List ℕ) (contents : Contents) (listed : List (List ℕ)) (files : List ChosenFile) (read : AreReadOf root contents listed files) (all : AreAllRead root contents) where
   -- the bytes are what is made of it
   pub made_from : (made : List ℕ) → ForFolders files (λ etc usr. AreMadeOf etc usr made) → IsMade root contents read.of_etc read.of_usr made
@@ -151,11 +172,11 @@ module _ (root : List ℕ) (contents : Contents) (listed : List (List ℕ)) (fil
   not_beside made refusal made_of unread = record { of_etc = read.of_etc; of_usr = read.of_usr; made = made; is_made = made_from made made_of; unread = unread }
 
   -- what is reported beside the bytes that are made of it
-  pub reported_status : (json quiet : Bool) (made : List ℕ) (masked ignored : List (List ℕ)) (a : Answer) → ForFolders files (λ etc usr. AreMadeOf etc usr made)
-      → masked ≡ masked_paths listed (map choice_in files) → AreIgnored root contents ignored
-      → ((m : Map) → IsDatabaseOf m made → IsReported root json quiet contents made m masked ignored a)
+  pub reported_status : (json quiet : Bool) (made : List ℕ) (masked ignored : List (List ℕ)) (bare : Bool) (a : Answer) → ForFolders files (λ etc usr. AreMadeOf etc usr made)
+      → masked ≡ masked_paths listed (map choice_in files) → AreIgnored root contents ignored → bare ≡ is_bare (map choice_in files)
+      → ((m : Map) → IsDatabaseOf m made → IsReported root json quiet contents made m masked ignored bare a)
       → OnOut (λ text. IsStatus root json quiet contents text a.status) (texts_in a)
-  reported_status json quiet made masked ignored a made_of masks others reported =
+  reported_status json quiet made masked ignored bare a made_of masks others none reported =
       let is = made_of read.of_etc read.of_usr read.are in
       let told = reported (map_of_files read.of_etc read.of_usr) is.database in
       let names : masked ≡ masked_paths (map (λ (s : Source). s.name) read.of_usr) (chosen_of read.of_etc read.of_usr) =
@@ -181,9 +202,12 @@ module _ (root : List ℕ) (contents : Contents) (listed : List (List ℕ)) (fil
           stands = told.stands;
           report = told.report;
           of = told.of
-              ∙ ap (λ (l : List (List ℕ)). report_of root (has_database false root contents) (has_database true root contents) told.holds told.hidden l ignored told.state) names
+              ∙ ap (λ (l : List (List ℕ)). report_of root (has_database false root contents) (has_database true root contents) told.holds told.hidden l ignored bare told.state) names
               ∙ ap (λ (l : List (List ℕ)). report_of root (has_database false root contents) (has_database true root contents) told.holds told.hidden
-              (masked_paths (map (λ (s : Source). s.name) read.of_usr) (chosen_of read.of_etc read.of_usr)) l told.state) others.are;
+              (masked_paths (map (λ (s : Source). s.name) read.of_usr) (chosen_of read.of_etc read.of_usr)) l bare told.state) others.are
+              ∙ ap (λ (e : Bool). report_of root (has_database false root contents) (has_database true root contents) told.holds told.hidden
+              (masked_paths (map (λ (s : Source). s.name) read.of_usr) (chosen_of read.of_etc read.of_usr)) (ignored_paths others.of_etc others.of_usr) e told.state)
+              (none ∙ ap is_bare read.are.choices);
           is = told.is;
           says = told.says;
         },

@@ -4,6 +4,7 @@ pub mod Internal
 pub mod Statuses
 pub mod SideSteps
 pub mod Colours
+pub mod Reloading
 pub mod Crash
 pub mod Failures
 pub mod OneOutcome

@@ -7,7 +7,7 @@ use Rattle.hwdb_spec.specs.Folders.{AreAccepted, Source}
 use Rattle.hwdb_spec.specs.Ignored.{AreIgnoredIn}
 use Rattle.hwdb_spec.specs.Readable.{AreAllRead}
 use Rattle.hwdb_spec.specs.Reading.{AreUnread}
-use Rattle.hwdb_spec.specs.Status.{Amount, IsAmount, IsState, Report, State, has_database, hidden_database, ignored_paths, masked_paths, report_form, report_of, status_of}
+use Rattle.hwdb_spec.specs.Status.{Amount, IsAmount, IsState, Report, State, has_database, hidden_database, ignored_paths, is_bare, masked_paths, report_form, report_of, status_of}
 use Rattle.hwdb_spec.specs.StatusErrors.{AreNotMade, IsAskedUnread, IsHiddenUnread}
 use Rattle.hwdb_spec.specs.Store.{Contents}
 use Rattle.hwdb_spec.specs.System.{asked_database, etc_files, usr_files}
@@ -42,7 +42,7 @@ abbrev pub IsOneUnread : (root : List ℕ) → Contents → Refusal → Type 0
 IsOneUnread root contents refusal = IsAskedUnread root contents refusal ⊎ IsHiddenUnread root contents refusal
 
 -- the answer reports the asked database beside bytes that are made of a map
-pub record IsReported (root : List ℕ) (json quiet : Bool) (contents : Contents) (made : List ℕ) (m : Map) (masked ignored : List (List ℕ)) (a : Answer) : Type 0 where
+pub record IsReported (root : List ℕ) (json quiet : Bool) (contents : Contents) (made : List ℕ) (m : Map) (masked ignored : List (List ℕ)) (bare : Bool) (a : Answer) : Type 0 where
   pub short : IfSome (asked_database root contents) (λ bytes. length bytes ≤ max_file)
   pub short_hidden : IfSome (hidden_database root contents) (λ bytes. length bytes ≤ max_file)
   pub holds : Option Amount
@@ -53,12 +53,12 @@ pub record IsReported (root : List ℕ) (json quiet : Bool) (contents : Contents
   pub stands : IsState made m (asked_database root contents) state
   pub untold : a.err.items ≡ []
   pub report : Report
-  pub of : report ≡ report_of root (has_database false root contents) (has_database true root contents) holds hidden masked ignored state
+  pub of : report ≡ report_of root (has_database false root contents) (has_database true root contents) holds hidden masked ignored bare state
   pub is : a.out.items ≡ report_form json quiet report
   pub says : a.status ≡ status_of report
 
--- the bytes are what the text files of both folders make, of which these are masked and ignored
-pub record IsMadeNow (root : List ℕ) (contents : Contents) (made : List ℕ) (masked ignored : List (List ℕ)) : Type 0 where
+-- the bytes are what the text files of both folders make, of which these are masked and ignored; or there are none
+pub record IsMadeNow (root : List ℕ) (contents : Contents) (made : List ℕ) (masked ignored : List (List ℕ)) (bare : Bool) : Type 0 where
   pub listed : List (List ℕ)
   pub files : List ChosenFile
   pub read : AreReadOf root contents listed files
@@ -66,6 +66,7 @@ pub record IsMadeNow (root : List ℕ) (contents : Contents) (made : List ℕ) (
   pub is : ForFolders files (λ etc usr. AreMadeOf etc usr made)
   pub masks : masked ≡ masked_paths listed (map choice_in files)
   pub others : AreIgnored root contents ignored
+  pub none : bare ≡ is_bare (map choice_in files)
 
 -- the text files of both folders can't be read, or not compiled
 abbrev pub IsNotMadeNow : (root : List ℕ) → Contents → Refusal → Type 0

@@ -1,5 +1,5 @@
 //! `status`: the database that is asked, beside the one that the text files make. Nothing is written.
-ghost use Rattle.std.specs.Prelude.{◌≡◌, ◌≤◌, ◌++◌, ℕ, List, All, None, Some, codes, false, length, map, option_map, string_bytes, true, IfErr, IfOk, IfSome, OnOk};
+ghost use Rattle.std.specs.Prelude.{◌≡◌, ◌≤◌, ◌++◌, ℕ, List, All, None, Some, codes, false, if◌then◌else◌, length, map, option_map, string_bytes, true, IfErr, IfOk, IfSome, OnOk};
 ghost use Rattle.hwdb_compile.specs.Views.{ForFolders};
 ghost use Rattle.hwdb_text.specs.Views.{choice_in};
 ghost use Rattle.hwdb_fs.specs.Internal.{IsNameSet};
@@ -8,7 +8,7 @@ ghost use Rattle.hwdb_spec.specs.Refusals.{HasReason, IsUnreadAt};
 ghost use Rattle.hwdb_spec.specs.Status;
 ghost use Rattle.hwdb_spec.specs.Assignment.{ascending};
 ghost use Rattle.hwdb_spec.specs.Reading.{AreUnread};
-ghost use Rattle.hwdb_spec.specs.Status.{IsAmount, IsStatus, has_database, hidden_database, masked_of, root_words};
+ghost use Rattle.hwdb_spec.specs.Status.{IsAmount, IsStatus, has_database, hidden_database, is_well, masked_of, root_words};
 ghost use Rattle.hwdb_inspect.specs.Views.{amount_shown, report_shown, state_shown};
 ghost use Rattle.hwdb_spec.specs.Asked;
 ghost use Rattle.hwdb_spec.specs.Runs.{OnOut};
@@ -30,7 +30,9 @@ use crate::hiding::database_path;
 use crate::progress::masks;
 use hwdb_compile::{Compiled, compile_chosen};
 use hwdb_fs::{Refusal, System, TextFolders, name_set, selected, with_texts};
-use hwdb_inspect::{Amount, Report, Standing, amount_of, in_order, report_in, standing_of};
+use hwdb_inspect::{
+    Amount, Report, Standing, State, amount_of, in_order, is_well, report_in, standing_of,
+};
 use hwdb_io::MAX_BYTES;
 use hwdb_print::ToolError;
 use hwdb_text::{Chosen, ChosenFile};
@@ -55,10 +57,11 @@ struct UnreadFiles {
     ignored: Vec<Vec<u8>>,
 }
 
-/// What the text files make, and which of them aren't read.
+/// What the text files make, whether there are none, and which of them aren't read.
 #[derive(Drop)]
 struct MadeNow {
     database: Vec<u8>,
+    bare: bool,
     unread: UnreadFiles,
 }
 
@@ -346,7 +349,7 @@ fn update_words(alloc: Global, usr: bool, root: &str) -> Result<Vec<u8>, AllocEr
 }
 
 /// The command that makes the database of /usr/lib anew, and removes the one that hides it.
-fn unhiding_words(alloc: Global, root: &str) -> Result<Vec<u8>, AllocError>
+fn update_and_remove(alloc: Global, root: &str) -> Result<Vec<u8>, AllocError>
     ensures { IfOk result (λ words. words.items ≡ Status.update_words true root.now
         ++ (codes " && rm " ++ Asked.database_path false root.now)) }
 {
@@ -358,13 +361,104 @@ fn unhiding_words(alloc: Global, root: &str) -> Result<Vec<u8>, AllocError>
 }
 
 /// The command after which the asked database is fresh and hides none, by whether there is one of /etc and one of /usr/lib.
-fn remedy_of(alloc: Global, root: &str, etc: bool, usr: bool) -> Result<Vec<u8>, AllocError>
-    ensures { IfOk result (λ words. words.items ≡ Status.remedy_of root.now etc usr) }
+fn renewing_words(alloc: Global, root: &str, etc: bool, usr: bool) -> Result<Vec<u8>, AllocError>
+    ensures { IfOk result (λ words. words.items ≡ Status.renewing_words root.now etc usr) }
 {
     match (etc, usr) {
-        (true, true) => unhiding_words(alloc, root),
+        (true, true) => update_and_remove(alloc, root),
         (false, true) => update_words(alloc, true, root),
         (_, false) => update_words(alloc, false, root),
+    }
+}
+
+/// Whether a database assigns something.
+fn assigns(amount: Option<Amount>) -> bool
+    ensures { result ≡ Status.assigns (option_map amount_shown amount) }
+{
+    match amount {
+        Some(Amount::Counted { assignments, .. }) => assignments > 0,
+        _ => false,
+    }
+}
+
+/// Whether a database assigns nothing, or is none, and hides one that assigns something.
+fn hides_in_vain(state: &State, hidden: Option<Amount>) -> bool
+    ensures { result ≡ Status.hides_in_vain (state_shown state.now)
+        (option_map amount_shown hidden) }
+{
+    match state {
+        State::Stale { .. } => false,
+        _ => assigns(hidden),
+    }
+}
+
+/// The command that removes the database of /etc.
+fn removing_words(alloc: Global, root: &str) -> Result<Vec<u8>, AllocError>
+    ensures { IfOk result
+        (λ words. words.items ≡ codes "rm " ++ Asked.database_path false root.now) }
+{
+    let removed = database_path(alloc, root, false)?;
+    let mut words = Vec::from_slice(alloc, b"rm ")?;
+    words.extend_from_slice(removed.as_bytes())?;
+    Ok(words)
+}
+
+/// The command that is told if there are no text files: one that removes a database of /etc that hides another one in vain.
+fn unhiding_words(
+    alloc: Global,
+    root: &str,
+    state: &State,
+    hidden: Option<Amount>,
+) -> Result<Option<Vec<u8>>, AllocError>
+    ensures { IfOk result (λ words. option_map (λ w. w.items) words
+        ≡ Status.unhiding_words root.now (state_shown state.now) (option_map amount_shown hidden)) }
+{
+    if hides_in_vain(state, hidden) {
+        let words = removing_words(alloc, root)?;
+        Ok(Some(words))
+    } else {
+        Ok(None)
+    }
+}
+
+/// The command that is told if there are text files: none if the asked database is fresh and hides none.
+fn renewing_if(
+    alloc: Global,
+    root: &str,
+    etc: bool,
+    usr: bool,
+    state: &State,
+) -> Result<Option<Vec<u8>>, AllocError>
+    ensures { IfOk result (λ words. option_map (λ w. w.items) words
+        ≡ (if is_well false (state_shown state.now) (Status.path_hidden root.now etc usr)
+        then None else Some (Status.renewing_words root.now etc usr))) }
+{
+    if is_well(false, state, etc && usr) {
+        Ok(None)
+    } else {
+        let words = renewing_words(alloc, root, etc, usr)?;
+        Ok(Some(words))
+    }
+}
+
+/// The command that is told, if there is one.
+fn remedy_of(
+    alloc: Global,
+    root: &str,
+    etc: bool,
+    usr: bool,
+    bare: bool,
+    state: &State,
+    hidden: Option<Amount>,
+) -> Result<Option<Vec<u8>>, AllocError>
+    ensures { IfOk result (λ words. option_map (λ w. w.items) words
+        ≡ Status.remedy_of root.now etc usr bare
+        (state_shown state.now) (option_map amount_shown hidden)) }
+{
+    if bare {
+        unhiding_words(alloc, root, state, hidden)
+    } else {
+        renewing_if(alloc, root, etc, usr, state)
     }
 }
 
@@ -372,26 +466,37 @@ fn remedy_of(alloc: Global, root: &str, etc: bool, usr: bool) -> Result<Vec<u8>,
 fn report_of(
     alloc: Global,
     root: &str,
-    etc: bool,
-    usr: bool,
+    asked: &AskedDatabase,
     standing: Standing,
     hidden: Option<Amount>,
+    bare: bool,
     unread: UnreadFiles,
 ) -> Result<Report, AllocError>
-    ensures { IfOk result (λ report. report_shown report ≡ Status.report_of root.now etc usr
+    ensures { IfOk result (λ report. report_shown report ≡ Status.report_of root.now
+        asked.now.etc asked.now.usr
         (option_map amount_shown standing.holds) (option_map amount_shown hidden)
         (map (λ p. p.items) unread.masked.items) (map (λ p. p.items) unread.ignored.items)
-        (state_shown standing.state)) }
+        bare (state_shown standing.state)) }
 {
+    let remedy = remedy_of(
+        alloc,
+        root,
+        asked.etc,
+        asked.usr,
+        bare,
+        &standing.state,
+        hidden,
+    )?;
     Ok(Report {
-        database: path_asked(alloc, root, etc, usr)?,
+        database: path_asked(alloc, root, asked.etc, asked.usr)?,
         holds: standing.holds,
-        hides: path_hidden(alloc, root, etc, usr)?,
+        hides: path_hidden(alloc, root, asked.etc, asked.usr)?,
         hidden,
         masked: unread.masked,
         ignored: unread.ignored,
+        bare,
         state: standing.state,
-        remedy: remedy_of(alloc, root, etc, usr)?,
+        remedy,
     })
 }
 
@@ -423,13 +528,14 @@ fn reported<D: System>(
     json: bool,
     quiet: bool,
     made: &[u8],
+    bare: bool,
     unread: UnreadFiles,
     system: &D,
 ) -> Result<Answer, Refusal>
     requires { (t : Tree) × IsDatabase made.now t }
     ensures reported { D.Store.tells → IfOk result (λ a. (m : Map) → IsDatabaseOf m made.now
         → IsReported root.now json quiet (D.Store.seen system.now) made.now m
-        (map (λ p. p.items) unread.masked.items) (map (λ p. p.items) unread.ignored.items) a) }
+        (map (λ p. p.items) unread.masked.items) (map (λ p. p.items) unread.ignored.items) bare a) }
     ensures refused { D.Store.tells
         → IfErr result (IsOneUnread root.now (D.Store.seen system.now)) }
     ensures reason { IfErr result
@@ -438,7 +544,7 @@ fn reported<D: System>(
     let asked = asked_database(alloc, root, system)?;
     let standing = standing_of(alloc, bytes_of(&asked.bytes), made)?;
     let hidden = amount_if(alloc, &asked.hidden)?;
-    let report = report_of(alloc, root, asked.etc, asked.usr, standing, hidden, unread)?;
+    let report = report_of(alloc, root, &asked, standing, hidden, bare, unread)?;
     let text = report_in(alloc, &report, json, quiet)?;
     Ok(Answer::new(alloc, text, report.status()))
 }
@@ -448,7 +554,7 @@ fn made_now<D: TextFolders>(alloc: Global, root: &str, system: &D) -> Result<Mad
     ensures made { D.Store.tells → IfOk result (λ now. IsMadeNow
         root.now (D.Store.seen system.now) now.database.items
         (map (λ p. p.items) now.unread.masked.items)
-        (map (λ p. p.items) now.unread.ignored.items)) }
+        (map (λ p. p.items) now.unread.ignored.items) now.bare) }
     ensures sound { IfOk result (λ now. (t : Tree) × IsDatabase now.database.items t) }
     ensures refused { D.Store.tells
         → IfErr result (IsNotMadeNow root.now (D.Store.seen system.now)) }
@@ -462,13 +568,14 @@ fn made_now<D: TextFolders>(alloc: Global, root: &str, system: &D) -> Result<Mad
     let masked = masked_paths(alloc, &files, &selection.listed)?;
     Ok(MadeNow {
         database: made.database,
+        bare: files.as_slice().is_empty(),
         unread: UnreadFiles { masked, ignored },
     })
 }
 
 /// Which database is asked, which one it hides, how much is in each, and which text files are masked or ignored: as lines, or with
-/// `json` as a line of JSON. It says too whether the asked one is what the text files of both folders below the root make now. The
-/// status is 0 if it is, and hides none, else 1. If `quiet` the status alone is told.
+/// `json` as a line of JSON. It says too whether the asked one says what the text files of both folders below the root say now. The
+/// status is 0 if it does and hides none, and there are text files, else 1. If `quiet` the status alone is told.
 ///
 /// Errors are, in this order: the text files can't be read, they can't be compiled, the database that is asked can't be read, and
 /// the one that it hides can't be read. The time is that of an update without its sync, and of a walk over each database.
@@ -486,6 +593,10 @@ pub fn status<D: TextFolders>(
     ensures reason { D.Store.tells → IfErr result
         (HasReason (D.System.may_fail system.now) ⊥ (D.Store.seen system.now)) }
 {
-    let MadeNow { database, unread } = made_now(alloc, root, system)?;
-    reported(alloc, root, json, quiet, &database, unread, system)
+    let MadeNow {
+        database,
+        bare,
+        unread,
+    } = made_now(alloc, root, system)?;
+    reported(alloc, root, json, quiet, &database, bare, unread, system)
 }

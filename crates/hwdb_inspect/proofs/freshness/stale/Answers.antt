@@ -1,7 +1,7 @@
 use Rattle.std.proofs.Common.{◌<◌, ◌^◌, ◌+◌, length, rules, subst, sym, ap, ◌∙◌, []}
 use Rattle.std.proofs.lemmas.Result.{IfOk-weaker}
-use Rattle.hwdb_spec.specs.Differences.{differences}
-use Rattle.hwdb_spec.specs.Status.{stale_by}
+use Rattle.hwdb_inspect.specs.Internal.Alike.{IsHow}
+use Rattle.hwdb_inspect.specs.Views.{state_shown}
 use Rattle.hwdb_spec.specs.Tree.{Map, Tree, map_of, members_under}
 use Rattle.hwdb_inspect.proofs.FewLemmas.{few_members, halves}
 use Rattle.hwdb_inspect.proofs.freshness.stale.Goals as goal
@@ -18,5 +18,5 @@ compared-requires-clause-few c =
 pub returns-clause-state : goal.returns-clause-state
 returns-clause-state c =
     IfOk-weaker c.compared.result _ _
-    (λ s told m is. told ∙ ap (λ (n : Map). stale_by (differences (map_of c.args.old.now) n)) (ap map_of (c.reopen-new.ensures is.0 is.1) ∙ is.2))
+    (λ s told m is. subst (λ (n : Map). IsHow (map_of c.args.old.now) n (state_shown s.state)) (ap map_of (c.reopen-new.ensures is.0 is.1) ∙ is.2) told)
     c.compared.ensures.state

@@ -1,6 +1,8 @@
 use Rattle.std.proofs.Common.{Option, Some, refl, subst, sym}
 use Rattle.std.proofs.lemmas.Result.{IfOk-weaker}
-use Rattle.hwdb_spec.specs.Status.{Amount, IsAmount, IsStateOf, State}
+use Rattle.hwdb_spec.specs.Status.{Amount, IsAmount}
+use Rattle.hwdb_inspect.specs.Views.{state_shown}
+use Rattle.hwdb_inspect.proofs.AlikeLemmas.{state_how}
 use Rattle.hwdb_inspect.proofs.FewLemmas.{few_members}
 use Rattle.hwdb_inspect.proofs.StateLemmas.{not_same}
 use Rattle.hwdb_inspect.proofs.freshness.standing_of_others.Goals as goal
@@ -10,8 +12,7 @@ returns-in-Ok-clause-state c =
     let bytes = c.args.bytes.now in
     let made = c.args.made.now in
     IfOk-weaker c.stale.result _ _
-    (λ s told m is. subst (λ (t : State). IsStateOf made m bytes t) (sym (told m is))
-    (not_same bytes made c.requires.other, (c.in-Ok.old, c.in-Ok.ensures.accepted, refl)))
+    (λ s told m is. state_how bytes made m c.in-Ok.old (state_shown s.state) (not_same bytes made c.requires.other) c.in-Ok.ensures.accepted (told m is))
     c.stale.ensures.state
 
 pub returns-in-Ok-clause-holds : goal.returns-in-Ok-clause-holds

@@ -1,4 +1,4 @@
-use Rattle.std.proofs.Common.{List, ap, inl, inr, map, refl, string_bytes, subst, sym, ◌∙◌}
+use Rattle.std.proofs.Common.{List, length, ap, inl, inr, map, refl, string_bytes, subst, sym, ◌∙◌}
 use Rattle.hwdb_compile.specs.Views.{ForFolders}
 use Rattle.hwdb_text.specs.Views.{choice_in}
 use Rattle.hwdb_text.specs.declared.choice.ChosenFile.{ChosenFile}
@@ -11,7 +11,7 @@ use Rattle.hwdb_text.specs.Views.{choice_of}
 use Rattle.hwdb_tool.specs.Internal.{AreReadOf}
 use Rattle.hwdb_tool.specs.Statuses.{AreMadeOf, IsNotMadeNow}
 use Rattle.hwdb_tool.proofs.FolderLemmas.{all_read, are_read}
-use Rattle.hwdb_tool.proofs.StatusLemmas.{not_made}
+use Rattle.hwdb_tool.proofs.StatusLemmas.{bare_files, not_made}
 use Rattle.hwdb_tool.proofs.statuses.made_now.Goals as goal
 use Rattle.hwdb_spec.specs.Lemmas.Calls.{given_error}
 
@@ -34,6 +34,7 @@ returns-clause-made g c = λ tells.
           ∙ ap (λ l. masked_paths (map string_bytes l) (map choice_in c.deref-4.result.now)) c.deref-5.ensures.value
           ∙ ap (λ (l : List ChosenFile). masked_paths listed (map choice_in l)) c.deref-4.ensures.value;
       others = c.in_ok-ignored.ensures.paths tells;
+      none = bare_files files (length c.as_slice.result.now) c.is_empty.result (ap length c.as_slice.ensures.value) c.is_empty.ensures;
     }
 
 pub returns-in_err-selection-clause-refused : goal.returns-in_err-selection-clause-refused

@@ -10,6 +10,7 @@ returns c = λ i. record {
   hidden = option_map amount_shown c.args.hidden;
   masked = map (λ p. p.items) c.args.unread.masked.items;
   ignored = map (λ p. p.items) c.args.unread.ignored.items;
+  bare = c.args.bare;
   state = state_shown c.args.standing.state;
-  remedy = c.in_ok-remedy_of.ensures i;
+  remedy = c.in_ok-remedy.ensures i;
 }

@@ -32,8 +32,8 @@ returns-clause-reported g c = λ tells m is.
       untold = c.new.ensures.err;
       report = report_shown c.in_ok-report.report;
       of = c.in_ok-report.ensures
-          ∙ ap (λ (e : Bool). report_of root e c.in_ok-asked.asked.usr holds hidden masked ignored state) (asked.etc tells)
-          ∙ ap (λ (u : Bool). report_of root (has_database false root seen) u holds hidden masked ignored state) (asked.usr tells);
+          ∙ ap (λ (e : Bool). report_of root e c.in_ok-asked.asked.usr holds hidden masked ignored c.args.bare state) (asked.etc tells)
+          ∙ ap (λ (u : Bool). report_of root (has_database false root seen) u holds hidden masked ignored c.args.bare state) (asked.usr tells);
       is = c.new.ensures.out ∙ c.in_ok-text.ensures;
       says = c.new.ensures.status ∙ c.status.ensures.is;
     }

@@ -18,7 +18,7 @@ returns-clause-status g c = λ tells.
     let is : ForFolders now.files (λ etc usr. AreMadeOf etc usr made) =
     subst (λ (d : List ℕ). ForFolders now.files (λ etc usr. AreMadeOf etc usr d)) (sym c.deref.ensures.value) now.is in
     each_value _ (λ a. OnOut (λ text. IsStatus root c.args.json c.args.quiet seen text a.status) (texts_in a)) c.reported.result
-    (λ a told. reported_status root seen now.listed now.files now.read now.all c.args.json c.args.quiet made _ _ a is now.masks now.others told)
+    (λ a told. reported_status root seen now.listed now.files now.read now.all c.args.json c.args.quiet made _ _ _ a is now.masks now.others now.none told)
     (c.reported.ensures.reported tells)
 
 pub returns-clause-refused : goal.returns-clause-refused

@@ -21,7 +21,7 @@ returns-clause-unreplaced g c =
       λ etc usr of.
           let text : c.deref.result.now ++ faults_text (map fault_of compiled.faults.items) ≡ update_text names etc usr =
           ap (λ l. l ++ faults_text (map fault_of compiled.faults.items))
-          (c.deref.ensures.value ∙ c.in_ok-told.ensures etc usr of (record { database = c.in_ok-compiled.ensures.checked etc usr of; given = c.in_ok-compiled.ensures.given etc usr of }))
+          (c.deref.ensures.value ∙ c.in_ok-told.ensures etc usr of (c.in_ok-compiled.ensures.checked etc usr of))
           ∙ ap (λ fs. progress_text names etc usr ++ faults_text fs) (c.in_ok-compiled.ensures.faults etc usr of) in
           record {
             database = compiled.database.items;
@@ -41,7 +41,7 @@ returns-clause-cut_short g c = λ w.
       λ etc usr of.
           let text : c.deref.result.now ++ faults_text (map fault_of compiled.faults.items) ≡ update_text names etc usr =
           ap (λ l. l ++ faults_text (map fault_of compiled.faults.items))
-          (c.deref.ensures.value ∙ c.in_ok-told.ensures etc usr of (record { database = c.in_ok-compiled.ensures.checked etc usr of; given = c.in_ok-compiled.ensures.given etc usr of }))
+          (c.deref.ensures.value ∙ c.in_ok-told.ensures etc usr of (c.in_ok-compiled.ensures.checked etc usr of))
           ∙ ap (λ fs. progress_text names etc usr ++ faults_text fs) (c.in_ok-compiled.ensures.faults etc usr of) in
           subst (λ t. CutShort t (g.E.Sink.taken c.args.err.now) (g.E.Sink.taken c.put_in_place.new.err) (g.E.Sink.failures c.args.err.now) (g.E.Sink.failures c.put_in_place.new.err)) text cut.0,
     )
