@@ -635,6 +635,11 @@ def first_wild(pattern):
     return min([at for at in (pattern.find(wild) for wild in (b"*", b"?", b"[")) if at >= 0], default=len(pattern))
 
 
+def is_too_long(cleaned):
+    """Whether a line is a match line that is read, and that udev can't take."""
+    return is_match(cleaned) and len(cleaned) <= LONGEST_PATTERN and len(cleaned) - first_wild(cleaned) > 2046
+
+
 def empty_range(pattern):
     """Where the first range stands whose first byte is above its last one, before any open `[`; None if there is none."""
     at, end = 0, first_open(pattern)
@@ -707,7 +712,7 @@ def warnings_of(text):
             ),
             ("repeated", 0, number in repeated),
             ("replaced", indent_of(line), number in replaced),
-            ("long", first_wild(cleaned), is_match(cleaned) and len(cleaned) <= LONGEST_PATTERN and len(cleaned) - first_wild(cleaned) > 2046),
+            ("long", first_wild(cleaned), is_too_long(cleaned)),
         ]
         for kind, place, holds in kinds:
             if holds:
@@ -780,15 +785,19 @@ def known_of(out, status, strict):
 
 
 def progress(etc, usr):
-    """A line for each file that is read, and one that counts."""
-    text, given = b"", []
+    """A line for each file that is read, one that counts, and the match lines that udev can't take."""
+    text, given, long = b"", [], b""
     for priority, path, content in chosen(etc, usr):
         name = path.split(b"/")[-1]
         is_masking = path == ETC + b"/" + name and name in usr
         text += path + (b" masks " + USR + b"/" + name if is_masking else b"") + b"\n"
         given += read_file(path, priority, content)[0]
+        for number, line in lines_of(content):
+            if not line.startswith(b"#") and b"\0" not in line and is_too_long(clean(line)):
+                long += b"%s:%d: warning: %s\n" % (path, number, WARNINGS["long"][0])
     files = counted(len(chosen(etc, usr)), b"file")
-    return text + b"%s, %s, %d kept\n" % (files, counted(len(given), b"assignment"), len(surviving(given)))
+    once = {(a.priority, a.line, a.pattern, a.key) for a in given}
+    return text + b"%s, %s, %d kept\n" % (files, counted(len(once), b"assignment"), len(surviving(given))) + long
 
 
 # What `dump`, `verify` and `diff` print.
@@ -840,7 +849,8 @@ def verified(data):
         "depth": depth,
         "bytes": len(data),
     }
-    return b"".join(b"%s: %d\n" % (name.encode(), number) for name, number in counts.items())
+    text = b"".join(b"%s: %d\n" % (name.encode(), number) for name, number in counts.items())
+    return text + (b"warning: udev of systemd 262 refuses a depth of more than 2048\n" if depth > 2048 else b"")
 
 
 CUT = "the file was cut short or written over"
@@ -909,7 +919,9 @@ def text_value(text):
 
 
 def json_line(value):
-    return json.dumps(value, ensure_ascii=False, separators=(",", ":")).encode() + b"\n"
+    text = json.dumps(value, ensure_ascii=False, separators=(",", ":"))
+    # What a terminal acts on is escaped too, which json leaves as it is.
+    return re.sub("[\x7f-\x9f]", lambda its: "\\u%04x" % ord(its[0]), text).encode() + b"\n"
 
 
 def properties_json(assignments, device):

@@ -81,7 +81,7 @@ fn found_line(alloc: Global, device: &Device, found: &Found<'_>) -> Result<Vec<u
     let pairs = pairs_of_told(alloc, &found.told)?;
     let mut json = Writer::new(Vec::new(alloc));
     put_found(alloc, &mut json, device, found, &pairs)?;
-    ended(json)
+    ended(alloc, json)
 }
 
 /// Adds the line of a string.
@@ -127,7 +127,7 @@ fn result_line(alloc: Global, device: &Device, found: &[Found<'_>]) -> Result<Ve
     let pairs = pairs_of_outcomes(alloc, &outcomes)?;
     let mut json = Writer::new(Vec::new(alloc));
     put_result(alloc, &mut json, device, &pairs)?;
-    ended(json)
+    ended(alloc, json)
 }
 
 /// What `--json` prints.

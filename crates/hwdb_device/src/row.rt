@@ -10,6 +10,7 @@ use crate::asking::lookups;
 use crate::found::Found;
 use crate::strings::push_line;
 use hwdb_rules::first_text;
+use hwdb_show::push_name;
 use hwdb_sysfs::{Ancestor, Device};
 use std::alloc::{AllocError, Global};
 
@@ -45,7 +46,7 @@ fn row_of(alloc: Global, chain: &[Ancestor]) -> Result<Vec<u8>, AllocError>
     let Some((own, _parents)) = chain.split_first() else {
         return Ok(row);
     };
-    row.extend_from_slice(&own.name)?;
+    push_name(&mut row, &own.name)?;
     push_title(&mut row, chain)?;
     push_line(&mut row, b"")?;
     Ok(row)

@@ -11,6 +11,7 @@ use crate::outcomes::{Outcome, outcomes};
 use crate::strings::push_line;
 use crate::told::same;
 use hwdb_print::{explanation_lines, push_property};
+use hwdb_show::push_name;
 use hwdb_sysfs::{Ancestor, Device};
 use std::alloc::{AllocError, Global};
 
@@ -51,7 +52,7 @@ fn push_asker(text: &mut Vec<u8>, device: &Device, found: &Found<'_>) -> Result<
     text.extend_from_slice(b"  ")?;
     text.extend_from_slice(found.rule.as_bytes())?;
     text.extend_from_slice(b", of ")?;
-    text.extend_from_slice(path_at(device, found.parent))?;
+    push_name(text, path_at(device, found.parent))?;
     push_line(text, unanswered(found))
 }
 

@@ -9,7 +9,8 @@ use Rattle.hwdb_spec.specs.Answers.{effective_of}
 use Rattle.hwdb_spec.specs.Json.{json_text}
 use Rattle.hwdb_spec.specs.Lines.{Line}
 use Rattle.hwdb_spec.specs.Texts.{place_text}
-use Rattle.hwdb_spec.specs.Wanted.{GivenValue, about, counting, device_line, failed, failure, failure_json, failures, given_line, held, holds, wanted_line, wanted_text}
+use Rattle.hwdb_spec.specs.Visible.{shown_name}
+use Rattle.hwdb_spec.specs.Wanted.{GivenValue, about, counting, device_line, failed, failure_json, failure_text, failures, given_line, held, holds, wanted_line, wanted_text}
 use Rattle.hwdb_expect.specs.Laws.{FailingIsTold, HoldingIsSilent, ZeroIfAllHold}
 
 -- a text with a byte in it isn't empty
@@ -21,16 +22,16 @@ some_before : (before after : List ℕ) → before ≢ [] → before ++ after �
 some_before [] after h = absurd (h refl)
 some_before (x ∷ before) after h = λ e. cc
 
-failure_is_some : (json : Bool) (path device : List ℕ) (l : Line) (given : Option GivenValue) → failure json path device l given ≢ []
-failure_is_some true path device l given = some_more (json_text (failure_json path device l given)) 10 []
-failure_is_some false path device l given =
+text_is_some : (path device : List ℕ) (l : Line) (given : Option GivenValue) → failure_text path device l given ≢ []
+text_is_some path device l given =
     some_before (wanted_line path l) (device_line device ++ given_line given)
-    (some_before (place_text path l.number) (codes ": wanted " ++ (wanted_text l ++ 10 ∷ [])) (some_more path 58 (decimal l.number)))
+    (some_before (place_text path l.number) (codes ": wanted " ++ (wanted_text l ++ 10 ∷ [])) (some_more (shown_name path) 58 (decimal l.number)))
 
 failures_are_some : (json : Bool) (path device : List ℕ) (l : Line) (instead : List GivenValue) → failures json path device l instead ≢ []
-failures_are_some json path device l [] = failure_is_some json path device l None
-failures_are_some json path device l (g ∷ more) =
-    some_before (failure json path device l (Some g)) (flat_map (λ g. failure json path device l (Some g)) more) (failure_is_some json path device l (Some g))
+failures_are_some true path device l instead = some_more (json_text (failure_json path device l instead)) 10 []
+failures_are_some false path device l [] = text_is_some path device l None
+failures_are_some false path device l (g ∷ more) =
+    some_before (failure_text path device l (Some g)) (flat_map (λ g. failure_text path device l (Some g)) more) (text_is_some path device l (Some g))
 
 told_by : (h : Bool) (text : List ℕ) → h ≡ false → text ≢ [] → cond h [] text ≢ []
 told_by true text e some = cc

@@ -78,3 +78,15 @@ TextRows =
     ∷ codes "3 wanted lines, 2 failed\n"
     ∷ []
     ∷ []
+
+-- A line of JSON for each line that fails: with what its key gets, if anything; of `=` with all that the device has besides.
+abbrev pub JsonRows : Type 0
+JsonRows =
+    failures true (codes "t") (codes "d") (at_two (codes " A=1")) []
+    ∷ failures true (codes "t") (codes "d") (at_two (codes " !B")) (given (codes "B") (codes "x") ∷ [])
+    ∷ failures true (codes "t") (codes "d") (at_two (codes " =")) (given (codes "B") (codes "x") ∷ given (codes "C") [] ∷ [])
+    ∷ []
+    ≡ codes "{\"path\":\"t\",\"line\":2,\"device\":\"d\",\"wanted\":\"A=1\"}\n"
+    ∷ codes "{\"path\":\"t\",\"line\":2,\"device\":\"d\",\"wanted\":\"!B\",\"key\":\"B\",\"value\":\"x\",\"given_path\":\"/f\",\"given_line\":7}\n"
+    ∷ codes "{\"path\":\"t\",\"line\":2,\"device\":\"d\",\"wanted\":\"nothing else\",\"others\":[{\"key\":\"B\",\"value\":\"x\",\"given_path\":\"/f\",\"given_line\":7},{\"key\":\"C\",\"value\":\"\",\"given_path\":\"/f\",\"given_line\":7}]}\n"
+    ∷ []

@@ -7,6 +7,7 @@ ghost use Rattle.hwdb_expect.specs.Views.{given_at, line_at};
 use crate::given_values::GivenValue;
 use crate::json_lines::push_json;
 use crate::wanted_lines::{WantedLine, property_of, wants_no_others};
+use hwdb_show::push_name;
 use itoa::Buffer;
 use std::alloc::{AllocError, Global};
 
@@ -26,7 +27,7 @@ fn push_place(text: &mut Vec<u8>, path: &[u8], line: u64) -> Result<(), AllocErr
     ensures { OnOk result (text.new.items ≡ text.old.items ++ place_text path.now line) }
 {
     let mut digits = Buffer::new();
-    text.extend_from_slice(path)?;
+    push_name(text, path)?;
     text.push(b':')?;
     text.extend_from_slice(digits.format(line).as_bytes())?;
     Ok(())
@@ -105,30 +106,8 @@ fn push_text(
     push_given_line(text, given)
 }
 
-/// Adds what is printed of a line that doesn't hold: a line of JSON, or three lines.
-fn push_failure(
-    alloc: Global,
-    json: bool,
-    text: &mut Vec<u8>,
-    path: &[u8],
-    device: &[u8],
-    line: &WantedLine<'_>,
-    given: Option<GivenValue<'_>>,
-) -> Result<(), AllocError>
-    ensures { OnOk result (text.new.items ≡ text.old.items ++ Wanted.failure json path.now
-        device.now (line_at line.now) (option_map given_at given.entry)) }
-{
-    if json {
-        push_json(alloc, text, path, device, line, given)
-    } else {
-        push_text(text, path, device, line, given)
-    }
-}
-
 /// Adds the same for each property that is given instead.
 fn push_each(
-    alloc: Global,
-    json: bool,
     text: &mut Vec<u8>,
     path: &[u8],
     device: &[u8],
@@ -136,16 +115,35 @@ fn push_each(
     instead: &[GivenValue<'_>],
 ) -> Result<(), AllocError>
     ensures { OnOk result (text.new.items ≡ text.old.items
-        ++ flat_map (λ g. Wanted.failure json path.now device.now (line_at line.now) (Some g))
+        ++ flat_map (λ g. Wanted.failure_text path.now device.now (line_at line.now) (Some g))
         (map given_at instead.now)) }
 {
     for given in instead {
-        push_failure(alloc, json, text, path, device, line, Some(*given))?;
+        push_text(text, path, device, line, Some(*given))?;
     }
     Ok(())
 }
 
 /// Adds the same for each property that is given instead, or once if there is none.
+fn push_texts(
+    text: &mut Vec<u8>,
+    path: &[u8],
+    device: &[u8],
+    line: &WantedLine<'_>,
+    instead: &[GivenValue<'_>],
+) -> Result<(), AllocError>
+    ensures { OnOk result (text.new.items ≡ text.old.items ++ Wanted.failure_texts path.now
+        device.now (line_at line.now) (map given_at instead.now)) }
+{
+    if instead.is_empty() {
+        push_text(text, path, device, line, None)
+    } else {
+        push_each(text, path, device, line, instead)
+    }
+}
+
+/// Adds what is printed of a line that doesn't hold, if these are the properties that are given instead: a line of JSON, or three
+/// lines for each.
 pub fn push_failures(
     alloc: Global,
     json: bool,
@@ -158,9 +156,9 @@ pub fn push_failures(
     ensures { OnOk result (text.new.items ≡ text.old.items ++ Wanted.failures json path.now
         device.now (line_at line.now) (map given_at instead.now)) }
 {
-    if instead.is_empty() {
-        push_failure(alloc, json, text, path, device, line, None)
+    if json {
+        push_json(alloc, text, path, device, line, instead)
     } else {
-        push_each(alloc, json, text, path, device, line, instead)
+        push_texts(text, path, device, line, instead)
     }
 }

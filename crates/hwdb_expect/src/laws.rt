@@ -1,6 +1,6 @@
 //! More about the definitions, in words of their own. These functions do nothing: what each of them ensures is a law.
 ghost use Rattle.hwdb_expect.specs.Laws.{CountingAreEffective, FailingIsTold, HoldingIsSilent, ZeroIfAllHold};
-ghost use Rattle.hwdb_expect.specs.Rows.{AssignRows, FileRows, HoldRows, MalformedRows, TextRows};
+ghost use Rattle.hwdb_expect.specs.Rows.{AssignRows, FileRows, HoldRows, JsonRows, MalformedRows, TextRows};
 
 use hwdb_query::explained_are_effective;
 
@@ -31,4 +31,5 @@ pub fn worked_rows()
     ensures assigns { AssignRows }
     ensures malformed { MalformedRows }
     ensures texts { TextRows }
+    ensures json { JsonRows }
 {}

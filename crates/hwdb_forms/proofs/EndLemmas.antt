@@ -22,20 +22,20 @@ if_first true x e = refl
 if_first false x e = cc
 
 -- ---- a star alone matches what has a text
-star_byte : (set : ByteSet) (row : List Bool) → head row ≡ true → head (byte_row set (star ∷ []) row) ≡ true
+pub star_byte : (set : ByteSet) (row : List Bool) → head row ≡ true → head (byte_row set (star ∷ []) row) ≡ true
 unfolding byte_row
 star_byte set row h = h
 
-star_many : (set : ByteSet) (row : List Bool) → head row ≡ true → head (many_row set (star ∷ []) row) ≡ true
+pub star_many : (set : ByteSet) (row : List Bool) → head row ≡ true → head (many_row set (star ∷ []) row) ≡ true
 unfolding many_row
 star_many set row h = if_first (head row) (head (many_row set [] (tail row))) h
 
-star_fixed : (bytes : List ℕ) (row : List Bool) → head row ≡ true → head (fixed_row bytes (star ∷ []) row) ≡ true
+pub star_fixed : (bytes : List ℕ) (row : List Bool) → head row ≡ true → head (fixed_row bytes (star ∷ []) row) ≡ true
 unfolding fixed_row
 star_fixed [] row h = h
 star_fixed (b ∷ bytes) row h = star_byte (Only b) (fixed_row bytes (star ∷ []) row) (star_fixed bytes row h)
 
-star_counted : (set : ByteSet) (n : ℕ) (row : List Bool) → head row ≡ true → head (counted_row set n (star ∷ []) row) ≡ true
+pub star_counted : (set : ByteSet) (n : ℕ) (row : List Bool) → head row ≡ true → head (counted_row set n (star ∷ []) row) ≡ true
 unfolding counted_row
 star_counted set zero row h = h
 star_counted set (suc n) row h = star_byte set (counted_row set n (star ∷ []) row) (star_counted set n row h)
@@ -58,7 +58,7 @@ star_field : (way : List Piece) (more : List (List Piece)) (row : List Bool) →
 unfolding field_row
 star_field way more row h = star_either (pieces_row way (star ∷ []) row) (field_row more (star ∷ []) row) (star_pieces way row h)
 
-star_fields : (fields : List (List (List Piece))) → HaveWays fields → head (fields_row fields (star ∷ [])) ≡ true
+pub star_fields : (fields : List (List (List Piece))) → HaveWays fields → head (fields_row fields (star ∷ [])) ≡ true
 unfolding fields_row end_row
 star_fields [] h = refl
 star_fields ([] ∷ more) h = absurd h

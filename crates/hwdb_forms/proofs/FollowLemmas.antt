@@ -101,28 +101,6 @@ plain_byte front plain n ts is_plain is no_bracket these e t byte =
     ∙ tokens_after (take n front) (byte ∷ []) no_bracket
     ∙ ap (λ (l : List Token). l ++ token_at (byte ∷ []) ∷ []) (sym (these ∙ ap tokens is))
 
-pub unopened_front : (front : List ℕ) (n : ℕ) (is_plain : Bool) → has 91 (take n front) ≡ false → is_plain ≡ (n == length front) → is_plain ≡ true → has 91 front ≡ false
-unopened_front front n is_plain no_bracket e t =
-    let n_is : n ≡ length front = eqb-true n (length front) (sym e ∙ t) in
-    let whole : take n front ≡ front = take_all n front (omega (arith, n_is)) in
-    ap (has 91) (sym whole) ∙ no_bracket
-
--- a byte more, and a star after it
-unopened_pushed : (l : List ℕ) (b : ℕ) → has 91 l ≡ false → (b == 91) ≡ false → has 91 (l ++ b ∷ []) ≡ false
-unopened_pushed [] b h e = ap (λ c. c || false) e
-unopened_pushed (x ∷ l) b h e =
-    let parts = or_neither (x == 91) (has 91 l) h in
-    ap (λ c. c || has 91 (l ++ b ∷ [])) parts.0 ∙ unopened_pushed l b parts.1 e
-
-pub star_after : (l : List ℕ) → has 91 l ≡ false → tokens (l ++ 42 ∷ []) ≡ tokens l ++ star ∷ []
-unfolding tokens_from token_at
-star_after l h = tokens_after l (42 ∷ []) h
-
-pub begun_at_once : (forms : List Form) (front text : List ℕ) (byte : ℕ) (seen : Bool) → has 91 front ≡ false → (byte ≡ 91 → ⊥) → text ≡ (front ++ byte ∷ []) ++ 42 ∷ []
-    → (seen ≡ true → can_match forms (tokens text) ≡ true) → seen ≡ true → can_begin forms (tokens (front ++ byte ∷ [])) ≡ true
-begun_at_once forms front text byte seen plain other is met e =
-    ap (can_match forms) (sym (ap tokens is ∙ star_after (front ++ byte ∷ []) (unopened_pushed front byte plain (ne_eqb byte 91 other)))) ∙ met e
-
 -- ---- loops
 filter_by : (A : Type 0) (p : A → Bool) (b : A) (rest : List A) (e : Bool) → p b ≡ e → filter p (b ∷ []) ++ filter p rest ≡ filter p (b ∷ rest)
 filter_by A p b rest true e = rw e refl

@@ -1,5 +1,5 @@
 -- How tokens begin, before the first star.
-use Rattle.std.proofs.Common.{◌≡◌, ℕ, ◌+◌, ◌<◌, ◌≤◌, Bool, true, false, List, [], ◌∷◌, refl, sym, ap, subst, ◌∙◌, Bor, length, drop, get_or, suc, zero, arith, map}
+use Rattle.std.proofs.Common.{◌≡◌, ℕ, ◌+◌, ◌<◌, ◌≤◌, Bool, true, false, List, [], ◌∷◌, ◌++◌, refl, sym, ap, subst, ◌∙◌, Bor, length, drop, get_or, suc, zero, arith, map}
 use Rattle.std.proofs.Math.Seq.{drop-cons}
 use Rattle.std.proofs.lemmas.List.{drop-drop, length-drop}
 use Rattle.std.specs.Prelude.{if◌then◌else◌}
@@ -113,7 +113,7 @@ counted_ends set m n at texts whole h k w =
     sym (none_counted set m n (drop at (views texts)) h (long_drop Token (views texts) at (subst (λ (i : ℕ). i ≤ at) (sym (views_length texts)) k))) ∙ w
 
 -- rows for each list of tokens
-byte_family : (set : ByteSet) (rows : List Token → List Bool) → IsFamily rows → IsFamily (λ ts. byte_row set ts (rows ts))
+pub byte_family : (set : ByteSet) (rows : List Token → List Bool) → IsFamily rows → IsFamily (λ ts. byte_row set ts (rows ts))
 unfolding byte_row
 byte_family set rows f t ts = ap (byte_row set ts) (f t ts)
 
@@ -258,21 +258,66 @@ led_more ps ts us done next at to d p h n u e k y led rows f =
     ∙ ap (λ (vs : List Token). head (inner vs)) (dropped ts at (piece_size p) to e)
     ∙ ap (λ (i : ℕ). head (pieces_row (drop i ps) (drop to ts) (rows (drop to ts)))) (sym n)
 
-pub led_stops : (ps : List Piece) (ts us : List Token) (done at : ℕ) (d p : Piece) (told : Passed) (dead : Bool) → done < length ps → us ≡ drop at ts → p ≡ get_or ps done d → told ≡ passed p us → dead ≡ is_no told → Led ps ts done at
+-- what is known of the first tokens stays, whatever comes after them
+more_by : (s m : Bool) (old new told : Passed) → (told ≡ Unknown → ⊥) → (old ≡ told → new ≡ told) → (if s then Unknown else (if m then old else No)) ≡ told → (if s then Unknown else (if m then new else No)) ≡ told
+more_by true m old new told n f e = absurd (n (sym e))
+more_by false true old new told n f e = f e
+more_by false false old new told n f e = e
+
+fixed_more : (bytes : List ℕ) (ts more : List Token) (told : Passed) → passed_fixed bytes ts ≡ told → (told ≡ Unknown → ⊥) → passed_fixed bytes (ts ++ more) ≡ told
+fixed_more [] ts more told e n = e
+fixed_more (b ∷ bytes) [] more told e n = absurd (n (sym e))
+fixed_more (b ∷ bytes) (t ∷ ts) more told e n =
+    more_by (is_star t) (meets t (Only b)) (passed_fixed bytes ts) (passed_fixed bytes (ts ++ more)) told n (λ k. fixed_more bytes ts more told k n) e
+
+counted_more : (set : ByteSet) (i : ℕ) (ts more : List Token) (told : Passed) → passed_counted set i ts ≡ told → (told ≡ Unknown → ⊥) → passed_counted set i (ts ++ more) ≡ told
+counted_more set zero ts more told e n = e
+counted_more set (suc i) [] more told e n = absurd (n (sym e))
+counted_more set (suc i) (t ∷ ts) more told e n =
+    more_by (is_star t) (meets t set) (passed_counted set i ts) (passed_counted set i (ts ++ more)) told n (λ k. counted_more set i ts more told k n) e
+
+piece_more : (p : Piece) (ts more : List Token) (told : Passed) → passed p ts ≡ told → (told ≡ Unknown → ⊥) → passed p (ts ++ more) ≡ told
+piece_more (fixed bytes) ts more told e n = fixed_more bytes ts more told e n
+piece_more (counted set i) ts more told e n = counted_more set i ts more told e n
+piece_more (repeated set) ts more told e n = e
+
+pub fixed_stays : (bytes : List ℕ) (ts more : List Token) (told whole : Passed) → told ≡ passed_fixed bytes ts → told ≡ whole → (whole ≡ Unknown → ⊥) → told ≡ passed_fixed bytes (ts ++ more)
+fixed_stays bytes ts more told whole e k n = k ∙ sym (fixed_more bytes ts more whole (sym e ∙ k) n)
+
+is_told : (told : Passed) → is_no told ≡ true → told ≡ No
+is_told No e = refl
+is_told Unknown e = cc
+is_told Yes e = cc
+
+pub no_more : (p : Piece) (ts more : List Token) (told : Passed) (dead : Bool) → told ≡ passed p ts → dead ≡ is_no told → dead ≡ true → passed p (ts ++ more) ≡ No
+no_more p ts more told dead e n t = piece_more p ts more No (sym e ∙ is_told told (sym n ∙ t)) (λ u. cc)
+
+pub yes_more : (p : Piece) (ts more : List Token) (told : Passed) → told ≡ passed p ts → told ≡ Yes → passed p (ts ++ more) ≡ Yes
+yes_more p ts more told e y = piece_more p ts more Yes (sym e ∙ y) (λ u. cc)
+
+drop_joined : (ts more : List Token) (at : ℕ) → at ≤ length ts → drop at ts ++ more ≡ drop at (ts ++ more)
+drop_joined [] more zero h = drop_none more
+  where
+    drop_none : (l : List Token) → l ≡ drop 0 l
+    drop_none [] = refl
+    drop_none (x ∷ l) = refl
+drop_joined [] more (suc at) h = absurd (omega arith)
+drop_joined (t ∷ ts) more zero h = refl
+drop_joined (t ∷ ts) more (suc at) h = drop_joined ts more at (omega arith)
+
+pub rest_more : (ts us more : List Token) (at : ℕ) → us ≡ drop at ts → at ≤ length ts → us ++ more ≡ drop at (ts ++ more)
+rest_more ts us more at e h = ap (λ (l : List Token). l ++ more) e ∙ drop_joined ts more at h
+
+pub led_stops : (ps : List Piece) (ts us : List Token) (done at : ℕ) (d p : Piece) (dead : Bool) → done < length ps → us ≡ drop at ts → p ≡ get_or ps done d → (dead ≡ true → passed p us ≡ No) → Led ps ts done at
     → Leads ps ts (record { is_dead = dead; pieces = done; tokens = at })
-led_stops ps ts us done at d p told dead h u k e n led rows f =
+led_stops ps ts us done at d p dead h u k dies led rows f =
     let inner : List Token → List Bool = λ vs. pieces_row (drop (suc done) ps) vs (rows vs) in
     by_both _ dead
-    (λ yes. led rows f ∙ ap head (next_piece ps done d p (drop at ts) (rows (drop at ts)) h k)
-    ∙ (piece_tells p (drop at ts) inner (pieces_family (drop (suc done) ps) rows f)).0 (ap (passed p) (sym u) ∙ sym e ∙ is_told told (sym n ∙ yes))
-    ∙ sym (if_dead dead (head (pieces_row (drop done ps) (drop at ts) (rows (drop at ts)))) yes))
-    (λ no. led rows f ∙ sym (if_alive dead (head (pieces_row (drop done ps) (drop at ts) (rows (drop at ts)))) no))
+    (λ lost. led rows f ∙ ap head (next_piece ps done d p (drop at ts) (rows (drop at ts)) h k)
+    ∙ (piece_tells p (drop at ts) inner (pieces_family (drop (suc done) ps) rows f)).0 (ap (passed p) (sym u) ∙ dies lost)
+    ∙ sym (if_dead dead (head (pieces_row (drop done ps) (drop at ts) (rows (drop at ts)))) lost))
+    (λ alive. led rows f ∙ sym (if_alive dead (head (pieces_row (drop done ps) (drop at ts) (rows (drop at ts)))) alive))
   where
-    is_told : (told : Passed) → is_no told ≡ true → told ≡ No
-    is_told No e = refl
-    is_told Unknown e = cc
-    is_told Yes e = cc
-
     if_dead : (b x : Bool) → b ≡ true → (if b then false else x) ≡ false
     if_dead true x e = refl
     if_dead false x e = cc
@@ -280,6 +325,16 @@ led_stops ps ts us done at d p told dead h u k e n led rows f =
     if_alive : (b x : Bool) → b ≡ false → (if b then false else x) ≡ x
     if_alive false x e = refl
     if_alive true x e = cc
+
+pub led_next : (ps : List Piece) (ts us : List Token) (done next at to : ℕ) (d p : Piece) (told : Passed) → done < length ps → next ≡ suc done → us ≡ drop at ts → at ≤ length ts → to ≡ at + piece_size p → p ≡ get_or ps done d
+    → told ≡ passed p us → told ≡ Yes → ((more : List Token) → Led ps (ts ++ more) done at) → (more : List Token) → Led ps (ts ++ more) next to
+led_next ps ts us done next at to d p told h n u w e k t y led more =
+    led_more ps (ts ++ more) (us ++ more) done next at to d p h n (rest_more ts us more at u w) e k (yes_more p us more told t y) (led more)
+
+pub led_ended : (ps : List Piece) (ts us : List Token) (done at : ℕ) (d p : Piece) (told : Passed) (dead : Bool) → done < length ps → us ≡ drop at ts → at ≤ length ts → p ≡ get_or ps done d
+    → told ≡ passed p us → dead ≡ is_no told → ((more : List Token) → Led ps (ts ++ more) done at) → (more : List Token) → Leads ps (ts ++ more) (record { is_dead = dead; pieces = done; tokens = at })
+led_ended ps ts us done at d p told dead h u w k t e led more =
+    led_stops ps (ts ++ more) (us ++ more) done at d p dead h (rest_more ts us more at u w) k (no_more p us more told dead t e) (led more)
 
 -- lists of Rust's, and what they stand for
 pub views_drop : (texts : List (Bor (List ℕ))) (n : ℕ) → views (drop n texts) ≡ drop n (views texts)
@@ -303,6 +358,16 @@ mapped_drop [] zero = refl
 mapped_drop [] (suc n) = refl
 mapped_drop (x ∷ l) zero = refl
 mapped_drop (x ∷ l) (suc n) = mapped_drop l n
+
+pub long_views : (texts : List (Bor (List ℕ))) (at : ℕ) → at ≤ length texts → at ≤ length (views texts)
+long_views texts at h = subst (λ (n : ℕ). at ≤ n) (sym (views_length texts)) h
+
+pub none_more : (ps : List Piece) (ts : List Token) (lead : Lead) → ((more : List Token) → Leads ps (ts ++ more) lead) → Leads ps ts lead
+none_more ps ts lead l = subst (λ (us : List Token). Leads ps us lead) (sym (append_none ts)) (l [])
+  where
+    append_none : (us : List Token) → us ≡ us ++ []
+    append_none [] = refl
+    append_none (u ∷ us) = ap (λ (r : List Token). u ∷ r) (append_none us)
 
 pub within_rest : (texts rest : List (Bor (List ℕ))) (at n m : ℕ) → rest ≡ drop at texts → at ≤ length texts → m ≡ n → n ≤ length rest → at + m ≤ length texts
 within_rest texts rest at n m e h s k = omega (arith, ap length e, length-drop at texts)

@@ -13,5 +13,7 @@ pub mod FollowLemmas
 pub mod ExpectedLemmas
 pub mod LikeLemmas
 pub mod GuessLemmas
-pub mod AlikeLemmas
-pub mod DropLemmas
+pub mod CellLemmas
+pub mod CellLoopLemmas
+pub mod AfterLemmas
+pub mod LongestLemmas

@@ -1,9 +1,11 @@
 -- What the proofs of this crate speak of: forms and languages as they are computed, from the left to the right.
-use Rattle.std.specs.Prelude.{ℕ, Bool, false, true, List, [], ◌∷◌, ◌++◌, IsTrue, ◌≡◌, ◌≤◌, ◌⊎◌, ◌==◌, if◌then◌else◌, drop, length, map, suc, zero}
+use Rattle.std.specs.Prelude.{ℕ, Bool, false, true, List, [], ◌∷◌, ◌++◌, IsTrue, ◌≡◌, ◌≤◌, ◌<◌, ◌⊎◌, ◌==◌, ◌+◌, ◌^◌, if◌then◌else◌, drop, length, map, max, nat_lt, suc, take, zero}
 use Rattle.std.proofs.Common.{Bor}
+use Rattle.std.specs.Int.{bit_at}
+use Rattle.std.specs.Int.Bits.{bit_or}
 use Rattle.hwdb_spec.specs.FormTable.{asked}
 use Rattle.hwdb_spec.specs.Lines.{has}
-use Rattle.hwdb_spec.specs.Patterns.{Token, admits_byte, Matches, star, token_at, tokens}
+use Rattle.hwdb_spec.specs.Patterns.{Token, admits_byte, literal, Matches, star, token_at, tokens}
 use Rattle.hwdb_spec.specs.Forms.{Piece, Form, fixed, counted, repeated, is_in, is_star}
 use Rattle.hwdb_spec.specs.Forms
 use Rattle.hwdb_spec.specs.declared.ByteSet.{ByteSet}
@@ -14,7 +16,9 @@ use Rattle.hwdb_forms.specs.declared.pieces.FormRow
 use Rattle.hwdb_forms.specs.declared.leads.Passed.TheVariants.{No, Unknown, Yes}
 use Rattle.hwdb_forms.specs.declared.leads.Passed.{Passed}
 use Rattle.hwdb_forms.specs.declared.leads.Lead.{Lead}
-use Rattle.hwdb_forms.specs.declared.expecting.Asked.{Asked}
+use Rattle.hwdb_forms.specs.declared.cells.Kind.{Kind}
+use Rattle.hwdb_forms.specs.declared.cells.Kind.TheVariants.{After, Longest}
+use Rattle.hwdb_forms.specs.declared.expecting.Word.{Word}
 use Rattle.hwdb_forms.specs.declared.expecting.Following.{Following}
 
 -- what a piece of Rust's stands for, and a form
@@ -113,15 +117,26 @@ passed (repeated set) ts = Unknown
 abbrev pub AreEnough : List Forms.Form → (front : List ℕ) → Type 0
 AreEnough forms front = (byte : ℕ) → Forms.can_begin forms (tokens (front ++ byte ∷ [])) ≡ Forms.can_begin asked (tokens (front ++ byte ∷ []))
 
+-- each of some things is as told
+abbrev pub Every : (A : Type 0) → (A → Type 0) → List A → Type 0
+Every A Told [] = Unit {0}
+Every A Told (x ∷ more) = Told x × Every A Told more
+
+-- each field has a way
+abbrev pub HaveWays : List (List (List Forms.Piece)) → Type 0
+HaveWays [] = Unit {0}
+HaveWays ([] ∷ more) = ⊥
+HaveWays ((way ∷ ways) ∷ more) = HaveWays more
+
+-- each field of a form has a way
+abbrev pub HasWays : Forms.Form → Type 0
+HasWays form = HaveWays form.fields
+
 -- What is known of the beginning of a pattern: the forms that matter after it, and its tokens if no bracket is in it.
 pub record IsAfter (front : List ℕ) (f : Following) : Type 0 where
+  pub ways : Every Forms.Form HasWays (map form_of f.forms.items)
   pub enough : AreEnough (map form_of f.forms.items) front
-  pub unopened : f.is_plain ≡ true → has 91 front ≡ false
   pub plain : f.is_plain ≡ true → (byte : ℕ) → tokens (front ++ byte ∷ []) ≡ views f.tokens.items ++ token_at (byte ∷ []) ∷ []
-
--- some tokens are the last of others
-abbrev pub AreLast : (all last : List Token) → Type 0
-AreLast all last = (front : List Token) × (all ≡ front ++ last)
 
 -- how many bytes a piece has, if each of its texts has as many
 abbrev pub piece_size : Forms.Piece → ℕ
@@ -144,12 +159,6 @@ Leads ps ts lead =
     (rows : List Token → List Bool) → IsFamily rows
     → Forms.head (Forms.pieces_row ps ts (rows ts))
     ≡ (if lead.is_dead then false else Forms.head (Forms.pieces_row (drop lead.pieces ps) (drop lead.tokens ts) (rows (drop lead.tokens ts))))
-
--- each field has a way
-abbrev pub HaveWays : List (List (List Forms.Piece)) → Type 0
-HaveWays [] = Unit {0}
-HaveWays ([] ∷ more) = ⊥
-HaveWays ((way ∷ ways) ∷ more) = HaveWays more
 
 -- Tokens match a piece and what comes after it, if a star alone matches that. They end in a star, and those before it match the
 -- piece's first bytes.
@@ -202,38 +211,14 @@ IsOfMany set b = (b ≡ 42) ⊎ ((is_in set b ≡ true) × (Forms.is_wild b ≡ 
 abbrev pub IsAsked : Forms.Form → Type 0
 IsAsked form = (ts : List Token) → Forms.meets_form ts form ≡ true → Forms.can_match asked ts ≡ true
 
--- each of some things is as told
-abbrev pub Every : (A : Type 0) → (A → Type 0) → List A → Type 0
-Every A Told [] = Unit {0}
-Every A Told (x ∷ more) = Told x × Every A Told more
+-- whether a number has a bit
+abbrev pub has_bit : ℕ → ℕ → Bool
+has_bit n i = bit_at n i == 1
 
--- a set has both bytes, or neither
-abbrev pub AreAlikeIn : (one other : ℕ) → ByteSet → Type 0
-AreAlikeIn one other set = is_in set one ≡ is_in set other
-
-abbrev pub AreAlikeAt : (one other own : ℕ) → Type 0
-AreAlikeAt one other own = AreAlikeIn one other (Only own)
-
--- no set of a piece, of a way, of a field and of a form tells two bytes apart
-abbrev pub AreAlikeInPiece : (one other : ℕ) → Forms.Piece → Type 0
-AreAlikeInPiece one other (fixed bytes) = Every ℕ (AreAlikeAt one other) bytes
-AreAlikeInPiece one other (counted set n) = AreAlikeIn one other set
-AreAlikeInPiece one other (repeated set) = AreAlikeIn one other set
-
-abbrev pub AreAlikeInWay : (one other : ℕ) → List Forms.Piece → Type 0
-AreAlikeInWay one other way = Every Forms.Piece (AreAlikeInPiece one other) way
-
-abbrev pub AreAlikeInField : (one other : ℕ) → List (List Forms.Piece) → Type 0
-AreAlikeInField one other field = Every (List Forms.Piece) (AreAlikeInWay one other) field
-
-abbrev pub AreAlikeInForm : (one other : ℕ) → Forms.Form → Type 0
-AreAlikeInForm one other form =
-    Every ℕ (AreAlikeAt one other) form.prefix × Every (List (List Forms.Piece)) (AreAlikeInField one other) form.fields
-
--- A byte stands for itself, and it is told whether it may be written after a front.
-pub record IsAskedAfter (front : List ℕ) (a : Asked) : Type 0 where
-  pub plain : Forms.is_wild a.byte ≡ false
-  pub met : a.met ≡ Forms.can_begin asked (tokens (front ++ a.byte ∷ []))
+-- What is told of 128 bytes, from the first one on: whether each that stands for itself may be written after a front.
+pub record IsWordAfter (front : List ℕ) (w : Word) : Type 0 where
+  pub within : w.first ≤ 128
+  pub told : (i : ℕ) → i < 128 → Forms.is_wild (w.first + i) ≡ false → has_bit w.bits i ≡ Forms.can_begin asked (tokens (front ++ (w.first + i) ∷ []))
 
 -- Pieces are led through by the first tokens to a place among both.
 abbrev pub LedTo : List Forms.Piece → List Token → ℕ → ℕ → Type 0
@@ -273,3 +258,110 @@ AreFirstWays [] (template ∷ more) = ⊥
 AreFirstWays ([] ∷ fields) templates = ⊥
 AreFirstWays ((way ∷ ways) ∷ fields) [] = ⊥
 AreFirstWays ((way ∷ ways) ∷ fields) (template ∷ more) = (units template ≡ all_parts way) × AreFirstWays fields more
+
+-- ---- rows of numbers
+-- the first bytes of 128 that are asked for at once
+abbrev pub IsKind : Kind → Type 0
+IsKind Longest = Unit {0}
+IsKind (After first) = first ≤ 128
+
+-- what holds if one cell or the other does
+abbrev pub either : Kind → (left other : ℕ) → ℕ
+either Longest left other = max left other
+either (After first) left other = bit_or left other
+
+-- what a cell says one token earlier, if that is matched
+abbrev pub earlier : Kind → ℕ → ℕ
+earlier Longest cell = if nat_lt cell 18446744073709551615 then cell + 1 else cell
+earlier (After first) cell = cell
+
+-- which bytes of a set are among so many, from the first one on: a bit for each
+unfoldable pub bytes_of : ByteSet → ℕ → ℕ → ℕ
+bytes_of set first zero = 0
+bytes_of set first (suc n) = if is_in set (first + n) then bit_or (bytes_of set first n) (2 ^ n) else bytes_of set first n
+
+-- the last cell, before a byte of a set
+abbrev pub last_cell : Kind → ByteSet → ℕ
+last_cell Longest set = 0
+last_cell (After first) set = bytes_of set first 128
+
+-- the first cell of a row, and the others
+abbrev pub first_cell : List ℕ → ℕ
+first_cell [] = 0
+first_cell (cell ∷ more) = cell
+
+abbrev pub more_cells : List ℕ → List ℕ
+more_cells [] = []
+more_cells (cell ∷ more) = more
+
+-- the cells and rows of `Forms`, of numbers
+abbrev pub byte_number : Kind → (star met : Bool) → (here after next : ℕ) → ℕ
+byte_number kind true met here after next = either kind (earlier kind next) here
+byte_number kind false met here after next = if met then earlier kind after else 0
+
+unfoldable pub byte_numbers : Kind → ByteSet → List Token → List ℕ → List ℕ
+byte_numbers kind set [] row = last_cell kind set ∷ []
+byte_numbers kind set (token ∷ more) row =
+    byte_number kind (is_star token) (Forms.meets token set) (first_cell row) (first_cell (more_cells row)) (first_cell (byte_numbers kind set more (more_cells row)))
+    ∷ byte_numbers kind set more (more_cells row)
+
+abbrev pub many_number : Kind → (star met : Bool) → (here next : ℕ) → ℕ
+many_number kind true met here next = either kind here (earlier kind next)
+many_number kind false met here next = either kind here (if met then earlier kind next else 0)
+
+unfoldable pub many_numbers : Kind → ByteSet → List Token → List ℕ → List ℕ
+many_numbers kind set [] row = either kind (first_cell row) (last_cell kind set) ∷ []
+many_numbers kind set (token ∷ more) row =
+    many_number kind (is_star token) (Forms.meets token set) (first_cell row) (first_cell (many_numbers kind set more (more_cells row)))
+    ∷ many_numbers kind set more (more_cells row)
+
+unfoldable pub fixed_numbers : Kind → List ℕ → List Token → List ℕ → List ℕ
+fixed_numbers kind [] ts row = row
+fixed_numbers kind (own ∷ more) ts row = byte_numbers kind (Only own) ts (fixed_numbers kind more ts row)
+
+unfoldable pub counted_numbers : Kind → ByteSet → ℕ → List Token → List ℕ → List ℕ
+counted_numbers kind set zero ts row = row
+counted_numbers kind set (suc n) ts row = byte_numbers kind set ts (counted_numbers kind set n ts row)
+
+abbrev pub piece_numbers : Kind → Forms.Piece → List Token → List ℕ → List ℕ
+piece_numbers kind (fixed bytes) ts row = fixed_numbers kind bytes ts row
+piece_numbers kind (counted set n) ts row = counted_numbers kind set n ts row
+piece_numbers kind (repeated set) ts row = many_numbers kind set ts row
+
+unfoldable pub pieces_numbers : Kind → List Forms.Piece → List Token → List ℕ → List ℕ
+pieces_numbers kind [] ts row = row
+pieces_numbers kind (piece ∷ more) ts row = piece_numbers kind piece ts (pieces_numbers kind more ts row)
+
+unfoldable pub either_numbers : Kind → List Token → List ℕ → List ℕ → List ℕ
+either_numbers kind [] left other = either kind (first_cell left) (first_cell other) ∷ []
+either_numbers kind (token ∷ more) left other = either kind (first_cell left) (first_cell other) ∷ either_numbers kind more (more_cells left) (more_cells other)
+
+unfoldable pub none_numbers : List Token → List ℕ
+none_numbers [] = 0 ∷ []
+none_numbers (token ∷ more) = 0 ∷ none_numbers more
+
+unfoldable pub end_numbers : Kind → List Token → List ℕ
+end_numbers kind [] = 0 ∷ []
+end_numbers kind (token ∷ more) = (if is_star token then earlier kind (first_cell (end_numbers kind more)) else 0) ∷ end_numbers kind more
+
+unfoldable pub field_numbers : Kind → List (List Forms.Piece) → List Token → List ℕ → List ℕ
+field_numbers kind [] ts row = none_numbers ts
+field_numbers kind (way ∷ more) ts row = either_numbers kind ts (pieces_numbers kind way ts row) (field_numbers kind more ts row)
+
+unfoldable pub fields_numbers : Kind → List (List (List Forms.Piece)) → List Token → List ℕ
+fields_numbers kind [] ts = end_numbers kind ts
+fields_numbers kind (field ∷ more) ts = field_numbers kind field ts (fields_numbers kind more ts)
+
+-- the first cell of a form's row
+abbrev pub form_number : Kind → List Token → Forms.Form → ℕ
+form_number kind ts form = first_cell (fixed_numbers kind form.prefix ts (fields_numbers kind form.fields ts))
+
+-- tokens, then a byte that stands for itself, and then any
+abbrev pub followed : List Token → ℕ → List Token
+followed ts b = ts ++ literal b ∷ star ∷ []
+
+-- So many of the tokens, at most, a text of one of the forms begins with.
+pub record IsFront (forms : List Forms.Form) (ts : List Token) (n : ℕ) : Type 0 where
+  pub within : n ≤ length ts
+  pub met : 0 < n → Forms.can_begin forms (take n ts) ≡ true
+  pub none : (more : ℕ) → n < more → more ≤ length ts → Forms.can_begin forms (take more ts) ≡ false

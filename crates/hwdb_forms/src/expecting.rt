@@ -1,15 +1,14 @@
 //! What can be written at a place of a pattern.
-ghost use Rattle.std.specs.Prelude.{◌≡◌, ◌≤◌, ◌++◌, ◌∷◌, [], false, true, drop, filter, length, map, not, take, IfOk};
+ghost use Rattle.std.specs.Prelude.{◌≡◌, ℕ, ◌+◌, ◌<◌, ◌≤◌, ◌++◌, ◌∷◌, [], false, true, drop, filter, length, map, take, IfOk};
 ghost use Rattle.hwdb_spec.specs.Lines.{has};
 ghost use Rattle.hwdb_spec.specs.Patterns.{star, token_at, tokens};
 ghost use Rattle.hwdb_spec.specs.Forms;
 ghost use Rattle.hwdb_spec.specs.FormTable;
 ghost use Rattle.hwdb_spec.specs.FormTable.{asked};
-ghost use Rattle.hwdb_forms.specs.Internal.{AreEnough, AreLast, IsAfter, IsAskedAfter, form_of, views};
+ghost use Rattle.hwdb_forms.specs.Internal.{Every, HasWays, IsAfter, IsWordAfter, followed, form_of, has_bit, views};
 
-use crate::alike::alike_in_forms;
 use crate::beginnings::{free, free_prefixes};
-use crate::guesses::meets_one;
+use crate::cells::form_bits;
 use crate::judging::match_one;
 use crate::pieces::FormRow;
 use crate::plain::is_wild;
@@ -21,13 +20,10 @@ use std::alloc::{AllocError, Global};
 /// How many tokens there is room for at first. Most patterns have fewer.
 pub(crate) const ROOM: usize = 64;
 
-/// How many of the last tokens are tried before all: with a few more than a field's name has, most that can't match are seen.
-const LAST: usize = 6;
-
 /// What is known of the beginning of a pattern: it is the same for each byte after it.
 #[derive(Drop)]
 struct Following<'a> {
-    /// The forms that matter: a text of theirs begins with what is before the first bracket.
+    /// The forms that matter: all, or those of which a text begins with what is before the first bracket.
     forms: Vec<FormRow>,
     /// The tokens before the first bracket.
     tokens: Vec<&'a [u8]>,
@@ -36,7 +32,7 @@ struct Following<'a> {
 }
 
 /// How many bytes are before the first `[` of a text.
-pub(crate) fn plain_size(text: &[u8]) -> usize
+fn plain_size(text: &[u8]) -> usize
     ensures plain { has 91 (take result text.now) ≡ false }
     ensures within { result ≤ length text.now }
 {
@@ -64,7 +60,7 @@ fn with_free(
 }
 
 /// All forms.
-fn all_forms(alloc: Global) -> Result<Vec<FormRow>, AllocError>
+pub(crate) fn all_forms(alloc: Global) -> Result<Vec<FormRow>, AllocError>
     ensures { IfOk result (λ forms. map form_of forms.items ≡ asked) }
 {
     let forms = with_free(alloc, &known(), free_prefixes())?;
@@ -91,7 +87,8 @@ fn matched_forms(
 
 /// The forms of which a text begins with what the tokens match.
 fn forms_after(alloc: Global, tokens: &[&[u8]]) -> Result<Vec<FormRow>, AllocError>
-    ensures { IfOk result (λ forms. map form_of forms.items
+    ensures ways { IfOk result (λ forms. Every Forms.Form HasWays (map form_of forms.items)) }
+    ensures matched { IfOk result (λ forms. map form_of forms.items
         ≡ filter (Forms.meets_form (views tokens.now ++ star ∷ [])) asked) }
 {
     let mut starred = tokens.to_vec(alloc)?;
@@ -101,59 +98,46 @@ fn forms_after(alloc: Global, tokens: &[&[u8]]) -> Result<Vec<FormRow>, AllocErr
     Ok(matched)
 }
 
-/// What is known of the beginning of a pattern.
-fn known_after(alloc: Global, front: &[u8]) -> Result<Following<'_>, AllocError>
+/// What is known of the beginning of a pattern in which no bracket begins.
+fn known_plainly(alloc: Global, front: &[u8]) -> Result<Following<'_>, AllocError>
+    requires { has 91 front.now ≡ false }
     ensures { IfOk result (IsAfter front.now) }
 {
-    let size = plain_size(front);
+    let tokens = token_texts(alloc, front)?;
+    let forms = all_forms(alloc)?;
+    Ok(Following {
+        forms,
+        tokens,
+        is_plain: true,
+    })
+}
+
+/// The same of one with brackets, by what is before the first one.
+fn known_before(alloc: Global, front: &[u8], size: usize) -> Result<Following<'_>, AllocError>
+    requires within { size ≤ length front.now }
+    requires plain { has 91 (take size front.now) ≡ false }
+    ensures { IfOk result (IsAfter front.now) }
+{
     let tokens = token_texts(alloc, &front[..size])?;
     let forms = forms_after(alloc, &tokens)?;
     Ok(Following {
         forms,
         tokens,
-        is_plain: size == front.len(),
+        is_plain: false,
     })
 }
 
-/// Whether a text of one of the forms begins with what the tokens match, and then what begins the text.
-fn begins_with<'t>(
-    alloc: Global,
-    forms: &[FormRow],
-    tokens: &[&'t [u8]],
-    text: &'t [u8],
-) -> Result<bool, AllocError>
-    ensures { IfOk result (λ met. met ≡ Forms.can_begin (map form_of forms.now)
-        (views tokens.now ++ token_at text.now ∷ [])) }
+/// What is known of the beginning of a pattern.
+fn known_after(alloc: Global, front: &[u8]) -> Result<Following<'_>, AllocError>
+    ensures { IfOk result (IsAfter front.now) }
 {
-    let mut all = Vec::with_capacity(alloc, ROOM)?;
-    all.extend_from_slice(tokens)?;
-    all.push(text)?;
-    all.push(b"*")?;
-    let met = match_one(alloc, forms, &all)?;
-    Ok(met)
-}
-
-/// Whether it is seen byte by byte that a text of one of the forms begins with what the beginning of a pattern and the byte after it
-/// match.
-fn begins_at_once(
-    alloc: Global,
-    forms: &[FormRow],
-    front: &[u8],
-    byte: u8,
-) -> Result<bool, AllocError>
-    requires { has 91 front.now ≡ false }
-    ensures { IfOk result (λ seen. seen ≡ true
-        → Forms.can_begin (map form_of forms.now) (tokens (front.now ++ byte ∷ [])) ≡ true) }
-{
-    if byte == b'[' {
-        return Ok(false);
+    let size = plain_size(front);
+    if size == front.len() {
+        let known = known_plainly(alloc, front)?;
+        return Ok(known);
     }
-    let mut text = Vec::with_capacity(alloc, ROOM)?;
-    text.extend_from_slice(front)?;
-    text.push(byte)?;
-    text.push(b'*')?;
-    let seen = meets_one(forms, &text);
-    Ok(seen)
+    let known = known_before(alloc, front, size)?;
+    Ok(known)
 }
 
 /// Whether a text of one of the forms begins with what the beginning of a pattern and the byte after it match.
@@ -169,137 +153,99 @@ fn begins_anew(alloc: Global, forms: &[FormRow], front: &[u8], byte: u8) -> Resu
     Ok(met)
 }
 
-/// The last of some tokens, at most so many.
-fn last_tokens<'s, 't>(tokens: &'s [&'t [u8]], most: usize) -> &'s [&'t [u8]]
-    ensures { AreLast (views tokens.now) (views result.now) }
-{
-    if tokens.len() > most {
-        &tokens[tokens.len() - most..]
-    } else {
-        tokens
-    }
-}
-
-/// Whether no text of the forms has what some tokens match, and after that what begins the text.
-fn is_nowhere<'t>(
-    alloc: Global,
-    forms: &[FormRow],
-    tokens: &[&'t [u8]],
-    text: &'t [u8],
-) -> Result<bool, AllocError>
-    ensures { IfOk result (λ nowhere. nowhere ≡ not (Forms.can_match (map form_of forms.now)
-        (star ∷ (views tokens.now ++ (token_at text.now ∷ star ∷ []))))) }
-{
-    let mut all: Vec<&'t [u8]> = Vec::with_capacity(alloc, ROOM)?;
-    all.push(b"*")?;
-    all.extend_from_slice(tokens)?;
-    all.push(text)?;
-    all.push(b"*")?;
-    let met = match_one(alloc, forms, &all)?;
-    Ok(!met)
-}
-
-/// Whether it is seen by so many of the last tokens that no text of the forms begins with what all match, and then what begins the
-/// text.
-fn is_ruled_out_by<'t>(
-    alloc: Global,
-    forms: &[FormRow],
-    tokens: &[&'t [u8]],
-    most: usize,
-    text: &'t [u8],
-) -> Result<bool, AllocError>
-    ensures { IfOk result (λ ruled. ruled ≡ true → Forms.can_begin (map form_of forms.now)
-        (views tokens.now ++ token_at text.now ∷ []) ≡ false) }
-{
-    let last = last_tokens(tokens, most);
-    let nowhere = is_nowhere(alloc, forms, last, text)?;
-    Ok(nowhere)
-}
-
-/// Whether it is seen by the last tokens that no text of the forms begins with what all match, and then what begins the text.
-fn is_ruled_out<'t>(
-    alloc: Global,
-    forms: &[FormRow],
-    tokens: &[&'t [u8]],
-    text: &'t [u8],
-) -> Result<bool, AllocError>
-    ensures { IfOk result (λ ruled. ruled ≡ true → Forms.can_begin (map form_of forms.now)
-        (views tokens.now ++ token_at text.now ∷ []) ≡ false) }
-{
-    let ruled = is_ruled_out_by(alloc, forms, tokens, 1, text)?;
-    if ruled {
-        return Ok(true);
-    }
-    let ruled = is_ruled_out_by(alloc, forms, tokens, LAST, text)?;
-    Ok(ruled)
-}
-
-/// Whether a text that udev asks begins with what the beginning of a pattern and the byte after it match.
-fn begins(alloc: Global, known: &Following<'_>, front: &[u8], byte: u8) -> Result<bool, AllocError>
-    requires { IsAfter front.now known.now }
-    ensures { IfOk result (λ met. met ≡ Forms.can_begin asked (tokens (front.now ++ byte ∷ []))) }
-{
-    if known.is_plain {
-        let seen = begins_at_once(alloc, &known.forms, front, byte)?;
-        if seen {
-            return Ok(true);
-        }
-        let own = [byte];
-        let ruled = is_ruled_out(alloc, &known.forms, &known.tokens, &own)?;
-        if ruled {
-            return Ok(false);
-        }
-        let met = begins_with(alloc, &known.forms, &known.tokens, &own)?;
-        Ok(met)
-    } else {
-        let met = begins_anew(alloc, &known.forms, front, byte)?;
-        Ok(met)
-    }
-}
-
-/// A byte that stands for itself, and whether it may be written after the beginning of a pattern.
+/// Which of 128 bytes may be written after the beginning of a pattern.
 #[derive(Clone, Copy)]
-struct Asked {
-    byte: u8,
-    met: bool,
+struct Word {
+    /// The first of these bytes.
+    first: u8,
+    /// A bit for each, the lowest one for the first.
+    bits: u128,
 }
 
-/// Whether it is seen that two bytes that stand for themselves may both be written there, or none of them.
-fn are_alike(known: &Following<'_>, front: &[u8], one: u8, other: u8) -> bool
-    requires known { IsAfter front.now known.now }
-    requires one { Forms.is_wild one ≡ false }
-    requires other { Forms.is_wild other ≡ false }
-    ensures { result ≡ true → Forms.can_begin asked (tokens (front.now ++ one ∷ []))
-        ≡ Forms.can_begin asked (tokens (front.now ++ other ∷ [])) }
+/// Which of 128 bytes, from the first one on, may come after all tokens in a text of one of the forms.
+fn bits_after(
+    alloc: Global,
+    forms: &[FormRow],
+    tokens: &[&[u8]],
+    first: u8,
+) -> Result<u128, AllocError>
+    requires first { first ≤ 128 }
+    requires ways { Every Forms.Form HasWays (map form_of forms.now) }
+    ensures { IfOk result (λ bits. (i : ℕ) → i < 128 → has_bit bits i
+        ≡ Forms.can_match (map form_of forms.now) (followed (views tokens.now) (first + i))) }
 {
-    if !known.is_plain {
-        return false;
+    let mut bits = 0u128;
+    for form in forms {
+        let own = form_bits(alloc, first, *form, tokens)?;
+        bits = bits | own;
     }
-    alike_in_forms(&known.forms, one, other)
+    Ok(bits)
 }
 
-/// Whether the byte may be written there. `last` is what was asked before: most bytes are like the one before them.
-fn next_asked(
+/// Which of 128 bytes, from the first one on, may be written there.
+fn word_after(
     alloc: Global,
     known: &Following<'_>,
     front: &[u8],
-    last: Asked,
-    byte: u8,
-) -> Result<Asked, AllocError>
+    first: u8,
+) -> Result<Word, AllocError>
     requires known { IsAfter front.now known.now }
-    requires last { IsAskedAfter front.now last }
-    requires plain { Forms.is_wild byte ≡ false }
-    ensures asked { IfOk result (IsAskedAfter front.now) }
-    ensures byte { IfOk result (λ a. a.byte ≡ byte) }
+    requires plain { known.now.is_plain ≡ true }
+    requires first { first ≤ 128 }
+    ensures told { IfOk result (IsWordAfter front.now) }
+    ensures first { IfOk result (λ word. word.first ≡ first) }
 {
-    if are_alike(known, front, last.byte, byte) {
-        return Ok(Asked {
-            byte,
-            met: last.met,
-        });
+    let bits = bits_after(alloc, &known.forms, &known.tokens, first)?;
+    Ok(Word { first, bits })
+}
+
+/// What is told of the first 128 bytes, if no bracket is in the beginning of the pattern.
+fn first_word(alloc: Global, known: &Following<'_>, front: &[u8]) -> Result<Word, AllocError>
+    requires { IsAfter front.now known.now }
+    ensures { IfOk result (λ word. known.now.is_plain ≡ true → IsWordAfter front.now word) }
+{
+    if known.is_plain {
+        let word = word_after(alloc, known, front, 0)?;
+        return Ok(word);
     }
-    let met = begins(alloc, known, front, byte)?;
-    Ok(Asked { byte, met })
+    Ok(Word { first: 0, bits: 0 })
+}
+
+/// Whether the number has the bit.
+fn has_bit(bits: u128, at: u8) -> bool
+    requires { at < 128 }
+    ensures { result ≡ has_bit bits at }
+{
+    (bits >> at) % 2 == 1
+}
+
+/// Whether a text that udev asks begins with what the beginning of a pattern and the byte after it match. `last` is what was told
+/// of the bytes around the one before.
+fn begins(
+    alloc: Global,
+    known: &Following<'_>,
+    front: &[u8],
+    last: &mut Word,
+    byte: u8,
+) -> Result<bool, AllocError>
+    requires known { IsAfter front.now known.now }
+    requires last { known.now.is_plain ≡ true → IsWordAfter front.now last.old }
+    requires plain { Forms.is_wild byte ≡ false }
+    ensures last { IfOk result
+        (λ met. known.now.is_plain ≡ true → IsWordAfter front.now last.new) }
+    ensures met { IfOk result (λ met. met
+        ≡ Forms.can_begin asked (tokens (front.now ++ byte ∷ []))) }
+{
+    if !known.is_plain {
+        let met = begins_anew(alloc, &known.forms, front, byte)?;
+        return Ok(met);
+    }
+    let first = byte / 128 * 128;
+    if last.first != first {
+        let word = word_after(alloc, known, front, first)?;
+        *last = word;
+    }
+    Ok(has_bit(last.bits, byte - first))
 }
 
 /// Adds the byte if it is no wildcard, and may be written there.
@@ -307,22 +253,22 @@ fn put_expected(
     alloc: Global,
     known: &Following<'_>,
     front: &[u8],
-    last: &mut Asked,
+    last: &mut Word,
     byte: u8,
     bytes: &mut Vec<u8>,
 ) -> Result<(), AllocError>
     requires known { IsAfter front.now known.now }
-    requires last { IsAskedAfter front.now last.old }
-    ensures last { IfOk result (λ done. IsAskedAfter front.now last.new) }
+    requires last { known.now.is_plain ≡ true → IsWordAfter front.now last.old }
+    ensures last { IfOk result
+        (λ done. known.now.is_plain ≡ true → IsWordAfter front.now last.new) }
     ensures bytes { IfOk result (λ done. bytes.new.items
         ≡ bytes.old.items ++ filter (Forms.is_expected asked front.now) (byte ∷ [])) }
 {
     if is_wild(byte) {
         return Ok(());
     }
-    let asked = next_asked(alloc, known, front, *last, byte)?;
-    *last = asked;
-    if asked.met {
+    let met = begins(alloc, known, front, last, byte)?;
+    if met {
         bytes.push(byte)?;
     }
     Ok(())
@@ -336,8 +282,7 @@ pub fn expected(alloc: Global, front: &[u8]) -> Result<Vec<u8>, AllocError>
     ensures { IfOk result (λ bytes. bytes.items ≡ Forms.expected asked front.now) }
 {
     let known = known_after(alloc, front)?;
-    let met = begins(alloc, &known, front, 0)?;
-    let mut last = Asked { byte: 0, met };
+    let mut last = first_word(alloc, &known, front)?;
     let mut bytes = Vec::new(alloc);
     let mut byte = 0u8;
     while byte < u8::MAX {
@@ -354,8 +299,7 @@ pub fn expected_below(alloc: Global, front: &[u8], end: u8) -> Result<Vec<u8>, A
         ≡ filter (Forms.is_expected asked front.now) (Forms.all_bytes_from end 0)) }
 {
     let known = known_after(alloc, front)?;
-    let met = begins(alloc, &known, front, 0)?;
-    let mut last = Asked { byte: 0, met };
+    let mut last = first_word(alloc, &known, front)?;
     let mut bytes = Vec::new(alloc);
     let mut byte = 0u8;
     while byte < end {

@@ -38,7 +38,7 @@ fn guess(first: u8) -> Option<Template>
 }
 
 /// Whether it is seen byte by byte that the pattern matches a text of one of the forms.
-pub(crate) fn meets_one(forms: &[FormRow], pattern: &[u8]) -> bool
+fn meets_one(forms: &[FormRow], pattern: &[u8]) -> bool
     ensures { result ≡ true
         → Forms.can_match (map form_of forms.now) (tokens pattern.now) ≡ true }
 {

@@ -1,14 +1,15 @@
 //! What is said of a pattern.
-ghost use Rattle.std.specs.Prelude.{◌≡◌, ◌↔◌, ◌≤◌, ◌++◌, ◌∷◌, [], length, map, take, true, IfOk};
+ghost use Rattle.std.specs.Prelude.{◌≡◌, ◌↔◌, ◌≤◌, ◌++◌, ◌∷◌, List, [], length, map, true, IfOk};
 ghost use Rattle.hwdb_spec.specs.Patterns.{star, tokens as tokens_of};
 ghost use Rattle.hwdb_spec.specs.Forms.{CanMatch, judged};
 ghost use Rattle.hwdb_spec.specs.Forms;
 ghost use Rattle.hwdb_spec.specs.FormTable;
 ghost use Rattle.hwdb_spec.specs.Surroundings;
-ghost use Rattle.hwdb_forms.specs.Internal.{form_of, views};
+ghost use Rattle.hwdb_forms.specs.Internal.{Every, HasWays, IsFront, form_of, views};
 
 use crate::beginnings::{free, free_prefixes};
-use crate::expecting::{ROOM, plain_size};
+use crate::cells::{Kind, cell_of};
+use crate::expecting::{ROOM, all_forms};
 use crate::guesses::is_fine_at_once;
 use crate::pieces::FormRow;
 use crate::rows::meets_form;
@@ -73,56 +74,67 @@ pub(crate) fn can_begin(alloc: Global, front: &[&[u8]]) -> Result<bool, AllocErr
     Ok(met)
 }
 
-/// Whether it is seen byte by byte that a text that is asked begins with what so many of a pattern's first tokens match.
-fn begins_at_once(alloc: Global, pattern: &[u8], count: usize) -> Result<bool, AllocError>
-    ensures { IfOk result (λ seen. seen ≡ true
-        → Forms.can_begin FormTable.asked (take count (tokens_of pattern.now)) ≡ true) }
-{
-    if count > pattern.len() {
-        return Ok(false);
-    }
-    let front = &pattern[..count];
-    if plain_size(front) < count {
-        return Ok(false);
-    }
-    let mut text = Vec::with_capacity(alloc, ROOM)?;
-    text.extend_from_slice(front)?;
-    text.push(b'*')?;
-    let seen = is_fine_at_once(&text);
-    Ok(seen)
-}
-
-/// Whether a text that is asked begins with what so many of a pattern's first tokens match.
-fn begins(alloc: Global, pattern: &[u8], tokens: &[&[u8]], count: usize) -> Result<bool, AllocError>
-    requires tokens { views tokens.now ≡ tokens_of pattern.now }
-    requires count { count ≤ length tokens.now }
+/// Whether a text of the form begins with what the tokens match.
+fn begins(alloc: Global, form: FormRow, front: &[&[u8]]) -> Result<bool, AllocError>
     ensures { IfOk result (λ met. met
-        ≡ Forms.can_begin FormTable.asked (take count (views tokens.now))) }
+        ≡ Forms.meets_form (views front.now ++ star ∷ []) (form_of form)) }
 {
-    let seen = begins_at_once(alloc, pattern, count)?;
-    if seen {
-        return Ok(true);
-    }
-    let met = can_begin(alloc, &tokens[..count])?;
+    let mut tokens = Vec::with_capacity(alloc, ROOM)?;
+    tokens.extend_from_slice(front)?;
+    tokens.push(b"*")?;
+    let met = meets_form(alloc, form, &tokens)?;
     Ok(met)
 }
 
-/// How many of a pattern's tokens, at most, a text that is asked begins with.
-fn front_length(alloc: Global, pattern: &[u8], tokens: &[&[u8]]) -> Result<usize, AllocError>
-    requires { views tokens.now ≡ tokens_of pattern.now }
-    ensures { IfOk result (λ front. front ≡ Forms.front_length FormTable.asked (views tokens.now)) }
+/// How many of the tokens, at most, a text of the form begins with, if it begins with one.
+fn longest_of(alloc: Global, form: FormRow, tokens: &[&[u8]]) -> Result<usize, AllocError>
+    requires { HasWays (form_of form) }
+    ensures { IfOk result (IsFront (form_of form ∷ []) (views tokens.now)) }
+{
+    let cell = cell_of(alloc, Kind::Longest, form, tokens)?;
+    Ok(cell.min(tokens.len() as u128) as usize)
+}
+
+/// How many of the tokens, at most, a text of the form or of those before it begins with. `low` is what is found of those.
+fn front_with(
+    alloc: Global,
+    form: FormRow,
+    tokens: &[&[u8]],
+    low: usize,
+) -> Result<usize, AllocError>
+    requires { HasWays (form_of form) }
+    ensures { IfOk result (λ high. (forms : List Forms.Form) → IsFront forms (views tokens.now) low
+        → IsFront (forms ++ form_of form ∷ []) (views tokens.now) high) }
+{
+    if low >= tokens.len() {
+        return Ok(low);
+    }
+    if !begins(alloc, form, &tokens[..low + 1])? {
+        return Ok(low);
+    }
+    let front = longest_of(alloc, form, tokens)?;
+    Ok(front)
+}
+
+/// How many of the tokens, at most, a text of one of the forms begins with.
+fn front_among(alloc: Global, forms: &[FormRow], tokens: &[&[u8]]) -> Result<usize, AllocError>
+    requires { Every Forms.Form HasWays (map form_of forms.now) }
+    ensures { IfOk result (IsFront (map form_of forms.now) (views tokens.now)) }
 {
     let mut low = 0;
-    let mut high = tokens.len();
-    while low < high {
-        let middle = high - (high - low) / 2;
-        if begins(alloc, pattern, tokens, middle)? {
-            low = middle;
-        } else {
-            high = middle - 1;
-        }
+    for form in forms {
+        low = front_with(alloc, *form, tokens, low)?;
     }
     Ok(low)
+}
+
+/// How many of a pattern's tokens, at most, a text that is asked begins with.
+fn front_length(alloc: Global, tokens: &[&[u8]]) -> Result<usize, AllocError>
+    ensures { IfOk result (λ front. front ≡ Forms.front_length FormTable.asked (views tokens.now)) }
+{
+    let forms = all_forms(alloc)?;
+    let front = front_among(alloc, &forms, tokens)?;
+    Ok(front)
 }
 
 /// Whether the byte ends a pattern's prefix.
@@ -181,7 +193,7 @@ fn judge_tokens(alloc: Global, pattern: &[u8]) -> Result<Judgement, AllocError>
     if is_unknown(alloc, pattern, &tokens)? {
         return Ok(Judgement::UnknownPrefix);
     }
-    let front = front_length(alloc, pattern, &tokens)?;
+    let front = front_length(alloc, &tokens)?;
     Ok(Judgement::Dead(front_size(pattern, front)))
 }
 

@@ -1,5 +1,6 @@
 //! How pieces begin: the tokens before the first star match a piece byte by byte, so that no row is needed for them.
-ghost use Rattle.std.specs.Prelude.{◌≡◌, ◌≤◌, length, map};
+ghost use Rattle.std.specs.Prelude.{◌≡◌, ◌≤◌, ◌++◌, List, length, map};
+ghost use Rattle.hwdb_spec.specs.Patterns.{Token};
 ghost use Rattle.hwdb_forms.specs.Internal.{Leads, piece_of, piece_size, views};
 ghost use Rattle.hwdb_forms.specs.Internal;
 
@@ -95,9 +96,10 @@ pub(crate) struct Lead {
     pub(crate) tokens: usize,
 }
 
-/// How the tokens begin as the pieces do.
+/// How the tokens begin as the pieces do. More tokens after them change nothing.
 pub(crate) fn lead_of(pieces: &[Piece], tokens: &[&[u8]]) -> Lead
-    ensures leads { Leads (map piece_of pieces.now) (views tokens.now) result }
+    ensures leads { (more : List Token)
+        → Leads (map piece_of pieces.now) (views tokens.now ++ more) result }
     ensures pieces { result.pieces ≤ length pieces.now }
     ensures tokens { result.tokens ≤ length tokens.now }
 {

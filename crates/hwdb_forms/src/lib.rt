@@ -9,7 +9,6 @@
 //!
 //! | Module | What it does |
 //! |---|---|
-//! | `alike` | bytes that forms don't tell apart |
 //! | `pieces` | forms as data |
 //! | `table` | the forms that udev asks |
 //! | `beginnings` | how their texts begin |
@@ -20,14 +19,15 @@
 //! | `guesses` | the form that a pattern likely has |
 //! | `endings` | tokens that end in a star, which matches all that is left |
 //! | `rows` | the rows of a form |
+//! | `cells` | the same of numbers, which answer many questions at once |
 //! | `judging` | what is said of a pattern |
 //! | `expecting` | what can be written at a place of a pattern |
 //! | `likeness` | which prefix was meant by one that nobody asks |
 //! | `laws` | what is proved of the definitions alone |
 #![tactic(auto)]
 
-mod alike;
 mod beginnings;
+mod cells;
 mod endings;
 mod expecting;
 mod guesses;

@@ -17,6 +17,7 @@ use Rattle.hwdb_fs.specs.LeftOut.{AreFound, AreToldOf, IsNoted, IsNotedOf}
 use Rattle.hwdb_spec.specs.LeftOutTold.{AreSelectedLess, AreTold, AreUnreadLess, left_out_line}
 use Rattle.hwdb_spec.specs.LeftOut.{AreLeftOut, IsLeftOut, is_named, less}
 use Rattle.hwdb_spec.specs.Reading.{AreUnread, AreUnreadIn, IsChosenUnread}
+use Rattle.hwdb_spec.specs.Visible.{shown_name}
 use Rattle.hwdb_spec.specs.Refusals.{HasReason, IsUnread, IsUnreadable, file_text}
 use Rattle.hwdb_spec.specs.declared.refusals.Refusal.{Refusal}
 use Rattle.hwdb_spec.specs.declared.refusals.Refusal.TheVariants.{At, InWords, NoDatabase, Plain}
@@ -220,10 +221,10 @@ line_pieces old front mid end nl a b d first second third =
     ∙ ap (λ l. old ++ (front ++ l)) (sym (append_assoc mid end nl))
 
 -- a path and the words of its cause
-pub caused : (old path words a b d : List ℕ) (cause : Option Cause) (known : Cause) → cause ≡ Some known → a ≡ old ++ path → b ≡ a ++ codes ": " → d ≡ b ++ words → d ≡ old ++ file_text path cause words
+pub caused : (old path words a b d : List ℕ) (cause : Option Cause) (known : Cause) → cause ≡ Some known → a ≡ old ++ shown_name path → b ≡ a ++ codes ": " → d ≡ b ++ words → d ≡ old ++ file_text path cause words
 caused old path words a b d cause known is first second third =
     third ∙ ap (λ l. l ++ words) (second ∙ ap (λ l. l ++ codes ": ") first)
-    ∙ append_assoc (old ++ path) (codes ": ") words ∙ append_assoc old path (codes ": " ++ words)
+    ∙ append_assoc (old ++ shown_name path) (codes ": ") words ∙ append_assoc old (shown_name path) (codes ": " ++ words)
     ∙ ap (λ (o : Option Cause). old ++ file_text path o words) (sym is)
 
 -- ---- together

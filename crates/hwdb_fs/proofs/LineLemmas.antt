@@ -1,5 +1,5 @@
 -- Lines that are written in pieces.
-use Rattle.std.proofs.Common.{◌≡◌, ◌≢◌, ◌∙◌, ap, sym, subst, refl, ℕ, zero, suc, ◌+◌, ◌<◌, List, [], ◌∷◌, ◌++◌, length, take, drop, map, get_or, Option, Some, None, codes, decimal, Bor, arith, append_assoc, length-append}
+use Rattle.std.proofs.Common.{◌≡◌, ◌≢◌, ◌∙◌, ap, sym, subst, refl, ℕ, zero, suc, ◌+◌, ◌<◌, List, [], ◌∷◌, ◌++◌, length, take, get_or, ◌==◌, Option, Some, None, codes, decimal, Bor, arith, append_assoc, length-append}
 use Rattle.std.proofs.lemmas.List.{append-nil, take-append-le}
 use Rattle.std.specs.List.{concat}
 use Rattle.std.specs.Io.KnownBytes.{Appends}
@@ -9,7 +9,8 @@ use Rattle.hwdb_spec.specs.declared.DbFault.{DbFault}
 use Rattle.hwdb_spec.specs.declared.causes.Cause.{Cause}
 use Rattle.hwdb_spec.specs.declared.errors.ToolError.{ToolError}
 use Rattle.hwdb_spec.specs.declared.errors.ToolError.TheVariants.{Read, Write, TooLong, TooManyFiles, TooManyLines, TooLarge, BadPosition, BadDatabase, Replace, Memory}
-use Rattle.hwdb_fs.specs.Internal.{line_at}
+use Rattle.hwdb_fs.specs.Internal.{line_at, said_part, said_parts}
+use Rattle.hwdb_spec.specs.Visible.{shown_name}
 use Rattle.hwdb_spec.specs.Refusals.{Refused, refusal_line, path_text}
 use Rattle.hwdb_spec.specs.Errors.{error_text}
 use Rattle.hwdb_spec.specs.Texts.{at_offset, db_fault_name, db_fault_offset}
@@ -18,25 +19,41 @@ use Rattle.hwdb_spec.specs.Verdicts.{fault_line, remedy}
 abbrev Pieces : Type 0
 Pieces = List (Bor (List ℕ))
 
-abbrev pub text_of : Pieces → List ℕ
-text_of ps = concat (map (λ piece. piece.now) ps)
+-- the text of pieces, the first of which is at a place
+abbrev pub text_of : (name at : ℕ) → Pieces → List ℕ
+text_of name at ps = concat (said_parts name at ps)
 
-text_after : (ps : Pieces) (i : ℕ) (d : Bor (List ℕ)) → i < length ps → text_of (take (suc i) ps) ≡ text_of (take i ps) ++ (get_or ps i d).now
-text_after [] i d lt = absurd (omega (arith, lt))
-text_after (p ∷ ps) zero d lt = append-nil p.now
-text_after (p ∷ ps) (suc i) d lt = ap (λ (l : List ℕ). p.now ++ l) (text_after ps i d (omega (arith, lt))) ∙ sym (append_assoc p.now (text_of (take i ps)) (get_or ps i d).now)
+text_after : (name at : ℕ) (ps : Pieces) (i : ℕ) (d : Bor (List ℕ)) → i < length ps
+    → text_of name at (take (suc i) ps) ≡ text_of name at (take i ps) ++ said_part (at + i == name) (get_or ps i d).now
+text_after name at [] i d lt = absurd (omega (arith, lt))
+text_after name at (p ∷ ps) zero d lt =
+    let same : at ≡ at + 0 = omega arith in
+    append-nil (said_part (at == name) p.now) ∙ ap (λ (k : ℕ). said_part (k == name) p.now) same
+text_after name at (p ∷ ps) (suc i) d lt =
+    let same : at + 1 + i ≡ at + suc i = omega arith in
+    ap (λ (l : List ℕ). said_part (at == name) p.now ++ l) (text_after name (at + 1) ps i d (omega (arith, lt)))
+    ∙ sym (append_assoc (said_part (at == name) p.now) (text_of name (at + 1) (take i ps)) (said_part (at + 1 + i == name) (get_or ps i d).now))
+    ∙ ap (λ (k : ℕ). (said_part (at == name) p.now ++ text_of name (at + 1) (take i ps)) ++ said_part (k == name) (get_or ps i d).now) same
 
-pub text_next : (ps : Pieces) (i : ℕ) (d : Bor (List ℕ)) → i < length ps → text_of (take (i + 1) ps) ≡ text_of (take i ps) ++ (get_or ps i d).now
-text_next ps i d lt = let same : i + 1 ≡ suc i = omega arith in ap (λ (k : ℕ). text_of (take k ps)) same ∙ text_after ps i d lt
+pub text_next : (name : ℕ) (ps : Pieces) (i : ℕ) (d : Bor (List ℕ)) → i < length ps
+    → text_of name 0 (take (i + 1) ps) ≡ text_of name 0 (take i ps) ++ said_part (i == name) (get_or ps i d).now
+text_next name ps i d lt =
+    let same : i + 1 ≡ suc i = omega arith in
+    let there : 0 + i ≡ i = omega arith in
+    ap (λ (k : ℕ). text_of name 0 (take k ps)) same ∙ text_after name 0 ps i d lt
+    ∙ ap (λ (k : ℕ). text_of name 0 (take i ps) ++ said_part (k == name) (get_or ps i d).now) there
 
-pub text_split : (ps : Pieces) (i : ℕ) → text_of ps ≡ text_of (take i ps) ++ text_of (drop i ps)
-text_split [] zero = refl
-text_split [] (suc i) = refl
-text_split (p ∷ ps) zero = refl
-text_split (p ∷ ps) (suc i) = ap (λ (l : List ℕ). p.now ++ l) (text_split ps i) ∙ sym (append_assoc p.now (text_of (take i ps)) (text_of (drop i ps)))
+pub text_split : (name at : ℕ) (ps : Pieces) (i : ℕ) → (rest : List ℕ) × (text_of name at ps ≡ text_of name at (take i ps) ++ rest)
+text_split name at [] zero = ([], refl)
+text_split name at [] (suc i) = ([], refl)
+text_split name at (p ∷ ps) zero = (text_of name at (p ∷ ps), refl)
+text_split name at (p ∷ ps) (suc i) =
+    let more = text_split name (at + 1) ps i in
+    (more.0, ap (λ (l : List ℕ). said_part (at == name) p.now ++ l) more.1 ∙ sym (append_assoc (said_part (at == name) p.now) (text_of name (at + 1) (take i ps)) more.0))
 
-pub next_taken : (ps : Pieces) (i : ℕ) (d : Bor (List ℕ)) (a b c : Option (List ℕ)) → i < length ps → Appends a b (text_of (take i ps)) → Appends b c (get_or ps i d).now → Appends a c (text_of (take (i + 1) ps))
-next_taken ps i d a b c lt p q = let P : List ℕ → Type 0 = λ l. Appends a c l in subst P (sym (text_next ps i d lt)) (Appends-trans a b c _ _ p q)
+pub next_taken : (name : ℕ) (ps : Pieces) (i : ℕ) (d : Bor (List ℕ)) (a b c : Option (List ℕ)) → i < length ps → Appends a b (text_of name 0 (take i ps))
+    → Appends b c (said_part (i == name) (get_or ps i d).now) → Appends a c (text_of name 0 (take (i + 1) ps))
+next_taken name ps i d a b c lt p q = let P : List ℕ → Type 0 = λ l. Appends a c l in subst P (sym (text_next name ps i d lt)) (Appends-trans a b c _ _ p q)
 
 take_past : (xs ys : List ℕ) (m n : ℕ) → m ≡ length xs + n → take m (xs ++ ys) ≡ xs ++ take n ys
 take_past [] ys m n is = let same : m ≡ n = omega (arith, is) in ap (λ (k : ℕ). take k ys) same
@@ -56,9 +73,12 @@ cut whole front piece behind a b c is p q =
     let P : List ℕ → Type 0 = λ l. Appends a c l in
     (n, omega (arith, q.1, size, all), subst P (sym same) (Appends-trans a b c _ _ p q.2))
 
-pub cut_text : (ps : Pieces) (i : ℕ) (d : Bor (List ℕ)) (a b c : Option (List ℕ)) → i < length ps → Appends a b (text_of (take i ps)) → AppendsPrefix b c (get_or ps i d).now → AppendsPrefix a c (text_of ps)
-cut_text ps i d a b c lt = cut (text_of ps) (text_of (take i ps)) (get_or ps i d).now (text_of (drop (i + 1) ps)) a b c
-    (text_split ps (i + 1) ∙ ap (λ (l : List ℕ). l ++ text_of (drop (i + 1) ps)) (text_next ps i d lt))
+pub cut_text : (name : ℕ) (ps : Pieces) (i : ℕ) (d : Bor (List ℕ)) (a b c : Option (List ℕ)) → i < length ps → Appends a b (text_of name 0 (take i ps))
+    → AppendsPrefix b c (said_part (i == name) (get_or ps i d).now) → AppendsPrefix a c (text_of name 0 ps)
+cut_text name ps i d a b c lt =
+    let split = text_split name 0 ps (i + 1) in
+    cut (text_of name 0 ps) (text_of name 0 (take i ps)) (said_part (i == name) (get_or ps i d).now) split.0 a b c
+    (split.1 ∙ ap (λ (l : List ℕ). l ++ split.0) (text_next name ps i d lt))
 
 -- the same line, spelled in another way
 pub refused_as : (line other : List ℕ) (a b : Option (List ℕ)) (m n : ℕ) → line ≡ other → Refused line a b m n → Refused other a b m n
@@ -89,18 +109,18 @@ line_end fault path what =
     ∙ ap (λ (l : List ℕ). codes "hwdb: bad database: " ++ l) (sym (append_assoc fault (codes ": " ++ (path ++ (codes ": " ++ what))) (10 ∷ [])))
 
 pub path_line : (path name name_text what what_text : List ℕ) → name ≡ name_text → what ≡ what_text
-    → codes "hwdb: bad database: " ++ (name ++ (codes ": " ++ (path ++ (codes ": " ++ (what ++ 10 ∷ []))))) ≡ refusal_line (line_at path name_text None what_text)
+    → codes "hwdb: bad database: " ++ (name ++ (codes ": " ++ (shown_name path ++ (codes ": " ++ (what ++ 10 ∷ []))))) ≡ refusal_line (line_at path name_text None what_text)
 path_line path name name_text what what_text named remedied =
-    line_end name path what
+    line_end name (shown_name path) what
     ∙ ap (λ (w : List ℕ). refusal_line (line_at path name None w)) remedied
     ∙ ap (λ (n : List ℕ). refusal_line (line_at path n None what_text)) named
 
 pub path_offset_line : (path name name_text digits what what_text : List ℕ) (at : ℕ) → name ≡ name_text → digits ≡ decimal at → what ≡ what_text
-    → codes "hwdb: bad database: " ++ (name ++ (codes " at " ++ (digits ++ (codes ": " ++ (path ++ (codes ": " ++ (what ++ 10 ∷ []))))))) ≡ refusal_line (line_at path name_text (Some at) what_text)
+    → codes "hwdb: bad database: " ++ (name ++ (codes " at " ++ (digits ++ (codes ": " ++ (shown_name path ++ (codes ": " ++ (what ++ 10 ∷ []))))))) ≡ refusal_line (line_at path name_text (Some at) what_text)
 path_offset_line path name name_text digits what what_text at named spelled remedied =
-    ap (λ (l : List ℕ). codes "hwdb: bad database: " ++ l) (sym (append_assoc name (codes " at " ++ digits) (codes ": " ++ (path ++ (codes ": " ++ (what ++ 10 ∷ []))))))
-    ∙ line_end (name ++ (codes " at " ++ digits)) path what
-    ∙ ap (λ (d : List ℕ). refusal_line (codes "bad database: " ++ ((name ++ (codes " at " ++ d)) ++ (codes ": " ++ (path ++ (codes ": " ++ what)))))) spelled
+    ap (λ (l : List ℕ). codes "hwdb: bad database: " ++ l) (sym (append_assoc name (codes " at " ++ digits) (codes ": " ++ (shown_name path ++ (codes ": " ++ (what ++ 10 ∷ []))))))
+    ∙ line_end (name ++ (codes " at " ++ digits)) (shown_name path) what
+    ∙ ap (λ (d : List ℕ). refusal_line (codes "bad database: " ++ ((name ++ (codes " at " ++ d)) ++ (codes ": " ++ (shown_name path ++ (codes ": " ++ what)))))) spelled
     ∙ ap (λ (w : List ℕ). refusal_line (line_at path name (Some at) w)) remedied
     ∙ ap (λ (n : List ℕ). refusal_line (line_at path n (Some at) what_text)) named
 
@@ -135,5 +155,7 @@ plain_text (Replace u) path words cause nr nw nl nb = refl
 plain_text Memory path words cause nr nw nl nb = refl
 
 -- the parts so far, with the next one
-pub joined_next : (ps : Pieces) (i : ℕ) (d : Bor (List ℕ)) (old new : List ℕ) → i < length ps → old ≡ text_of (take i ps) → new ≡ old ++ (get_or ps i d).now → new ≡ text_of (take (i + 1) ps)
-joined_next ps i d old new lt so_far added = added ∙ ap (λ (l : List ℕ). l ++ (get_or ps i d).now) so_far ∙ sym (text_next ps i d lt)
+pub joined_next : (name : ℕ) (ps : Pieces) (i : ℕ) (d : Bor (List ℕ)) (old new : List ℕ) → i < length ps → old ≡ text_of name 0 (take i ps)
+    → new ≡ old ++ said_part (i == name) (get_or ps i d).now → new ≡ text_of name 0 (take (i + 1) ps)
+joined_next name ps i d old new lt so_far added =
+    added ∙ ap (λ (l : List ℕ). l ++ said_part (i == name) (get_or ps i d).now) so_far ∙ sym (text_next name ps i d lt)

@@ -4,8 +4,8 @@ use Rattle.std.proofs.lemmas.Bool.{true≢false}
 use Rattle.hwdb_spec.specs.declared.causes.Cause.{Cause}
 use Rattle.hwdb_spec.specs.declared.causes.Cause.TheVariants as why
 use Rattle.hwdb_spec.specs.declared.errors.ToolError.TheVariants.{Read, TooLong}
-use Rattle.hwdb_fs.specs.declared.raw.Unread.{Unread}
-use Rattle.hwdb_fs.specs.declared.raw.Unread.TheVariants as unread
+use Rattle.hwdb_spec.specs.declared.unread.Unread.{Unread}
+use Rattle.hwdb_spec.specs.declared.unread.Unread.TheVariants as unread
 use Rattle.hwdb_spec.specs.declared.refusals.Refusal.{Refusal}
 use Rattle.hwdb_spec.specs.declared.refusals.Refusal.TheVariants.{At}
 use Rattle.hwdb_fs.specs.declared.raw.Kind.{Kind}

@@ -4,7 +4,7 @@ use Rattle.std.specs.Prelude.{codes}
 use Rattle.std.proofs.lemmas.Bool.{true≢false}
 use Rattle.hwdb_spec.specs.Lines.{pieces}
 use Rattle.hwdb_spec.specs.declared.errors.ToolError.TheVariants.{Read, TooLong}
-use Rattle.hwdb_fs.specs.declared.raw.Unread.{Unread}
+use Rattle.hwdb_spec.specs.declared.unread.Unread.{Unread}
 use Rattle.hwdb_spec.specs.declared.refusals.Refusal.TheVariants.{At}
 use Rattle.hwdb_fs.specs.ReadLaws.{ErrorsHaveOneCause, KindsAreTold, LinksAreTold, ReadIsNoError, ignored, listed}
 

@@ -1,5 +1,5 @@
 -- What the steps of an update hold, and what a store in memory answers.
-use Rattle.std.specs.Prelude.{IsUtf8, ◌≡◌, ◌≢◌, ◌⊎◌, ℕ, Bool, false, if◌then◌else◌, not, true, ◌||◌, is_some, List, [], ◌∷◌, ◌++◌, Option, Some, None, codes}
+use Rattle.std.specs.Prelude.{IsUtf8, ◌≡◌, ◌≢◌, ◌⊎◌, ◌+◌, ◌==◌, ℕ, Bool, false, if◌then◌else◌, not, true, ◌||◌, is_some, List, [], ◌∷◌, ◌++◌, Option, Some, None, codes}
 use Rattle.std.specs.Borrow.{Bor}
 use Rattle.std.specs.BTreeSet.{BTreeSet}
 use Rattle.std.specs.List.{list_any}
@@ -15,6 +15,7 @@ use Rattle.hwdb_replace.specs.declared.memory.Step.{Step}
 use Rattle.hwdb_replace.specs.declared.memory.Step.TheVariants.{Changed, Moved}
 use Rattle.hwdb_spec.specs.declared.refusals.Refusal.TheVariants.{At, Plain}
 use Rattle.hwdb_spec.specs.declared.refusals.Refusal.{Refusal}
+use Rattle.hwdb_spec.specs.Visible.{shown_name}
 
 -- what a read gives after some steps of a store in memory
 abbrev pub bytes_after : List Step → (path : List ℕ) → Option (List ℕ)
@@ -66,9 +67,19 @@ IsPushed ignored steps folder step old new =
     (IsNamedBy ignored steps folder step None × (new ≡ old))
     ⊎ ((name : List ℕ) × IsNamedBy ignored steps folder step (Some name) × (new ≡ old ++ name ∷ []))
 
+-- what a part of a line says: a text, or a name, as names are shown
+abbrev pub said_part : (is_name : Bool) → List ℕ → List ℕ
+said_part true part = shown_name part
+said_part false part = part
+
+-- what the parts of a line say, the first of which is at a place, and of which the one at `name` is a name
+abbrev pub said_parts : (name at : ℕ) → List (Bor (List ℕ)) → List (List ℕ)
+said_parts name at [] = []
+said_parts name at (part ∷ parts) = said_part (at == name) part.now ∷ said_parts name (at + 1) parts
+
 -- a fault of the database at a path: its name, its offset if it has one, the path, and what to do
 abbrev pub line_at : (path name : List ℕ) → (offset : Option ℕ) → (what : List ℕ) → List ℕ
-line_at path name offset what = codes "bad database: " ++ (at_offset name offset ++ (codes ": " ++ (path ++ (codes ": " ++ what))))
+line_at path name offset what = codes "bad database: " ++ (at_offset name offset ++ (codes ": " ++ (shown_name path ++ (codes ": " ++ what))))
 
 -- a set of these names
 abbrev pub IsNameSet : (names : List (List ℕ)) → BTreeSet (Bor (List ℕ)) → Type 0

@@ -4,3 +4,5 @@ pub mod LeftOut
 pub mod Laws
 pub mod Raw
 pub mod ReadLaws
+pub mod Reads
+pub mod Lemmas

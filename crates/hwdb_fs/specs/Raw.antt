@@ -12,8 +12,8 @@ use Rattle.hwdb_spec.specs.declared.causes.Cause.TheVariants as why
 use Rattle.hwdb_spec.specs.declared.errors.ToolError.TheVariants.{Read, TooLong, Memory}
 use Rattle.hwdb_fs.specs.declared.raw.Kind.{Kind}
 use Rattle.hwdb_fs.specs.declared.raw.Kind.TheVariants.{File, Null, Folder, Pipe, Socket, Device}
-use Rattle.hwdb_fs.specs.declared.raw.Unread.{Unread}
-use Rattle.hwdb_fs.specs.declared.raw.Unread.TheVariants as unread
+use Rattle.hwdb_spec.specs.declared.unread.Unread.{Unread}
+use Rattle.hwdb_spec.specs.declared.unread.Unread.TheVariants as unread
 use Rattle.hwdb_spec.specs.declared.refusals.Refusal.{Refusal}
 use Rattle.hwdb_spec.specs.declared.refusals.Refusal.TheVariants.{Plain, At}
 

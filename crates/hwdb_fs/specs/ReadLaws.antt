@@ -4,7 +4,7 @@ use Rattle.hwdb_spec.specs.declared.causes.Cause.{Cause}
 use Rattle.hwdb_spec.specs.declared.causes.Cause.TheVariants as why
 use Rattle.hwdb_fs.specs.declared.raw.Kind.{Kind}
 use Rattle.hwdb_fs.specs.declared.raw.Kind.TheVariants.{File, Null, Folder, Pipe, Socket, Device}
-use Rattle.hwdb_fs.specs.declared.raw.Unread.{Unread}
+use Rattle.hwdb_spec.specs.declared.unread.Unread.{Unread}
 use Rattle.hwdb_spec.specs.declared.refusals.Refusal.{Refusal}
 use Rattle.hwdb_fs.specs.Raw.{IsOfMemory, IsRefusedAs, IsRefusedFor, database_answer, failed, ignored_answer, names_answer, text_answer}
 

@@ -4,8 +4,9 @@ ghost use Rattle.hwdb_spec.specs.declared.causes.Cause.TheVariants.{Memory};
 
 use crate::files::SystemStore;
 use crate::parts::Lockable;
-use crate::raw::{StdFiles, Unread, all_of, up_to};
+use crate::raw::{StdFiles, all_of, up_to};
 use hwdb_io::Cause;
+use hwdb_spec::Unread;
 use hwdb_sysfs::{DeviceFiles, DeviceNode};
 use std::alloc::Global;
 use std::fs::{self, File};

@@ -4,6 +4,7 @@ ghost use Rattle.hwdb_spec.specs.Failures.{after_failure, CountsFailures};
 ghost use Rattle.hwdb_spec.specs.Store as spec;
 ghost use Rattle.hwdb_fs.specs.Internal.{IsOfName};
 ghost use Rattle.hwdb_fs.specs.Raw.{IsMisnamedAt};
+ghost use Rattle.hwdb_fs.specs.Reads.{no_reads};
 ghost use Rattle.hwdb_spec.specs.Refusals.{IsUnlisted};
 
 use crate::folders::{Selection, selected};
@@ -342,7 +343,12 @@ where
 
     ghost may_fail = { λ _ _. Unit {0} };
 
+    // No contract of the library says what it answers.
+    ghost reads = { λ _. no_reads };
+
     ghost is_regular = { λ _ _. Unit {0} };
+
+    ghost agrees = { λ s tells. absurd tells };
 
     fn names(&self, alloc: Global, folder: &str) -> Result<Vec<String>, Refusal> {
         names_in(alloc, &self.files(), folder)

@@ -14,6 +14,7 @@ ghost use Rattle.hwdb_spec.specs.declared.refusals.Refusal.TheVariants.{Plain};
 use crate::folders::{ETC_FILES, Selection, USR_FILES, listed, read_file, selected, selected_of};
 use crate::system::System;
 use hwdb_io::Cause;
+use hwdb_show::push_name;
 use hwdb_spec::{Refusal, ToolError};
 use hwdb_text::{Chosen, select};
 use std::alloc::{AllocError, Global};
@@ -79,7 +80,7 @@ fn push_file(said: &mut Vec<u8>, path: &[u8], cause: Option<Cause>) -> Result<()
     ensures { OnOk result ((words : List ℕ)
         × (said.new.items ≡ said.old.items ++ file_text path.now cause words)) }
 {
-    said.extend_from_slice(path)?;
+    push_name(said, path)?;
     match cause {
         None => Ok(()),
         Some(cause) => {

@@ -56,7 +56,7 @@ pub use one_file::OneFile;
 pub use opened::{OpenedBytes, OpenedFile};
 pub use overlay::Overlay;
 pub use parts::Lockable;
-pub use raw::{Kind, RawFiles, StdFiles, StdOpened, Unread};
+pub use raw::{Kind, RawFiles, StdFiles, StdOpened};
 pub use read_laws::answers_are_told;
 pub use reads::{database_bytes, is_there, open_database, text_bytes};
 pub use refusals::{refuse_for, refuse_memory, remedy};

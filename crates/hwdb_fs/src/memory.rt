@@ -6,6 +6,9 @@ ghost use Rattle.hwdb_spec.specs.Texts.{max_file};
 ghost use Rattle.hwdb_replace.specs.Memory.{seen_of};
 ghost use Rattle.hwdb_fs.specs.Internal.{IsMisnamed, IsNamedBy, IsOfName, IsPushed, bytes_after, is_told, is_told_file, made_by};
 ghost use Rattle.hwdb_spec.specs.Refusals.{HasReason, IsUnlisted, IsUnread, IsUnreadAt, IsUnreadable};
+ghost use Rattle.hwdb_fs.specs.Reads.{file_told, found_told, memory_reads};
+ghost use Rattle.hwdb_fs.specs.Lemmas.MemoryReads.{memory_agrees};
+ghost use Rattle.hwdb_spec.specs.Told.{IsReadTo};
 
 use crate::files::text_of;
 use crate::folders::{Selection, selected};
@@ -47,6 +50,8 @@ fn name_in<'a>(folder: &str, path: &'a [u8]) -> Option<&'a [u8]>
 
 /// What stands under a path after these steps, unless it is too long.
 fn file_after(alloc: Global, steps: &[Step], path: &[u8]) -> Result<Option<Vec<u8>>, Refusal>
+    ensures told { IsReadTo (λ found. option_map (λ v. v.items) found)
+        (found_told (bytes_after steps.now path.now)) path.now result }
     ensures bytes { IfOk result
         (λ found. bytes_after steps.now path.now ≡ option_map (λ b. b.items) found) }
     ensures within { IfOk result (λ found. IfSome found (λ b. vec_len b ≤ max_file)) }
@@ -58,7 +63,7 @@ fn file_after(alloc: Global, steps: &[Step], path: &[u8]) -> Result<Option<Vec<u
     match state.now {
         None => Ok(None),
         Some(file) if file.bytes.len() > MAX_BYTES as usize => {
-            Err(Refusal::at(alloc, ToolError::TooLong, path, None))
+            Err(Refusal::of_cause(alloc, ToolError::TooLong, path, None))
         }
         Some(file) => Ok(Some(file.bytes.to_vec(alloc)?)),
     }
@@ -66,6 +71,8 @@ fn file_after(alloc: Global, steps: &[Step], path: &[u8]) -> Result<Option<Vec<u
 
 /// A file that has to stand there.
 fn read_after(alloc: Global, steps: &[Step], path: &[u8]) -> Result<Vec<u8>, Refusal>
+    ensures told { IsReadTo (λ v. v.items) (file_told (bytes_after steps.now path.now))
+        path.now result }
     ensures bytes { IfOk result (λ b. bytes_after steps.now path.now ≡ Some b.items) }
     ensures within { IfOk result (λ b. vec_len b ≤ max_file) }
     ensures refused { IfErr result (IsUnread path.now) }
@@ -75,7 +82,10 @@ fn read_after(alloc: Global, steps: &[Step], path: &[u8]) -> Result<Vec<u8>, Ref
 {
     match file_after(alloc, steps, path)? {
         Some(bytes) => Ok(bytes),
-        None => Err(Refusal::read(alloc, path, Cause::System(NO_ENTRY))),
+        None => {
+            let cause = Some(Cause::System(NO_ENTRY));
+            Err(Refusal::of_cause(alloc, ToolError::Read, path, cause))
+        }
     }
 }
 
@@ -183,6 +193,10 @@ impl System for Memory {
     type Opened = OpenedBytes;
 
     ghost may_fail = { λ _ path. IsMisnamed path };
+
+    ghost reads = { λ m. memory_reads m.steps.items };
+
+    ghost agrees = { λ m tells. memory_agrees m.steps.items };
 
     // It has files alone.
     ghost is_regular = { λ _ _. Unit {0} };

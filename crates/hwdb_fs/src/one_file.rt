@@ -3,8 +3,9 @@ ghost use Rattle.std.specs.Prelude.{false, true, Ok, None};
 ghost use Rattle.hwdb_fs.specs.Raw.{told_bytes};
 
 use crate::opened::OpenedBytes;
-use crate::raw::{Kind, RawFiles, Unread};
+use crate::raw::{Kind, RawFiles};
 use hwdb_io::{Cause, MAX_BYTES};
+use hwdb_spec::Unread;
 use std::alloc::Global;
 
 /// What is at each place: its kind, and its bytes. No folder is there.

@@ -6,6 +6,10 @@ ghost use Rattle.hwdb_spec.specs.Failures.{CountsFailures};
 ghost use Rattle.hwdb_spec.specs.OverText.{with_database};
 ghost use Rattle.hwdb_spec.specs.Refusals.{IsAt};
 ghost use Rattle.hwdb_spec.specs.Texts.{max_file};
+ghost use Rattle.hwdb_fs.specs.Reads.{with_read};
+ghost use Rattle.hwdb_fs.specs.Lemmas.OverReads.{read_over};
+ghost use Rattle.hwdb_fs.specs.Raw.{told_bytes};
+ghost use Rattle.hwdb_spec.specs.Told.{IsReadTo};
 ghost use Rattle.hwdb_spec.specs.declared.refusals.Refusal.TheVariants.{Plain};
 ghost use Rattle.hwdb_spec.specs.declared.errors.ToolError.TheVariants.{Memory, TooLong};
 
@@ -86,13 +90,14 @@ impl<'a, D> Overlay<'a, D> {
 
     /// The database's bytes, copied. Refuses more of them than a file may have.
     fn copy(&self, alloc: Global, path: &str) -> Result<Vec<u8>, Refusal>
+        ensures told { IsReadTo (λ v. v.items) (told_bytes self.now.bytes.now) path.now result }
         ensures bytes { IfOk result (λ b. b.items ≡ self.now.bytes.now) }
         ensures within { IfOk result (λ b. vec_len b ≤ max_file) }
         ensures refused { IfErr result (λ r. (r ≡ Plain Memory)
             ⊎ (IsAt TooLong path.now r × (max_file < length self.now.bytes.now))) }
     {
         if self.bytes.len() > MAX_BYTES as usize {
-            return Err(Refusal::at(alloc, ToolError::TooLong, path.as_bytes(), None));
+            return Err(Refusal::of_cause(alloc, ToolError::TooLong, path.as_bytes(), None));
         }
         Ok(self.bytes.to_vec(alloc)?)
     }
@@ -176,6 +181,12 @@ impl<'a, D: System> System for Overlay<'a, D> {
     type Opened = D::Opened;
 
     ghost may_fail = { λ o p. D.System.may_fail o.system.now p };
+
+    ghost reads = { λ o. with_read o.root.now o.bytes.now (D.System.reads o.system.now) };
+
+    ghost agrees = { λ o tells. read_over o.root.now o.bytes.now (D.System.reads o.system.now)
+        (D.Store.seen o.system.now) (D.System.may_fail o.system.now)
+        (D.System.agrees o.system.now tells) };
 
     ghost is_regular = { λ o p. (p ≡ database_path false o.root.now) ⊎ D.System.is_regular o.system.now p };
 

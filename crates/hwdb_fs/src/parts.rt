@@ -9,11 +9,11 @@
 //! - So is a file that was renamed before it was locked: the database isn't removed.
 
 use crate::files::{joined, path_in};
-use crate::raw::{Unread, all_of};
+use crate::raw::all_of;
 use crate::reads::refused;
 use hwdb_io::Cause;
 use hwdb_replace::{part_name, part_number};
-use hwdb_spec::Refusal;
+use hwdb_spec::{Refusal, Unread};
 use std::alloc::Global;
 use std::fs::{self, File, OpenFile, TryLockError};
 use std::io::{self, ErrorKind};

@@ -5,14 +5,15 @@ ghost use Rattle.hwdb_spec.specs.Texts.{max_file};
 ghost use Rattle.hwdb_spec.specs.declared.causes.Cause.{Cause};
 ghost use Rattle.hwdb_spec.specs.declared.causes.Cause.TheVariants.{Memory};
 ghost use Rattle.hwdb_fs.specs.declared.raw.Kind.{Kind};
-ghost use Rattle.hwdb_fs.specs.declared.raw.Unread.{Unread};
-ghost use Rattle.hwdb_fs.specs.declared.raw.Unread.TheVariants.{TooLong};
+ghost use Rattle.hwdb_spec.specs.declared.unread.Unread.{Unread};
+ghost use Rattle.hwdb_spec.specs.declared.unread.Unread.TheVariants.{TooLong};
 ghost use Rattle.hwdb_fs.specs.Raw.{IsTold, IsToldRead};
 
 use crate::identity::Identity;
 use crate::opened::OpenedFile;
 use crate::roots::Root;
 use hwdb_io::{Cause, FromRead, MAX_BYTES, Places, ReadError, read_all};
+use hwdb_spec::Unread;
 use std::alloc::Global;
 use std::fs::{self, File, OpenFile};
 use std::io::{self, ErrorKind, Read};
@@ -33,17 +34,6 @@ pub enum Kind {
     Socket,
     /// Another device.
     Device,
-}
-
-/// Why bytes weren't read.
-#[derive(Clone, Copy, Debug, PartialEq, Eq)]
-pub enum Unread {
-    /// There are more than a file may have.
-    TooLong,
-    /// A call failed, for this cause if it is known.
-    Failed(Option<Cause>),
-    /// Memory was refused.
-    Memory,
 }
 
 /// The answers of a file system to what reading asks. Each call may also say that memory was refused.

@@ -3,14 +3,14 @@ ghost use Rattle.std.specs.Prelude.{◌≡◌, ◌≢◌, ◌≤◌, ◌<◌, �
 ghost use Rattle.hwdb_spec.specs.Texts.{max_file};
 ghost use Rattle.hwdb_spec.specs.Folders.{counts};
 ghost use Rattle.hwdb_fs.specs.Raw.{AreFolderNamesAs, AreNamesAs, IsMisnamedAt, IsTold, is_folder, entries, kinds_at, missing_cause, names_answer, IsOfMemory, IsReadAs, IsRefusedFor, at_place, bytes_of, bytes_at, database_answer, failed, text_answer, text_at, text_of_kind, there_answer};
-ghost use Rattle.hwdb_fs.specs.declared.raw.Unread.{Unread};
+ghost use Rattle.hwdb_spec.specs.declared.unread.Unread.{Unread};
 ghost use Rattle.hwdb_spec.specs.declared.causes.Cause.TheVariants.{Memory};
 ghost use Rattle.hwdb_spec.specs.Refusals.{IsUnread, IsUnlisted};
 
 use crate::files::text_of;
-use crate::raw::{Kind, RawFiles, Unread};
+use crate::raw::{Kind, RawFiles};
 use hwdb_io::Cause;
-use hwdb_spec::{Refusal, ToolError};
+use hwdb_spec::{Refusal, ToolError, Unread};
 use hwdb_sysfs::NO_ENTRY;
 use hwdb_text::{counts, end_of};
 use std::alloc::{AllocError, Global};

@@ -1,19 +1,21 @@
 //! The lines of refusals on standard error.
-ghost use Rattle.std.specs.Prelude.{◌≡◌, ◌++◌, ℕ, List, None, Some, map, codes, IfOk};
+ghost use Rattle.std.specs.Prelude.{◌≡◌, ◌++◌, ℕ, List, None, Some, codes, IfOk, OnErr, OnOk};
 ghost use Rattle.std.specs.Fmt.{decimal};
 ghost use Rattle.std.specs.List.{concat};
 ghost use Rattle.hwdb_spec.specs.Failures.{IsOneLine};
 ghost use Rattle.hwdb_spec.specs.Flushing.{HandsOn};
+ghost use Rattle.hwdb_spec.specs.Outputs.{CutShort, Took};
 ghost use Rattle.hwdb_spec.specs.Verdicts.{fault_line, remedy};
 ghost use Rattle.hwdb_spec.specs.Texts.{db_fault_name, db_fault_offset, at_offset};
 ghost use Rattle.hwdb_spec.specs.Errors.{error_text, refusal_of_select};
-ghost use Rattle.hwdb_fs.specs.Internal.{line_at};
+ghost use Rattle.hwdb_fs.specs.Internal.{line_at, said_part, said_parts};
 ghost use Rattle.hwdb_spec.specs.Refusals.{IsOfCause, Refused, refusal_line, refusal_text, path_text, file_text, IsAt, IsOfDatabase, IsOfUpdate};
 ghost use Rattle.hwdb_spec.specs.declared.errors.ToolError.TheVariants.{Memory, Write};
 ghost use Rattle.hwdb_spec.specs.declared.refusals.Refusal.TheVariants.{Plain};
 
 use hwdb_io::{Sink, one_failed_has_failed, write_text};
-use hwdb_spec::{Cause, DbFault, Refusal, ToolError};
+use hwdb_show::{push_name, write_visible};
+use hwdb_spec::{Cause, DbFault, DeviceFailed, Refusal, ToolError};
 use std::alloc::{AllocError, Global};
 
 /// How each line begins, what is between its parts, and how it ends.
@@ -27,8 +29,11 @@ const COLON: &[u8] = b": ";
 
 const END: &[u8] = b"\n";
 
-/// Writes the line of the refusal, at once; without memory for the whole line, in parts. Its path is as it was given, and the
-/// words of its cause have no newline. Where `err` fails, nothing more can be said.
+/// The place of the name in a line that has none.
+const NO_NAME: usize = 99;
+
+/// Writes the line of the refusal, at once; without memory for the whole line, in parts. Its path is the one that was given,
+/// as names are shown, and the words of its cause have no newline. Where `err` fails, nothing more can be said.
 pub fn refuse_for<E: Sink>(alloc: Global, refusal: &Refusal, err: &mut E)
     ensures line { (words : List ℕ) × IsOneLine words
         × Refused (refusal_line (refusal_text refusal.now words))
@@ -63,7 +68,7 @@ fn refuse_over<E: Sink>(
         ToolError::Write => refuse_file(alloc, "cannot write ", path, cause, err),
         ToolError::TooLong => {
             let words = b" is longer than 268435456 bytes".as_slice();
-            refuse(alloc, err, &[BEGIN, path, words, END])
+            refuse(alloc, err, &[BEGIN, path, words, END], 1)
         }
         ToolError::BadDatabase(fault) => refuse_database_at(alloc, path, fault, err),
         error => refuse_plainly(alloc, error, err),
@@ -80,7 +85,7 @@ fn refuse_file<E: Sink>(alloc: Global, failed: &str, path: &[u8], cause: Option<
 {
     let failed = failed.as_bytes();
     match cause {
-        None => refuse(alloc, err, &[BEGIN, failed, path, END]),
+        None => refuse(alloc, err, &[BEGIN, failed, path, END], 2),
         Some(cause) => {
             let message = cause.message();
             let colon = b": ".as_slice();
@@ -88,6 +93,7 @@ fn refuse_file<E: Sink>(alloc: Global, failed: &str, path: &[u8], cause: Option<
                 alloc,
                 err,
                 &[BEGIN, failed, path, colon, message.as_bytes(), END],
+                2,
             )
         }
     }
@@ -117,11 +123,11 @@ fn refuse_database<E: Sink>(alloc: Global, fault: DbFault, err: &mut E)
 {
     let name = fault.name().as_bytes();
     match fault.offset() {
-        None => refuse(alloc, err, &[BEGIN, BAD, name, END]),
+        None => refuse(alloc, err, &[BEGIN, BAD, name, END], NO_NAME),
         Some(offset) => {
             let mut digits = itoa::Buffer::new();
             let digits = digits.format(offset).as_bytes();
-            refuse(alloc, err, &[BEGIN, BAD, name, AT, digits, END])
+            refuse(alloc, err, &[BEGIN, BAD, name, AT, digits, END], NO_NAME)
         }
     }
 }
@@ -163,6 +169,7 @@ fn refuse_name_at<E: Sink>(alloc: Global, path: &[u8], name: &str, remedy: &str,
         alloc,
         err,
         &[BEGIN, BAD, name, COLON, path, COLON, remedy, END],
+        4,
     )
 }
 
@@ -208,6 +215,7 @@ fn refuse_digits_at<E: Sink>(
         &[
             BEGIN, BAD, name, AT, digits, COLON, path, COLON, remedy, END,
         ],
+        6,
     )
 }
 
@@ -218,7 +226,7 @@ fn refuse_text<E: Sink>(alloc: Global, err: &mut E, line: &str)
     ensures hands_on { HandsOn (E.is_flushed err.old) (E.is_flushed err.new)
         (E.failures err.old) (E.failures err.new) }
 {
-    refuse(alloc, err, &[BEGIN, line.as_bytes(), END])
+    refuse(alloc, err, &[BEGIN, line.as_bytes(), END], NO_NAME)
 }
 
 /// Writes lines that may be no text.
@@ -228,7 +236,7 @@ fn refuse_words<E: Sink>(alloc: Global, err: &mut E, words: &[u8])
     ensures hands_on { HandsOn (E.is_flushed err.old) (E.is_flushed err.new)
         (E.failures err.old) (E.failures err.new) }
 {
-    refuse(alloc, err, &[BEGIN, words, END])
+    refuse(alloc, err, &[BEGIN, words, END], NO_NAME)
 }
 
 /// Writes the line of refused memory. Takes none.
@@ -241,27 +249,38 @@ pub fn refuse_memory<E: Sink>(err: &mut E)
     refuse_whole(err, b"hwdb: out of memory\n")
 }
 
-/// Writes a line, given in parts: at once, so that nothing of another process gets into it; in parts without memory for
+/// Writes a line, given in parts, of which the one at a place is a name: at once, so that nothing of another process gets into it; in parts without memory for
 /// the whole.
-fn refuse<E: Sink>(alloc: Global, err: &mut E, parts: &[&[u8]])
-    ensures line { Refused (concat (map (λ part. part.now) parts.now))
+fn refuse<E: Sink>(alloc: Global, err: &mut E, parts: &[&[u8]], name: usize)
+    ensures line { Refused (concat (said_parts name 0 parts.now))
         (E.taken err.old) (E.taken err.new) (E.failures err.old) (E.failures err.new) }
     ensures hands_on { HandsOn (E.is_flushed err.old) (E.is_flushed err.new)
         (E.failures err.old) (E.failures err.new) }
 {
-    match whole(alloc, parts) {
+    match whole(alloc, parts, name) {
         Ok(line) => refuse_whole(err, &line),
-        Err(_) => refuse_in_parts(err, parts),
+        Err(_) => refuse_in_parts(err, parts, name),
+    }
+}
+
+/// Adds a part: a text, or a name, as names are shown.
+fn push_part(line: &mut Vec<u8>, is_name: bool, part: &[u8]) -> Result<(), AllocError>
+    ensures { OnOk result (line.new.items ≡ line.old.items ++ said_part is_name part.now) }
+{
+    if is_name {
+        push_name(line, part)
+    } else {
+        line.extend_from_slice(part)
     }
 }
 
 /// The parts as one line.
-fn whole(alloc: Global, parts: &[&[u8]]) -> Result<Vec<u8>, AllocError>
-    ensures { IfOk result (λ line. line.items ≡ concat (map (λ part. part.now) parts.now)) }
+fn whole(alloc: Global, parts: &[&[u8]], name: usize) -> Result<Vec<u8>, AllocError>
+    ensures { IfOk result (λ line. line.items ≡ concat (said_parts name 0 parts.now)) }
 {
     let mut line = Vec::new(alloc);
-    for part in parts {
-        line.extend_from_slice(part)?;
+    'joining: for i in 0..parts.len() {
+        push_part(&mut line, i == name, parts[i])?;
     }
     Ok(line)
 }
@@ -280,16 +299,31 @@ fn refuse_whole<E: Sink>(err: &mut E, line: &[u8])
     }
 }
 
+/// Writes a part. Takes no memory.
+fn write_part<E: Sink>(err: &mut E, is_name: bool, part: &[u8]) -> Result<(), DeviceFailed>
+    ensures took { OnOk result (Took (said_part is_name part.now)
+        (E.taken err.old) (E.taken err.new) (E.failures err.old) (E.failures err.new)) }
+    ensures flushed { OnOk result (E.is_flushed err.old → E.is_flushed err.new) }
+    ensures cut_short { OnErr result (CutShort (said_part is_name part.now)
+        (E.taken err.old) (E.taken err.new) (E.failures err.old) (E.failures err.new)) }
+{
+    if is_name {
+        write_visible(err, true, part)
+    } else {
+        write_text(err, part)
+    }
+}
+
 /// Writes the parts of a line, one after another.
-fn refuse_in_parts<E: Sink>(err: &mut E, parts: &[&[u8]])
-    ensures line { Refused (concat (map (λ part. part.now) parts.now))
+fn refuse_in_parts<E: Sink>(err: &mut E, parts: &[&[u8]], name: usize)
+    ensures line { Refused (concat (said_parts name 0 parts.now))
         (E.taken err.old) (E.taken err.new) (E.failures err.old) (E.failures err.new) }
     ensures hands_on { HandsOn (E.is_flushed err.old) (E.is_flushed err.new)
         (E.failures err.old) (E.failures err.new) }
 {
     one_failed_has_failed();
-    for part in parts {
-        match write_text(err, part) {
+    'writing: for i in 0..parts.len() {
+        match write_part(err, i == name, parts[i]) {
             Ok(()) => {}
             Err(_) => return,
         }

@@ -1,10 +1,11 @@
 //! What the program asks of a file system.
-ghost use Rattle.std.specs.Prelude.{◌≡◌, ◌≤◌, ℕ, List, Some, IfOk, IfErr, IfSome, OnOk, is_some, map, option_map, string_bytes, vec_len};
+ghost use Rattle.std.specs.Prelude.{◌≡◌, ◌≤◌, ℕ, List, None, Some, IfOk, IfErr, IfSome, OnOk, is_some, map, option_map, string_bytes, vec_len};
 ghost use Rattle.hwdb_spec.specs.Texts.{max_file};
 ghost use Rattle.hwdb_spec.specs.System.{AreNamesIn, bytes_at};
 ghost use Rattle.hwdb_spec.specs.GivenFolders.{IsUnlistedFolder};
 ghost use Rattle.hwdb_spec.specs.Reading.{IsFolderAt};
 ghost use Rattle.hwdb_spec.specs.Refusals.{HasReason, IsUnlisted, IsUnread, IsUnreadAt, IsUnreadable};
+ghost use Rattle.hwdb_spec.specs.Told.{AreReadsOf, IsReadTo, Reads};
 
 use crate::identity::Identity;
 use crate::opened::OpenedFile;
@@ -23,6 +24,9 @@ pub trait System: Store {
 
     /// Reading what stands at a path, or listing it, may fail, for whatever reason.
     ghost may_fail: { Self → List ℕ → Type 0 };
+
+    /// What each read gives.
+    ghost reads: { Self → Reads };
 
     /// A regular file is at the path, or the null device: no folder, pipe, socket or other device. A link is followed.
     ghost is_regular: { Self → List ℕ → Type 0 };
@@ -49,6 +53,8 @@ pub trait System: Store {
 
     /// The bytes of a text file that a folder lists. Refuses what is no regular file: an open of a pipe would wait.
     fn text(&self, alloc: Global, path: &str) -> Result<Vec<u8>, Refusal>
+        ensures told { Self.tells → IsReadTo (λ v. v.items) ((reads self.now).text path.now)
+            path.now result }
         ensures regular { OnOk result (is_regular self.now path.now) }
         ensures bytes { Self.tells → IfOk result
             (λ bytes. bytes_at (Self.seen self.now) path.now ≡ Some bytes.items) }
@@ -61,6 +67,8 @@ pub trait System: Store {
 
     /// The bytes of whatever can be read at a path: a file, a pipe, a device.
     fn input(&self, alloc: Global, path: &str) -> Result<Vec<u8>, Refusal>
+        ensures told { Self.tells → IsReadTo (λ v. v.items) ((reads self.now).input path.now)
+            path.now result }
         ensures bytes { Self.tells → IfOk result
             (λ bytes. bytes_at (Self.seen self.now) path.now ≡ Some bytes.items) }
         ensures within { IfOk result (λ bytes. vec_len bytes ≤ max_file) }
@@ -72,6 +80,8 @@ pub trait System: Store {
 
     /// The bytes of a database, or None where nothing stands at the path. Refuses what is no regular file.
     fn database(&self, alloc: Global, path: &str) -> Result<Option<Vec<u8>>, Refusal>
+        ensures told { Self.tells → IsReadTo (λ found. option_map (λ v. v.items) found)
+            ((reads self.now).database path.now) path.now result }
         ensures regular { IfOk result (λ found. IfSome found (λ _. is_regular self.now path.now)) }
         ensures bytes { Self.tells → IfOk result
             (λ found. bytes_at (Self.seen self.now) path.now ≡ option_map (λ b. b.items) found) }
@@ -93,9 +103,11 @@ pub trait System: Store {
         None
     }
 
-    /// What tells the file at a path from one that replaces it; None if nothing is there, or it can't be told. No promise
-    /// speaks of it.
-    fn identity(&self, _path: &str) -> Option<Identity> {
+    /// What tells the file at a path from one that replaces it; None if nothing is there, or it can't be told. In a system that
+    /// tells its files nothing is replaced.
+    fn identity(&self, _path: &str) -> Option<Identity>
+        ensures { Self.tells → result ≡ None }
+    {
         None
     }
 
@@ -109,4 +121,8 @@ pub trait System: Store {
     {
         None
     }
+
+    /// What is told is what is there.
+    ghost agrees: { (s : Self) → Self.Store.tells
+        → AreReadsOf (reads s) (Self.Store.seen s) (may_fail s) };
 }

@@ -4,9 +4,10 @@ use Rattle.std.specs.Fmt.{digits}
 use Rattle.std.specs.Char.{encode_utf8}
 use Rattle.std.specs.Str.{chars, is_utf8}
 use Rattle.json.specs.Print.{escape_byte, print_from}
-use Rattle.hwdb_spec.specs.Json.{items_of, members_of}
+use Rattle.hwdb_spec.specs.Json.{items_of, members_of, escaped_after}
 use Rattle.hwdb_spec.specs.ChangeCounts.{counted, with_changes}
 use Rattle.hwdb_spec.specs.Sides.{file_name}
+use Rattle.hwdb_spec.specs.Visible.{visible_after}
 use Rattle.hwdb_inspect.specs.Rows.{DeviceStatRows, EtcRows, NameRows, StatJsonRows, StatRows, TextRows}
 
 pub name_rows : NameRows
@@ -22,13 +23,13 @@ unfolding file_name
 etc_rows = refl
 
 pub stat_rows : StatRows
-unfolding counted with_changes digits
+unfolding counted with_changes digits visible_after is_utf8 chars encode_utf8
 stat_rows = refl
 
 pub device_stat_rows : DeviceStatRows
-unfolding counted with_changes digits
+unfolding counted with_changes digits visible_after is_utf8 chars encode_utf8
 device_stat_rows = refl
 
 pub stat_json_rows : StatJsonRows
-unfolding counted with_changes digits escape_byte print_from items_of members_of is_utf8 chars encode_utf8
+unfolding counted with_changes digits escape_byte print_from items_of members_of is_utf8 chars encode_utf8 escaped_after
 stat_json_rows = refl

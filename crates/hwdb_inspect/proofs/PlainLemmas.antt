@@ -1,6 +1,8 @@
 -- A record whose body passes a few searches says its assignment.
 use Rattle.std.proofs.Common.{◌≡◌, ◌∙◌, ◌<◌, ◌+◌, ◌-◌, ◌^◌, ◌==◌, ap, sym, refl, subst, ℕ, suc, Bool, true, false, ◌||◌, not, List, [], ◌∷◌, ◌++◌, length, append_assoc, if◌then◌else◌, nat_lt, nat_le, take, drop, cond, arith, ne_eqb, eqb-true, append-nil, length-append}
 use Rattle.std.proofs.lemmas.Bool.Decides.{nat_tests}
+use Rattle.hwdb_spec.specs.Visible.{shown_name}
+use Rattle.hwdb_show.specs.Lemmas.Names.{name_unbroken}
 use Rattle.std.proofs.lemmas.Fmt.{decimal_is_IsNumeral}
 use Rattle.std.proofs.lemmas.Str.Parse.{digit_from_value}
 use Rattle.std.specs.Str.Parse.{AllDigits}
@@ -149,7 +151,7 @@ unspoilt : (n : ℕ) (t : List ℕ) (more : List Line) → begins_with 35 t ≡ 
 unspoilt n t more a b = rw a (rw b refl)
 
 abbrev comment_line : Assignment → List ℕ
-comment_line f = 35 ∷ 32 ∷ (f.path ++ 58 ∷ decimal f.position.line)
+comment_line f = 35 ∷ 32 ∷ (shown_name f.path ++ 58 ∷ decimal f.position.line)
 
 abbrev own_property : Assignment → List ℕ
 own_property f = f.position.key ++ 61 ∷ f.value
@@ -304,10 +306,10 @@ record IsPlain (f : Assignment) (a : ℕ) (p : List ℕ) (k : ℕ) (ks : List �
 
 plain_said : (f : Assignment) (a : ℕ) (p : List ℕ) (k : ℕ) (ks : List ℕ) → IsPlain f a p k ks → is_said f ≡ true
 plain_said f a p k ks h =
-    let c : List ℕ = 32 ∷ (f.path ++ 58 ∷ decimal f.position.line) in
+    let c : List ℕ = 32 ∷ (shown_name f.path ++ 58 ∷ decimal f.position.line) in
     let w : List ℕ = k ∷ (ks ++ 61 ∷ f.value) in
     let ends : ends_well (32 ∷ w) ≡ true = ends_behind (32 ∷ k ∷ ks) 61 f.value ∙ value_ends f.value h.value_ends in
-    let comment : has 10 (comment_line f) ≡ false = has_behind 10 f.path (58 ∷ decimal f.position.line) h.path (decimal_unbroken f.position.line h.line) in
+    let comment : has 10 (comment_line f) ≡ false = has_behind 10 (shown_name f.path) (58 ∷ decimal f.position.line) (name_unbroken 0 f.path h.path) (decimal_unbroken f.position.line h.line) in
     let H : List ℕ → Type 0 = λ l. has 10 l ≡ false in
     let W : List ℕ → Type 0 = λ l. has 10 (l ++ 61 ∷ f.value) ≡ false in
     let first : lines (record_text f) ≡ own_lines f = lines_are f comment (subst H (sym h.is_pattern) h.breaks) (subst W (sym h.is_key) h.own_breaks) in

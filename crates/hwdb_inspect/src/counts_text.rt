@@ -8,7 +8,7 @@ ghost use Rattle.hwdb_spec.specs.Json.{array_of, json_line, object_of};
 ghost use Rattle.hwdb_inspect.specs.Internal.Counts.{AreAsked, count_shown, counts_shown, stat_shown};
 
 use crate::counting::{Count, Stat};
-use hwdb_show::{ended, put_count, put_member};
+use hwdb_show::{ended, push_name, put_count, put_member};
 use itoa::Buffer;
 use json::Writer;
 use std::alloc::{AllocError, Global};
@@ -29,7 +29,7 @@ fn push_line(text: &mut Vec<u8>, name: &[u8], count: Count) -> Result<(), AllocE
     ensures { OnOk result
         (text.new.items ≡ text.old.items ++ counts_line (name.now, count_shown count)) }
 {
-    text.extend_from_slice(name)?;
+    push_name(text, name)?;
     push_signed(text, "\t+", count.came)?;
     push_signed(text, "\t-", count.went)?;
     push_signed(text, "\t~", count.changed)?;
@@ -198,7 +198,7 @@ fn json_of(alloc: Global, of_devices: bool, stat: Stat<'_>) -> Result<Vec<u8>, A
 {
     let mut json = Writer::new(Vec::new(alloc));
     put_stat(&mut json, of_devices, stat)?;
-    ended(json)
+    ended(alloc, json)
 }
 
 /// The counts as text or JSON, of devices if devices were asked for.

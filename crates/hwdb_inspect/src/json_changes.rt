@@ -131,7 +131,7 @@ fn line_of(alloc: Global, change: Pair<'_, '_>) -> Result<Vec<u8>, AllocError>
 {
     let mut json = Writer::new(Vec::new(alloc));
     put_whole(&mut json, change)?;
-    ended(json)
+    ended(alloc, json)
 }
 
 /// Adds the line of what happened at a pattern and key, and answers whether something did.
@@ -222,7 +222,7 @@ pub(crate) fn push_device_json(
 {
     let mut json = Writer::new(Vec::new(alloc));
     let differs = put_device(&mut json, device, pairs)?;
-    let line = ended(json)?;
+    let line = ended(alloc, json)?;
     if differs {
         text.extend_from_slice(&line)?;
     }

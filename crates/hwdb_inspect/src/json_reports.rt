@@ -149,5 +149,5 @@ pub(crate) fn report_line(alloc: Global, report: &Report) -> Result<Vec<u8>, All
 {
     let mut json = Writer::new(Vec::new(alloc));
     put_report(&mut json, report)?;
-    ended(json)
+    ended(alloc, json)
 }

@@ -6,6 +6,7 @@ ghost use Rattle.hwdb_inspect.specs.Views.{assignment_of, changes_of};
 
 use crate::pairs::Pair;
 use hwdb_query::StoredAssignment;
+use hwdb_show::push_name;
 use itoa::Buffer;
 use std::alloc::AllocError;
 use std::cmp::Ordering;
@@ -19,7 +20,7 @@ pub(crate) fn push_origin(text: &mut Vec<u8>, f: &StoredAssignment<'_>) -> Resul
     text.push(b'=')?;
     text.extend_from_slice(f.value)?;
     text.push(b'\t')?;
-    text.extend_from_slice(f.path)?;
+    push_name(text, f.path)?;
     text.push(b':')?;
     text.extend_from_slice(number.format(f.line).as_bytes())?;
     Ok(())

@@ -11,6 +11,7 @@ ghost use Rattle.hwdb_inspect.specs.Internal.Plain.{body_text};
 use crate::members::Member;
 use crate::plain::is_plain;
 use crate::texts::is_same;
+use hwdb_show::push_name;
 use hwdb_text::{Given, ScanError, Scanned, scan};
 use itoa::Buffer;
 use std::alloc::{AllocError, Global};
@@ -28,7 +29,7 @@ fn push_comment(text: &mut Vec<u8>, f: &Shown<'_, '_>) -> Result<(), AllocError>
 {
     let mut number = Buffer::new();
     text.extend_from_slice(b"# ")?;
-    text.extend_from_slice(f.member.path)?;
+    push_name(text, f.member.path)?;
     text.push(b':')?;
     text.extend_from_slice(number.format(f.member.line).as_bytes())?;
     text.push(b'\n')?;

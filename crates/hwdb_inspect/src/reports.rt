@@ -1,13 +1,14 @@
 //! The lines of `status`.
 ghost use Rattle.std.specs.Prelude.{◌≡◌, ◌≤◌, ◌++◌, ℕ, List, Option, codes, flat_map, if◌then◌else◌, is_some, map, option_map, unwrap_or, IfOk, OnOk};
 ghost use Rattle.hwdb_spec.specs.Status;
-ghost use Rattle.hwdb_spec.specs.Status.{amount_line, changes_lines, first_line, remedy_line, report_form, report_text, said_if, said_line, status_of};
+ghost use Rattle.hwdb_spec.specs.Status.{amount_line, changes_lines, first_line, remedy_line, report_form, report_text, said_if, said_line, status_of, words_line};
 ghost use Rattle.hwdb_inspect.specs.Views.{report_shown, state_shown};
 
 use crate::amounts::{Amount, push_amount_if};
 use crate::freshness::State;
 use crate::json_reports::report_line;
 use crate::verification::push_count;
+use hwdb_show::push_name;
 use std::alloc::{AllocError, Global};
 
 /// What `status` reports.
@@ -102,13 +103,13 @@ fn state_note(bare: bool, state: &State) -> &'static str
     }
 }
 
-/// Adds a line: a name and a text. The only error, here and below, is `AllocError`.
+/// Adds a line: a name and a text, as names are shown. The only error, here and below, is `AllocError`.
 fn push_line(text: &mut Vec<u8>, name: &str, said: &[u8]) -> Result<(), AllocError>
     ensures { OnOk result (text.new.items ≡ text.old.items ++ said_line name.now said.now) }
 {
     text.extend_from_slice(name.as_bytes())?;
     text.extend_from_slice(b": ")?;
-    text.extend_from_slice(said)?;
+    push_name(text, said)?;
     text.push(b'\n')?;
     Ok(())
 }
@@ -204,7 +205,7 @@ fn push_changes(text: &mut Vec<u8>, state: &State) -> Result<(), AllocError>
 
 /// Adds the line of a state.
 fn push_word(text: &mut Vec<u8>, bare: bool, state: &State) -> Result<(), AllocError>
-    ensures { OnOk result (text.new.items ≡ text.old.items ++ said_line (codes "state")
+    ensures { OnOk result (text.new.items ≡ text.old.items ++ words_line (codes "state")
         (Status.state_word bare (state_shown state.now)
         ++ Status.state_note bare (state_shown state.now))) }
 {
@@ -218,7 +219,7 @@ fn push_word(text: &mut Vec<u8>, bare: bool, state: &State) -> Result<(), AllocE
 /// Adds the lines of the state, and what to run.
 fn push_state(text: &mut Vec<u8>, report: &Report) -> Result<(), AllocError>
     ensures { OnOk result (text.new.items ≡ text.old.items
-        ++ (said_line (codes "state")
+        ++ (words_line (codes "state")
         (Status.state_word report.now.bare (state_shown report.now.state)
         ++ Status.state_note report.now.bare (state_shown report.now.state))
         ++ (changes_lines (state_shown report.now.state)

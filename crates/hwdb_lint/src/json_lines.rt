@@ -61,7 +61,7 @@ pub fn finding_line(alloc: Global, found: &Finding<'_>) -> Result<Vec<u8>, Alloc
 {
     let mut json = Writer::new(Vec::new(alloc));
     put_finding(&mut json, found)?;
-    ended(json)
+    ended(alloc, json)
 }
 
 /// Adds the line of a fault, of a line with this text.

@@ -23,6 +23,7 @@
 //! | `known` | what is known of a file before its lines are read one by one |
 //! | `plain_files` | files of whose lines only the marks of comments have to be looked at |
 //! | `warnings` | the warnings of a file, and their reports |
+//! | `too_long` | match lines that udev can't take, for `update --verbose` |
 //! | `tallies` | how much was found: the last line, and the status |
 //! | `files` | text files that are checked, one after another |
 //! | `laws` | what is proved of the definitions alone |
@@ -45,6 +46,7 @@ mod replacements;
 mod reports;
 mod runs;
 mod tallies;
+mod too_long;
 mod unread;
 mod warnings;
 
@@ -54,3 +56,4 @@ pub use kinds::{KINDS, Telling};
 pub use laws::{kinds_are_named, patterns_are_judged};
 pub use line_texts::{LineStart, find_line, first_start};
 pub use tallies::push_count;
+pub use too_long::push_too_long;

@@ -6,7 +6,7 @@ ghost use Rattle.hwdb_spec.specs.Reports.{fault_hint, hint_line, report};
 
 use crate::json_lines::push_fault_json;
 use crate::places::fault_place;
-use hwdb_show::{push_mark_line, push_shown_line};
+use hwdb_show::{push_mark_line, push_name, push_shown_line};
 use hwdb_spec::{Fault, FaultKind};
 use itoa::Buffer;
 use std::alloc::{AllocError, Global};
@@ -36,7 +36,7 @@ fn push_fault_line(text: &mut Vec<u8>, path: &[u8], fault: Fault) -> Result<(), 
     ensures { OnOk result (text.new.items ≡ text.old.items ++ fault_line path.now fault) }
 {
     let mut number = Buffer::new();
-    text.extend_from_slice(path)?;
+    push_name(text, path)?;
     text.push(b':')?;
     text.extend_from_slice(number.format(fault.line).as_bytes())?;
     text.push(b':')?;

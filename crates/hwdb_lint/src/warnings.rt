@@ -18,7 +18,7 @@ use crate::misuses::{misuse_in, push_hint_of_misuse, push_unpaired_hint, push_un
 use crate::plain_files::{is_plain, tame_after, tame_size};
 use hwdb_pattern::{open_place, range_place};
 use hwdb_properties::misuse_text;
-use hwdb_show::{push_mark_line, push_shown_line};
+use hwdb_show::{push_mark_line, push_name, push_shown_line};
 use hwdb_spec::{Fault, Misuse, WarningKind};
 use hwdb_text::{Content, Given, Lines, content_of, end_of, indent_of};
 use itoa::Buffer;
@@ -148,7 +148,7 @@ fn warning_place(kind: WarningKind, line: &[u8], clean: &[u8]) -> usize
 }
 
 /// Adds the line of a warning.
-fn push_warning_line(
+pub fn push_warning_line(
     text: &mut Vec<u8>,
     path: &[u8],
     number: u64,
@@ -157,7 +157,7 @@ fn push_warning_line(
     ensures { OnOk result (text.new.items ≡ text.old.items ++ warning_line path.now number kind) }
 {
     let mut digits = Buffer::new();
-    text.extend_from_slice(path)?;
+    push_name(text, path)?;
     text.push(b':')?;
     text.extend_from_slice(digits.format(number).as_bytes())?;
     text.extend_from_slice(b": warning: ")?;

@@ -10,10 +10,12 @@ use Rattle.std.specs.List.Sorted.{IsSorted, IsPermutation}
 use Rattle.std.proofs.lemmas.List.{append-nil, take_at, take-append-drop, reverse-append, length-reverse, length-drop, drop-map, take-map}
 use Rattle.hwdb_spec.specs.Assignment.{in_order, text_cmp}
 use Rattle.hwdb_spec.specs.Patterns.{tokens}
-use Rattle.hwdb_spec.specs.Near.{PatternAt, Rated, folded, hits, literals, matching, missing, front_literals, front_tokens, near_cmp, rated, unmet}
+use Rattle.hwdb_spec.specs.Near.{PatternAt, Rated, folded, hits, literals, missing, front_literals, front_tokens, near_cmp, place_cmp, rated, unmet}
 use Rattle.hwdb_pattern.specs.Fronts.{token_of}
+use Rattle.hwdb_near.specs.Views.{pattern_at}
+use Rattle.hwdb_near.specs.declared.found.PatternAt.{PatternAt as At}
 use Rattle.hwdb_near.specs.declared.found.Rated.{Rated as Found}
-use Rattle.hwdb_near.specs.Internal.Ratings.{by_nearness, by_nearness_total, misses, near_total, rated_of}
+use Rattle.hwdb_near.specs.Internal.Ratings.{by_nearness, by_nearness_total, by_place, by_place_total, hitting, misses, near_total, place_total, rated_of}
 use Rattle.hwdb_near.proofs.OrderedLemmas.{sorted_once}
 use Rattle.hwdb_spec.specs.Lemmas.Orders.{then_equal}
 
@@ -22,23 +24,31 @@ Text = Bor (List ℕ)
 
 -- ---- two that tie are one
 
+same_place : (x y : PatternAt) → place_cmp x y ≡ Equal → x ≡ y
+same_place x y h =
+    let c = then_equal (nat_cmp x.file y.file) _ h in
+    let d = then_equal (nat_cmp x.line y.line) _ c.1 in
+    let e = then_equal (text_cmp x.pattern y.pattern) (text_cmp x.path y.path) d.1 in
+    let file_is : x.file ≡ y.file = finite.nat_cmp-IsAntisymmetric x.file y.file c.0 in
+    let line_is : x.line ≡ y.line = finite.nat_cmp-IsAntisymmetric x.line y.line d.0 in
+    let pattern_is : x.pattern ≡ y.pattern = finite.slice_cmp-IsAntisymmetric finite.nat_cmp-IsAntisymmetric x.pattern y.pattern e.0 in
+    let path_is : x.path ≡ y.path = finite.slice_cmp-IsAntisymmetric finite.nat_cmp-IsAntisymmetric x.path y.path e.1 in
+    λ i. record { path = path_is i; file = file_is i; line = line_is i; pattern = pattern_is i }
+
 single : (x y : Rated) → near_cmp x y ≡ Equal → x ≡ y
 single x y h =
     let a = then_equal (nat_cmp x.missing y.missing) _ h in
-    let b = then_equal (nat_cmp y.front x.front) _ a.1 in
-    let c = then_equal (nat_cmp x.at.file y.at.file) _ b.1 in
-    let d = then_equal (nat_cmp x.at.line y.at.line) _ c.1 in
-    let e = then_equal (text_cmp x.at.pattern y.at.pattern) (text_cmp x.at.path y.at.path) d.1 in
+    let b = then_equal (nat_cmp y.front x.front) (place_cmp x.at y.at) a.1 in
     let missing_is : x.missing ≡ y.missing = finite.nat_cmp-IsAntisymmetric x.missing y.missing a.0 in
     let front_is : x.front ≡ y.front = sym (finite.nat_cmp-IsAntisymmetric y.front x.front b.0) in
-    let file_is : x.at.file ≡ y.at.file = finite.nat_cmp-IsAntisymmetric x.at.file y.at.file c.0 in
-    let line_is : x.at.line ≡ y.at.line = finite.nat_cmp-IsAntisymmetric x.at.line y.at.line d.0 in
-    let pattern_is : x.at.pattern ≡ y.at.pattern = finite.slice_cmp-IsAntisymmetric finite.nat_cmp-IsAntisymmetric x.at.pattern y.at.pattern e.0 in
-    let path_is : x.at.path ≡ y.at.path = finite.slice_cmp-IsAntisymmetric finite.nat_cmp-IsAntisymmetric x.at.path y.at.path e.1 in
-    λ i. record { missing = missing_is i; front = front_is i; at = record { path = path_is i; file = file_is i; line = line_is i; pattern = pattern_is i } }
+    let at_is : x.at ≡ y.at = same_place x.at y.at b.1 in
+    λ i. record { missing = missing_is i; front = front_is i; at = at_is i }
 
 pub sorted_nearest : (old sorted new : List Found) → IsPermutation old sorted → IsSorted by_nearness sorted → new ≡ dedup (eq_by_cmp by_nearness) sorted → map rated_of new ≡ in_order near_cmp (map rated_of old)
 sorted_nearest old sorted new moved up left = sorted_once rated_of near_cmp near_total by_nearness_total single old sorted new moved up left
+
+pub sorted_places : (old sorted new : List At) → IsPermutation old sorted → IsSorted by_place sorted → new ≡ dedup (eq_by_cmp by_place) sorted → map pattern_at new ≡ in_order place_cmp (map pattern_at old)
+sorted_places old sorted new moved up left = sorted_once pattern_at place_cmp place_total by_place_total same_place old sorted new moved up left
 
 -- ---- one more pattern
 
@@ -52,14 +62,14 @@ misses_append device (x ∷ xs) ys =
       | false ↦ ap (λ (l : List Rated). rated device x ∷ l) again
     ]
 
-pub matching_more : (device : List ℕ) (done more : List PatternAt) (old new : List PatternAt) → old ≡ matching device done → new ≡ old ++ matching device more → new ≡ matching device (done ++ more)
-matching_more device done more old new o n = n ∙ ap (λ (l : List PatternAt). l ++ matching device more) o ∙ sym (both done)
+pub hitting_more : (device : List ℕ) (done more : List PatternAt) (old new : List PatternAt) → old ≡ hitting device done → new ≡ old ++ hitting device more → new ≡ hitting device (done ++ more)
+hitting_more device done more old new o n = n ∙ ap (λ (l : List PatternAt). l ++ hitting device more) o ∙ sym (both done)
   where
-    both : (xs : List PatternAt) → matching device (xs ++ more) ≡ matching device xs ++ matching device more
+    both : (xs : List PatternAt) → hitting device (xs ++ more) ≡ hitting device xs ++ hitting device more
     both [] = refl
     both (x ∷ xs) =
         let again = both xs in
-        elim (hits device x) as (λ h. cond h (x ∷ matching device (xs ++ more)) (matching device (xs ++ more)) ≡ cond h (x ∷ matching device xs) (matching device xs) ++ matching device more) [
+        elim (hits device x) as (λ h. cond h (x ∷ hitting device (xs ++ more)) (hitting device (xs ++ more)) ≡ cond h (x ∷ hitting device xs) (hitting device xs) ++ hitting device more) [
           | true ↦ ap (λ (l : List PatternAt). x ∷ l) again
           | false ↦ again
         ]

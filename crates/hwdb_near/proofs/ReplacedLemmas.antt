@@ -44,7 +44,7 @@ equal_pair Equal b = refl
 equal_pair Greater b = refl
 
 -- one more before them
-like_more : (b a : Assignment) (all : List Assignment) → last_like b (a ∷ all) ≡ option_or (last_like b all) (cond (is_same_place b a) (Some a) None)
+pub like_more : (b a : Assignment) (all : List Assignment) → last_like b (a ∷ all) ≡ option_or (last_like b all) (cond (is_same_place b a) (Some a) None)
 like_more b a all = ap (find (is_same_place b)) (reverse-append (a ∷ []) all) ∙ find-append (is_same_place b) (reverse all) (a ∷ [])
 
 kept_or : {A : Type 0} (x : A) (o p : Option A) → o ≡ Some x → option_or o p ≡ o

@@ -3,3 +3,4 @@ pub mod Ratings
 pub mod Lines
 pub mod Closest
 pub mod Places
+pub mod Once

@@ -1,6 +1,6 @@
 -- What the laws say of where tokens stop.
 use Rattle.std.specs.List.Sorted.{IsPermutation}
-use Rattle.std.specs.Prelude.{List, map, ℕ, ◌++◌, ◌≡◌}
+use Rattle.std.specs.Prelude.{All, List, false, map, ℕ, ◌++◌, ◌≡◌}
 use Rattle.hwdb_spec.specs.Answers.{last_of_each}
 use Rattle.hwdb_spec.specs.Assignment.{Assignment}
 use Rattle.hwdb_spec.specs.Folders.{Source}
@@ -8,6 +8,7 @@ use Rattle.hwdb_spec.specs.Format.{IsDatabase}
 use Rattle.hwdb_spec.specs.NearAsked.{database_patterns}
 use Rattle.hwdb_spec.specs.NearPrefixes.{files_patterns}
 use Rattle.hwdb_spec.specs.Patterns.{Token}
+use Rattle.hwdb_spec.specs.Once.{is_same_assignment, once}
 use Rattle.hwdb_spec.specs.Replacements.{Replacement, replacements}
 use Rattle.hwdb_spec.specs.Tree.{Tree, map_of_files}
 use Rattle.hwdb_spec.specs.Written.{IsDatabaseOf}
@@ -31,3 +32,7 @@ LongestIsComputed = (ts : List Token) (device : List ℕ) (count : ℕ) → IsLo
 -- Those of some assignments that count, and those that were replaced, are together all of them: each comes as often in both lists.
 abbrev pub LastAndReplacedAreAll : Type 0
 LastAndReplacedAreAll = (all : List Assignment) → IsPermutation (last_of_each all ++ map (λ (r : Replacement). r.old) (replacements all)) all
+
+-- Of some assignments, each once, none is replaced by what the same line gives its pattern.
+abbrev pub NoneReplacesItself : Type 0
+NoneReplacesItself = (all : List Assignment) → All (λ (r : Replacement). is_same_assignment r.old r.new ≡ false) (replacements (once all))

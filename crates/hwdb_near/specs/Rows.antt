@@ -45,6 +45,13 @@ NearestRows =
 abbrev pub MatchingRows : Type 0
 MatchingRows = map (λ at. at.line) (matching (codes "ab") some_patterns) ≡ 2 ∷ []
 
+-- those that match, by file and line
+abbrev pub OrderRows : Type 0
+OrderRows =
+    map {B = ℕ × ℕ} (λ (at : PatternAt). (at.file, at.line))
+    (matching (codes "ab") (record { path = codes "g"; file = 2; line = 1; pattern = codes "*" } ∷ at_line 4 (codes "a*") ∷ at_line 2 (codes "a?") ∷ at_line 1 (codes "b") ∷ []))
+    ≡ (1, 2) ∷ (1, 4) ∷ (2, 1) ∷ []
+
 -- why a pattern stops at a device, in words
 abbrev pub why : List ℕ → List ℕ → List ℕ
 why device pattern =
@@ -121,6 +128,15 @@ usr_rows = record { name = codes "1.hwdb"; bytes = codes "a*\n K=x\nb*\n K=x\n" 
 abbrev pub ReplacedFileRows : Type 0
 ReplacedFileRows =
     map {B = List ℕ × List ℕ} (λ (r : Replacement). (r.old.value, r.new.value)) (replacements_for (codes "ab") etc_rows usr_rows)
+    ≡ (codes "x", codes "y") ∷ []
+
+-- Of a record whose match line comes twice each line replaces what comes before it, once, and not itself.
+abbrev pub twice_rows : List Source
+twice_rows = record { name = codes "1.hwdb"; bytes = codes "a*\na*\n K=x\n K=y\n" } ∷ []
+
+abbrev pub RepeatedRows : Type 0
+RepeatedRows =
+    map {B = List ℕ × List ℕ} (λ (r : Replacement). (r.old.value, r.new.value)) (replacements_for (codes "ab") twice_rows [])
     ≡ (codes "x", codes "y") ∷ []
 
 abbrev pub MaskedRows : Type 0

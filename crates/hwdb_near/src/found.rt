@@ -3,9 +3,10 @@ ghost use Rattle.std.specs.Prelude.{◌≡◌, map, refl, take};
 ghost use Rattle.std.specs.Ordering.{as_partial_cmp, eq_by_cmp};
 ghost use Rattle.std.specs.Cmp.{eq_by_cmp_equiv, partial_equiv_from_equiv, partial_order_from_total};
 ghost use Rattle.hwdb_spec.specs.Assignment.{in_order};
-ghost use Rattle.hwdb_spec.specs.Near.{near_cmp};
+ghost use Rattle.hwdb_spec.specs.Near.{near_cmp, place_cmp};
 ghost use Rattle.hwdb_near.specs.Views.{pattern_at};
-ghost use Rattle.hwdb_near.specs.Internal.Ratings.{by_nearness, by_nearness_total, place_order, rated_of, text_order};
+ghost use Rattle.hwdb_near.specs.Internal.Ratings;
+ghost use Rattle.hwdb_near.specs.Internal.Ratings.{by_nearness, by_nearness_total, by_place_total, rated_of, text_order};
 
 use std::cmp::Ordering;
 
@@ -20,6 +21,46 @@ pub struct PatternAt<'a> {
     pub line: u64,
     /// Its text.
     pub pattern: &'a [u8],
+}
+
+/// Two are alike if neither comes before the other.
+impl<'a> PartialEq for PatternAt<'a> {
+    ghost eq = { eq_by_cmp Ratings.by_place };
+
+    ghost laws = { partial_equiv_from_equiv (eq_by_cmp_equiv by_place_total) };
+
+    fn eq(&self, other: &Self) -> bool {
+        self.cmp(other).is_eq()
+    }
+}
+
+impl<'a> Eq for PatternAt<'a> {
+    ghost laws = { eq_by_cmp_equiv by_place_total };
+}
+
+impl<'a> PartialOrd for PatternAt<'a> {
+    ghost partial_cmp = { as_partial_cmp Ratings.by_place };
+
+    ghost laws = { partial_order_from_total by_place_total };
+
+    fn partial_cmp(&self, other: &Self) -> Option<Ordering> {
+        Some(self.cmp(other))
+    }
+}
+
+/// By file and line, and then by text.
+impl<'a> Ord for PatternAt<'a> {
+    ghost cmp = { Ratings.by_place };
+
+    ghost total = { by_place_total };
+
+    ghost matches_partial_cmp = { λ x y. refl };
+
+    ghost matches_eq = { λ x y. refl };
+
+    fn cmp(&self, other: &Self) -> Ordering {
+        by_place(self, other)
+    }
 }
 
 /// A pattern, and how near it is.
@@ -85,7 +126,7 @@ fn by_text(a: &PatternAt<'_>, b: &PatternAt<'_>) -> Ordering
 
 /// Which of two patterns comes first by its file, its line and its text.
 fn by_place(a: &PatternAt<'_>, b: &PatternAt<'_>) -> Ordering
-    ensures { result ≡ place_order (pattern_at a.now) (pattern_at b.now) }
+    ensures { result ≡ place_cmp (pattern_at a.now) (pattern_at b.now) }
 {
     match a.file.cmp(&b.file) {
         Ordering::Equal => match a.line.cmp(&b.line) {
@@ -118,5 +159,15 @@ pub(crate) fn nearest_first(all: Vec<Rated<'_>>, limit: usize) -> Vec<Rated<'_>>
     list.sort_unstable();
     list.dedup();
     list.truncate(limit);
+    list
+}
+
+/// Some patterns by file and line; each pattern and place once. They are sorted.
+pub(crate) fn by_file_and_line(all: Vec<PatternAt<'_>>) -> Vec<PatternAt<'_>>
+    ensures { map pattern_at result.items ≡ in_order place_cmp (map pattern_at all.entry.items) }
+{
+    let mut list = all;
+    list.sort_unstable();
+    list.dedup();
     list
 }

@@ -55,7 +55,7 @@ fn place_line(
 {
     let mut json = Writer::new(Vec::new(alloc));
     put_place(&mut json, device, at, reach)?;
-    ended(json)
+    ended(alloc, json)
 }
 
 /// Adds the line of a pattern that matches.

@@ -1,6 +1,6 @@
 //! Laws over the definitions alone. Each function does nothing: its contract is the law.
-ghost use Rattle.hwdb_near.specs.Laws.{LastAndReplacedAreAll, LongestIsComputed, PatternsAreOfFiles, StopsAreComputed};
-ghost use Rattle.hwdb_near.specs.Rows.{FileRows, GatheredRows, HeadRows, MarkRows, MaskedRows, MatchingRows, NearestRows, PlaceRows, RatedRows, ReplacedFileRows, ReplacedRows, ReplacedTextRows, StopRows, WordRows};
+ghost use Rattle.hwdb_near.specs.Laws.{LastAndReplacedAreAll, LongestIsComputed, NoneReplacesItself, PatternsAreOfFiles, StopsAreComputed};
+ghost use Rattle.hwdb_near.specs.Rows.{FileRows, GatheredRows, HeadRows, MarkRows, MaskedRows, MatchingRows, NearestRows, OrderRows, PlaceRows, RatedRows, RepeatedRows, ReplacedFileRows, ReplacedRows, ReplacedTextRows, StopRows, WordRows};
 
 use hwdb_inspect::members_are_the_map;
 use hwdb_pattern::matches_is_tested;
@@ -36,10 +36,17 @@ pub fn last_and_replaced_are_all()
     ensures { LastAndReplacedAreAll }
 {}
 
+/// No assignment is told as replaced by what the same line gives its pattern.
+#[tactic(auto, using(crate::proofs::OnceLemmas::none_replaces_itself))]
+pub fn none_replaces_itself()
+    ensures { NoneReplacesItself }
+{}
+
 /// Worked rows of what was replaced, and of what is masked.
 pub fn replaced_rows()
     ensures replaced { ReplacedRows }
     ensures files { ReplacedFileRows }
+    ensures repeated { RepeatedRows }
     ensures masked { MaskedRows }
     ensures text { ReplacedTextRows }
 {}
@@ -50,6 +57,7 @@ pub fn worked_rows()
     ensures rated { RatedRows }
     ensures nearest { NearestRows }
     ensures matching { MatchingRows }
+    ensures order { OrderRows }
     ensures marks { MarkRows }
     ensures words { WordRows }
     ensures heads { HeadRows }

@@ -20,6 +20,8 @@
 //! | `printing` | what `near` prints of some patterns |
 //! | `asked` | what it prints of text files, and of a database |
 //! | `wanted` | the assignments of text files whose pattern matches |
+//! | `counted` | how many assignments text files have |
+//! | `each_once` | some assignments, each once |
 //! | `replacements` | which of some assignments a later one replaced |
 //! | `replaced_texts` | what is printed of these as text |
 //! | `replaced_json` | what is printed of these as lines of JSON |
@@ -29,7 +31,9 @@
 #![tactic(auto)]
 
 mod asked;
+mod counted;
 mod databases;
+mod each_once;
 mod found;
 mod fronts;
 mod json_lines;
@@ -49,13 +53,14 @@ mod reports;
 mod wanted;
 
 pub use asked::{near_in_database, near_in_files};
+pub use counted::count_given;
 pub use databases::patterns_of;
 pub use found::PatternAt;
 pub use fronts::{Stop, stops};
 pub use hwdb_spec::NearError;
 pub use laws::{
-    last_and_replaced_are_all, patterns_are_of_files, replaced_rows, stops_are_computed,
-    worked_rows,
+    last_and_replaced_are_all, none_replaces_itself, patterns_are_of_files, replaced_rows,
+    stops_are_computed, worked_rows,
 };
 pub use patterns::{PatternFile, push_patterns};
 pub use prefixes::push_prefix_report;

@@ -3,9 +3,9 @@ ghost use Rattle.std.specs.Prelude.{◌≡◌, ◌++◌, ◌∷◌, [], map, rev
 ghost use Rattle.hwdb_spec.specs.Near;
 ghost use Rattle.hwdb_spec.specs.Near.{matching, nearest};
 ghost use Rattle.hwdb_near.specs.Views.{pattern_at};
-ghost use Rattle.hwdb_near.specs.Internal.Ratings.{misses, rated_of};
+ghost use Rattle.hwdb_near.specs.Internal.Ratings.{hitting, misses, rated_of};
 
-use crate::found::{PatternAt, Rated, nearest_first};
+use crate::found::{PatternAt, Rated, by_file_and_line, nearest_first};
 use crate::matching::hits;
 use crate::rating::{fold_case, rate};
 use std::alloc::{AllocError, Global};
@@ -42,7 +42,7 @@ impl<'a> FoundPatterns<'a> {
         requires reversed { device.reversed.now ≡ reverse device.folded.now }
         ensures matching { OnOk result (map pattern_at self.new.matching.items
             ≡ map pattern_at self.old.matching.items
-            ++ matching device.entry.text.now (pattern_at at.entry ∷ [])) }
+            ++ hitting device.entry.text.now (pattern_at at.entry ∷ [])) }
         ensures nearest { OnOk result (map rated_of self.new.nearest.items
             ≡ map rated_of self.old.nearest.items
             ++ misses device.entry.text.now (pattern_at at.entry ∷ [])) }
@@ -69,7 +69,7 @@ fn all_found<'a>(
     device: &[u8],
 ) -> Result<FoundPatterns<'a>, AllocError>
     ensures matching { IfOk result (λ f. map pattern_at f.matching.items
-        ≡ matching device.now (map pattern_at patterns.now)) }
+        ≡ hitting device.now (map pattern_at patterns.now)) }
     ensures nearest { IfOk result (λ f. map rated_of f.nearest.items
         ≡ misses device.now (map pattern_at patterns.now)) }
 {
@@ -91,7 +91,7 @@ fn all_found<'a>(
     Ok(found)
 }
 
-/// Those of the patterns that match the device, and at most so many of those that don't: the nearest.
+/// Those of the patterns that match the device, by file and line, and at most so many of those that don't: the nearest.
 pub(crate) fn nearest_of<'a>(
     alloc: Global,
     patterns: &[PatternAt<'a>],
@@ -105,7 +105,7 @@ pub(crate) fn nearest_of<'a>(
 {
     let FoundPatterns { matching, nearest } = all_found(alloc, patterns, device)?;
     Ok(FoundPatterns {
-        matching,
+        matching: by_file_and_line(matching),
         nearest: nearest_first(nearest, limit),
     })
 }

@@ -4,6 +4,7 @@ ghost use Rattle.hwdb_compile.specs.Views.{ForFolders};
 ghost use Rattle.hwdb_spec.specs.Replacements.{masked_files, masked_form, replaced_form, replacements_form};
 ghost use Rattle.hwdb_near.specs.Views.{replacement_of};
 
+use crate::each_once::each_once;
 use crate::replacements::{Replaced, replacements};
 use crate::wanted::wanted;
 use crate::{replaced_json, replaced_texts};
@@ -41,9 +42,10 @@ fn json_of(
 }
 
 /// What is printed of the assignments of chosen files that a later one of the same pattern and key replaced, if the pattern matches
-/// the device. They come by priority, line and match line, each with the one that replaced it. After them come these paths of masked files.
+/// the device. They come by priority, line and match line, each once and with the one that replaced it. After them come these paths of
+/// masked files.
 ///
-/// It takes a pass over the files, and a look among the assignments whose pattern matches for each of these.
+/// It takes a pass over the files, and two looks among the assignments whose pattern matches for each of these.
 ///
 /// # Errors
 ///
@@ -60,7 +62,8 @@ pub fn replaced_in_files(
         → text.items ≡ replacements_form json device.now etc usr)) }
 {
     let found = wanted(alloc, files, device)?;
-    let pairs = replacements(alloc, &found)?;
+    let each = each_once(alloc, &found)?;
+    let pairs = replacements(alloc, &each)?;
     if json {
         return Ok(json_of(alloc, &pairs, masked, device)?);
     }

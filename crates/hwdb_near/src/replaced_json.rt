@@ -73,7 +73,7 @@ fn push_replaced(
 {
     let mut json = Writer::new(Vec::new(alloc));
     put_replaced(alloc, &mut json, device, pair)?;
-    let line = ended(json)?;
+    let line = ended(alloc, json)?;
     text.extend_from_slice(&line)
 }
 
@@ -110,7 +110,7 @@ fn push_masked(alloc: Global, text: &mut Vec<u8>, path: &[u8]) -> Result<(), All
 {
     let mut json = Writer::new(Vec::new(alloc));
     put_masked(&mut json, path)?;
-    let line = ended(json)?;
+    let line = ended(alloc, json)?;
     text.extend_from_slice(&line)
 }
 

@@ -8,6 +8,7 @@ ghost use Rattle.hwdb_near.specs.Views.{assignment_of, replacement_of};
 
 use crate::replacements::Replaced;
 use crate::wanted::FileAssignment;
+use hwdb_show::push_name;
 use itoa::Buffer;
 use std::alloc::{AllocError, Global};
 
@@ -30,7 +31,7 @@ fn push_origin(alloc: Global, text: &mut Vec<u8>, at: &FileAssignment<'_>) -> Re
     let path = at.file.path(alloc)?;
     let mut digits = Buffer::new();
     text.extend_from_slice(b"    ")?;
-    text.extend_from_slice(path.as_bytes())?;
+    push_name(text, path.as_bytes())?;
     text.push(b':')?;
     text.extend_from_slice(digits.format(at.given.line).as_bytes())?;
     text.extend_from_slice(b"  ")?;
@@ -85,7 +86,7 @@ fn push_masked(text: &mut Vec<u8>, path: &[u8]) -> Result<(), AllocError>
 {
     text.extend_from_slice(b"masked")?;
     text.extend_from_slice(b": ")?;
-    text.extend_from_slice(path)?;
+    push_name(text, path)?;
     text.push(b'\n')?;
     Ok(())
 }

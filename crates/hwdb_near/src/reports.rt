@@ -7,7 +7,7 @@ ghost use Rattle.hwdb_near.specs.Internal.Ratings.{rated_of};
 use crate::found::{PatternAt, Rated};
 use crate::fronts::stops;
 use crate::reasons::{after, push_why};
-use hwdb_show::{push_mark_line, push_shown_line};
+use hwdb_show::{push_mark_line, push_name, push_shown_line};
 use itoa::Buffer;
 use std::alloc::{AllocError, Global};
 
@@ -17,7 +17,7 @@ fn push_said_line(text: &mut Vec<u8>, at: &PatternAt<'_>, said: &[u8]) -> Result
         (text.new.items ≡ text.old.items ++ said_line (pattern_at at.now) said.now) }
 {
     let mut digits = Buffer::new();
-    text.extend_from_slice(at.path)?;
+    push_name(text, at.path)?;
     text.push(b':')?;
     text.extend_from_slice(digits.format(at.line).as_bytes())?;
     text.push(b':')?;

@@ -10,7 +10,7 @@ use Rattle.json.specs.Find.{get}
 use Rattle.json.specs.Json.{Json, string}
 use Rattle.json.specs.Tree.{HasNumbers, ItemsHaveNumbers, MembersHaveNumbers, depth, items_depth, members_depth}
 use Rattle.json.proofs.Printed.Decimals.{IsNumber-decimal}
-use Rattle.json.proofs.Printed.Trees.{document-print}
+use Rattle.hwdb_print.proofs.EscapedJsonLemmas.{document_escaped}
 use Rattle.hwdb_spec.specs.Json.{array_of, bytes_in, device_json, has_name, items_of, members_in, members_of, named_in, number_json, object_of, pair_in, pair_json, pairs_in, property_member, raw_in, raw_members, text_at, text_in, text_json}
 use Rattle.hwdb_print.specs.JsonLaws.{ArePairBytes, DevicesAreReadBack, TextsAreReadBack}
 
@@ -160,7 +160,7 @@ device_read device properties bytes pairs =
     let under : Json = object_of (map property_member named) in
     record {
       value = device_json device properties;
-      is_read = document-print (device_json device properties)
+      is_read = document_escaped (device_json device properties)
           (line_written (text_json device) under raw (text_written device bytes) (members_written named named_bytes) raw_bytes)
           (line_depth (text_json device) under raw (text_depth device) (omega (arith, members_deep named)));
       device_is = device_found (text_json device) under raw ∙ text_read device bytes;

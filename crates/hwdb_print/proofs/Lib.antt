@@ -8,3 +8,4 @@ pub mod JsonLemmas
 pub mod LineLemmas
 pub mod StreamLemmas
 pub mod TextLemmas
+pub mod EscapedJsonLemmas

@@ -1,9 +1,10 @@
 -- Answers that are written, one after another.
-use Rattle.std.proofs.Common.{◌≡◌, ◌∙◌, ℕ, Bool, true, false, refl, ap, sym, subst, arith, List, [], ◌∷◌, ◌++◌, append_assoc, append-nil, map, length, Option, None, Some, IfSome, IfNone}
+use Rattle.std.proofs.Common.{◌≡◌, ◌∙◌, ℕ, Bool, true, false, refl, ap, sym, subst, arith, inr, List, [], ◌∷◌, ◌++◌, append_assoc, append-nil, map, length, Option, None, Some, IfSome, IfNone}
 use Rattle.std.specs.Prelude.{flat_map}
 use Rattle.hwdb_spec.specs.Folders.{Source, all_assignments}
 use Rattle.hwdb_spec.specs.Assignment.{Assignment}
 use Rattle.hwdb_spec.specs.Answers.{effective_of, last_assignments}
+use Rattle.hwdb_spec.specs.Flushing.{HandsOn}
 use Rattle.hwdb_spec.specs.Explanations.{explain_text, explained, explained_text, explanations_text}
 use Rattle.hwdb_spec.specs.Json.{device_json, explain_json, explained_json, explanations_json, json_line}
 use Rattle.hwdb_spec.specs.Lines.{is}
@@ -12,7 +13,7 @@ use Rattle.hwdb_spec.specs.Tree.{Tree, answers}
 use Rattle.hwdb_print.proofs.TextLemmas.{same_lines, same_texts}
 use Rattle.hwdb_spec.specs.declared.form.Form.{Form}
 use Rattle.hwdb_spec.specs.declared.form.Form.TheVariants.{Explain, Query}
-use Rattle.hwdb_print.specs.Internal.{answer_text, texts_from}
+use Rattle.hwdb_print.specs.Internal.{IsHeard, answer_text, texts_from}
 use Rattle.hwdb_spec.specs.Streams.{last_texts_of, texts_of}
 
 -- what is after a text
@@ -100,3 +101,8 @@ some_of {X} o x P is h = let Q : Option X → Type 0 = λ q. IfSome q P in subst
 pub none_of : {X : Type 0} (o : Option X) (P : Type 0) → ((x : X) → o ≡ Some x → ⊥) → IfNone o P → P
 none_of None P other h = h
 none_of (Some x) P other h = absurd (other x refl)
+
+-- what lines leave that an output took, or of which the last failed
+pub heard : (is_heard : Bool) (flushed_before flushed_now : Type 0) (failures_before failures_now : ℕ) → IsHeard is_heard flushed_before flushed_now failures_before failures_now → HandsOn flushed_before flushed_now failures_before failures_now
+heard true flushed_before flushed_now failures_before failures_now h = inr h
+heard false flushed_before flushed_now failures_before failures_now h = h

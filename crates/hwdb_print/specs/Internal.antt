@@ -4,6 +4,7 @@ use Rattle.std.specs.Io.KnownBytes.{Appends, IsAtEnd, Keeps, prepend_known}
 use Rattle.hwdb_spec.specs.Answers.{effective_of}
 use Rattle.hwdb_spec.specs.Assignment.{Assignment}
 use Rattle.hwdb_spec.specs.Explanations.{explain_text}
+use Rattle.hwdb_spec.specs.Flushing.{HandsOn}
 use Rattle.hwdb_spec.specs.Json.{device_json, explain_json, json_line}
 use Rattle.hwdb_spec.specs.Lines.{byte, has}
 use Rattle.hwdb_spec.specs.Texts.{query_text}
@@ -20,6 +21,11 @@ AppendsLines line before now hits = (n : ℕ) × Appends before now (flat_map li
 abbrev pub text_behind : (is_first : Bool) → List ℕ → List ℕ
 text_behind true text = text
 text_behind false text = byte "\n" ∷ text
+
+-- An output took each of some lines, and if it held nothing back before them, it doesn't now. Else the last call of it failed.
+abbrev pub IsHeard : (is_heard : Bool) (flushed_before flushed_now : Type 0) (failures_before failures_now : ℕ) → Type 0
+IsHeard true flushed_before flushed_now failures_before failures_now = (failures_now ≡ failures_before) × (flushed_before → flushed_now)
+IsHeard false flushed_before flushed_now failures_before failures_now = HandsOn flushed_before flushed_now failures_before failures_now
 
 -- what is printed of a device after others
 abbrev pub answer_text : Form → (is_first : Bool) → List ℕ → Tree → List ℕ

@@ -84,7 +84,7 @@ fn push_explanation(
     };
     let mut json = Writer::new(Vec::new(alloc));
     put_explanation(&mut json, device, explained.key, last, overridden)?;
-    let line = ended(json)?;
+    let line = ended(alloc, json)?;
     text.extend_from_slice(&line)
 }
 

@@ -142,7 +142,7 @@ pub fn device_line(
     let raw = raw_of(alloc, properties)?;
     let mut json = Writer::new(Vec::new(alloc));
     put_device(&mut json, device, properties, &raw)?;
-    ended(json)
+    ended(alloc, json)
 }
 
 /// Adds the object of a hit: its position, and each part of it.
@@ -173,5 +173,5 @@ pub fn hit_json_line(alloc: Global, hit: &Hit<'_>) -> Result<Vec<u8>, AllocError
     hit.push_position(&mut position)?;
     let mut json = Writer::new(Vec::new(alloc));
     put_hit(&mut json, &position, hit)?;
-    ended(json)
+    ended(alloc, json)
 }

@@ -1,5 +1,5 @@
 //! The devices of a source, each answered as it comes.
-ghost use Rattle.std.specs.Prelude.{◌≡◌, List, None, IfErr, IfSome, OnOk, IsErrOf};
+ghost use Rattle.std.specs.Prelude.{◌≡◌, List, None, IfErr, IfSome, OnOk, IsErrOf, true};
 ghost use Rattle.std.specs.Io.KnownBytes.{Appends};
 ghost use Rattle.hwdb_spec.specs.Flushing.{HandsOn};
 ghost use Rattle.hwdb_spec.specs.Folders.{Source};
@@ -11,25 +11,62 @@ ghost use Rattle.hwdb_spec.specs.Written.{IsCompiled};
 ghost use Rattle.hwdb_spec.specs.Outputs.{FailedOnly, Wrote};
 ghost use Rattle.hwdb_spec.specs.Databases.{IsTextOf};
 ghost use Rattle.hwdb_spec.specs.AnsweredLines.{IsLineError, IsPrintedBefore, line_error};
+ghost use Rattle.hwdb_print.specs.Internal.{IsHeard};
 ghost use Rattle.hwdb_spec.specs.Streams.{IsAnswerRefusal, IsStreamRefusal, IfBadDatabase, texts_of, last_texts_of};
 
 use crate::chunk::LineReader;
 use crate::device_texts::text_of_device;
-use crate::renewal::{Kept, Renewal};
+use crate::renewal::{Kept, Nowhere, Renewal};
 use hwdb_io::{MAX_BYTES, Sink, Source, write_text};
 use hwdb_query::compiled_answers_are_last;
 use hwdb_reader::{check, reopen};
 use hwdb_spec::{Form, ToolError};
 use std::alloc::Global;
 
+/// Says a line on standard error. Whether it took the line.
+fn say<E: Sink>(err: &mut E, line: &[u8]) -> bool
+    ensures heard { (first : E) → IsHeard true (E.is_flushed first) (E.is_flushed err.old)
+        (E.failures first) (E.failures err.old)
+        → IsHeard result (E.is_flushed first) (E.is_flushed err.new)
+        (E.failures first) (E.failures err.new) }
+{
+    match write_text(err, line) {
+        Ok(()) => true,
+        Err(_) => false,
+    }
+}
+
+/// Takes what came in the database's place, and says what there is to say of it. After a line that standard error didn't take
+/// nothing more is said: `is_heard` tells whether it took all of them so far.
+fn renew<R: Renewal, E: Sink>(database: &mut R, err: &mut E, is_heard: bool) -> bool
+    ensures database { (t : Tree) → IsDatabase (R.held database.old) t
+        → (u : Tree) × IsDatabase (R.held database.new) u }
+    ensures same { R.stays database.old → R.held database.new ≡ R.held database.old }
+    ensures stays { R.stays database.old → R.stays database.new }
+    ensures quiet { R.stays database.old → err.new ≡ err.old }
+    ensures heard { (first : E) → IsHeard is_heard (E.is_flushed first) (E.is_flushed err.old)
+        (E.failures first) (E.failures err.old)
+        → IsHeard result (E.is_flushed first) (E.is_flushed err.new)
+        (E.failures first) (E.failures err.new) }
+{
+    let Some(line) = database.renew() else {
+        return is_heard;
+    };
+    if is_heard {
+        return say(err, &line);
+    }
+    false
+}
+
 /// Answers each device that the input names, from the bytes that are there when its line was read. One line and one text are
 /// held at a time.
-fn answer_lines<R: Renewal, I: Source, O: Sink>(
+fn answer_lines<R: Renewal, I: Source, O: Sink, E: Sink>(
     alloc: Global,
     database: &mut R,
     form: Form,
     input: &mut I,
     out: &mut O,
+    err: &mut E,
 ) -> Result<(), ToolError>
     requires database { (t : Tree) × IsDatabase (R.held database.old) t }
     ensures printed { R.stays database.old → OnOk result (IfSome (I.left input.old) (λ text.
@@ -50,14 +87,18 @@ fn answer_lines<R: Renewal, I: Source, O: Sink>(
         (O.taken out.old) (O.taken out.new))) }
     ensures hands_on { HandsOn (O.is_flushed out.old) (O.is_flushed out.new)
         (O.failures out.old) (O.failures out.new) }
+    ensures quiet { R.stays database.old → err.new ≡ err.old }
+    ensures err_hands_on { HandsOn (E.is_flushed err.old) (E.is_flushed err.new)
+        (E.failures err.old) (E.failures err.new) }
 {
     let mut lines = LineReader::new();
     let mut is_first = true;
+    let mut is_heard = true;
     'answering: for _ in 0..u64::MAX {
         let Some(device) = lines.next_line(alloc, input, MAX_BYTES)? else {
             return Ok(());
         };
-        database.renew();
+        is_heard = renew(database, err, is_heard);
         let db = reopen(database.bytes());
         let text = text_of_device(alloc, &db, &device, form, is_first)?;
         write_text(out, &text)?;
@@ -68,12 +109,13 @@ fn answer_lines<R: Renewal, I: Source, O: Sink>(
 
 /// The same as [`run_stream`], of a database that may be replaced between two answers: each is of the bytes that are there
 /// when its line was read. They are checked once here, and whoever renews them checks those that come.
-pub fn run_renewed<R: Renewal, I: Source, O: Sink>(
+pub fn run_renewed<R: Renewal, I: Source, O: Sink, E: Sink>(
     alloc: Global,
     database: &mut R,
     form: Form,
     input: &mut I,
     out: &mut O,
+    err: &mut E,
 ) -> Result<(), ToolError>
     ensures printed { R.stays database.old → OnOk result (IfSome (I.left input.old) (λ text.
         Wrote (IsTextOf (texts_of form (devices_of text)) (R.held database.old))
@@ -95,9 +137,12 @@ pub fn run_renewed<R: Renewal, I: Source, O: Sink>(
         ((input.new ≡ input.old) × (out.new ≡ out.old))) }
     ensures hands_on { HandsOn (O.is_flushed out.old) (O.is_flushed out.new)
         (O.failures out.old) (O.failures out.new) }
+    ensures quiet { R.stays database.old → err.new ≡ err.old }
+    ensures err_hands_on { HandsOn (E.is_flushed err.old) (E.is_flushed err.new)
+        (E.failures err.old) (E.failures err.new) }
 {
     check(database.bytes())?;
-    answer_lines(alloc, database, form, input, out)
+    answer_lines(alloc, database, form, input, out, err)
 }
 
 /// Checks the bytes, and then reads devices from `input`, one a line. Each is printed to `out` as soon as its line is read:
@@ -139,5 +184,5 @@ pub fn run_stream<I: Source, O: Sink>(
         (O.failures out.old) (O.failures out.new) }
 {
     compiled_answers_are_last();
-    run_renewed(alloc, &mut Kept { bytes }, form, input, out)
+    run_renewed(alloc, &mut Kept { bytes }, form, input, out, &mut Nowhere)
 }

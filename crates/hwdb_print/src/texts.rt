@@ -6,6 +6,7 @@ ghost use Rattle.hwdb_spec.specs.Texts.{property_text, properties_text, hit_text
 
 use hwdb_compile::FileFault;
 use hwdb_query::Hit;
+use hwdb_show::push_name;
 use hwdb_text::Fault;
 use itoa::Buffer;
 use std::alloc::{AllocError, Global};
@@ -46,12 +47,12 @@ pub fn set_hit_line(line: &mut Vec<u8>, hit: &Hit<'_>) -> Result<(), AllocError>
     Ok(())
 }
 
-/// Adds where a fault stands: the path, `:`, the line's number.
+/// Adds where a fault stands: the path, as names are shown, `:`, the line's number.
 pub fn push_place(text: &mut Vec<u8>, path: &[u8], line: u32) -> Result<(), AllocError>
     ensures { OnOk result (text.new.items ≡ text.old.items ++ place_text path.now line) }
 {
     let mut number = Buffer::new();
-    text.extend_from_slice(path)?;
+    push_name(text, path)?;
     text.push(b':')?;
     text.extend_from_slice(number.format(line).as_bytes())?;
     Ok(())

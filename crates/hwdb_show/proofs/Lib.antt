@@ -2,3 +2,4 @@ pub mod ShownLemmas
 pub mod ColourLemmas
 pub mod WindowLemmas
 pub mod VisibleLemmas
+pub mod EscapeLemmas

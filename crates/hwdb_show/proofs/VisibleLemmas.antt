@@ -1,6 +1,6 @@
 -- What is shown has kept characters alone, and a text that has no others is shown as it is.
-use Rattle.std.proofs.Common.{◌≡◌, ◌≢◌, ◌∙◌, ◌<◌, ◌≤◌, ◌+◌, ◌-◌, ◌/◌, ◌%◌, ◌&&◌, All, Bool, List, Option, [], ◌∷◌, ◌++◌, ap, ap₂, append_assoc, arith, drop, false, length, ltb-true, refl, subst, suc, sym, take, true, zero, ℕ}
-use Rattle.std.specs.Prelude.{if◌then◌else◌, nat_lt, slice_index}
+use Rattle.std.proofs.Common.{◌≡◌, ◌≢◌, ◌∙◌, ◌<◌, ◌≤◌, ◌⊎◌, ◌+◌, ◌-◌, ◌/◌, ◌%◌, ◌&&◌, All, Bool, inl, inr, List, Option, [], ◌∷◌, ◌++◌, ap, ap₂, append_assoc, arith, drop, false, length, ltb-true, not, refl, subst, suc, sym, take, true, zero, ℕ}
+use Rattle.std.specs.Prelude.{if◌then◌else◌, nat_le, nat_lt, slice_index}
 use Rattle.std.specs.List.{list_all}
 use lib.Utf8.{low_scalar, scalar, scalar_cases}
 use Rattle.std.specs.Char.{encode_utf8}
@@ -14,6 +14,10 @@ use Rattle.std.proofs.lemmas.List.Folds.{list_all-append}
 use Rattle.std.proofs.lemmas.Str.{IsUtf8-from_is_utf8, chars-append, chars_from_encodes, encodes-chars, is_utf8-from_IsUtf8, scalars-chars}
 use Rattle.std.proofs.str.Laws.{IsUtf8-append, Shape, both, of1, of2, of3, of4, one, shape}
 use Rattle.hex.specs.Hex.{IsBytes, encode_with, lower_digits}
+use Rattle.std.proofs.lemmas.Bool.{cases_lt, leb-true}
+use Rattle.hwdb_show.specs.Lemmas.Names.{implied, implies, refuted, upto_sound}
+use Rattle.hwdb_spec.specs.Patterns.{in_span}
+use Rattle.hwdb_spec.specs.Json.{escaped_after}
 use Rattle.hwdb_show.specs.Rows.{Rows}
 use Rattle.hwdb_spec.specs.Lemmas.Orders.{not_utf8}
 use Rattle.hwdb_spec.specs.Visible.{are_kept, first_bytes, hex_byte, is_kept, is_layout, shown_as, visible_after}
@@ -299,5 +303,63 @@ piece_more whole done piece before after so_far one = append_assoc done piece af
 -- ---- rows
 
 pub rows_are : Rows
-unfolding visible_after is_utf8 chars encode_utf8 encode_with
-rows_are = record { below = refl; csi = refl; letters = refl; cut = refl; name = refl }
+unfolding visible_after is_utf8 chars encode_utf8 encode_with escaped_after
+rows_are = record { below = refl; csi = refl; letters = refl; cut = refl; name = refl; json = refl }
+
+-- ---- names that ASCII prints
+
+small_span : (b : ℕ) → in_span b (32, 126) ≡ true → b < 127
+small_span b h = go (nat_le 32 b) h
+  where
+    go : (above : Bool) → (if above then nat_le b 126 else false) ≡ true → b < 127
+    go true e = omega (arith, leb-true b 126 e)
+    go false e = let no : false ≡ true = e in cc
+
+printed_plain : (b : ℕ) → in_span b (32, 126) ≡ true → is_plain b ≡ true
+printed_plain b h =
+    implied (in_span b (32, 126)) (is_plain b) (upto_sound (λ (y : ℕ). implies (in_span y (32, 126)) (is_plain y)) 127 refl b (small_span b h)) h
+
+plain_of : (text : List ℕ) → list_all (λ b. in_span b (32, 126)) text ≡ true → list_all is_plain text ≡ true
+plain_of [] h = refl
+plain_of (b ∷ bs) h = let p = both (in_span b (32, 126)) (list_all (λ b. in_span b (32, 126)) bs) h in both_true _ _ (printed_plain b p.0) (plain_of bs p.1)
+
+-- a name that ASCII prints is shown as it is
+pub printed_name : (name : List ℕ) → list_all (λ b. in_span b (32, 126)) name ≡ true → visible_after true 0 name ≡ name
+printed_name name h = same_shown true name (plain_kept true name (plain_of name h))
+
+-- ---- no byte of a name below 32
+
+abbrev above : ℕ → Type 0
+above b = 32 ≤ b
+
+kept_above : (c : ℕ) → is_kept true c ≡ true → 32 ≤ c
+kept_above c kept = go (cases_lt c 32)
+  where
+    go : (c < 32) ⊎ (32 ≤ c) → 32 ≤ c
+    go (inr le) = le
+    go (inl lt) = let no : false ≡ true = sym (refuted _ (upto_sound (λ (y : ℕ). not (is_kept true y)) 32 refl c lt)) ∙ kept in cc
+
+above_in : (c : ℕ) → is_kept true c ≡ true → Shape c → All above (encode_utf8 c)
+above_in c kept (of1 h e) = subst (All above) (sym e) (All-cons above c [] (kept_above c kept) (All-nil above))
+above_in c kept (of2 a b l h f s e) =
+    subst (All above) (sym e) (All-cons above a (b ∷ []) (omega (arith, l)) (All-cons above b [] (omega (arith, f.0)) (All-nil above)))
+above_in c kept (of3 a b d l h f g s e) =
+    subst (All above) (sym e)
+    (All-cons above a (b ∷ d ∷ []) (omega (arith, l)) (All-cons above b (d ∷ []) (omega (arith, f.0)) (All-cons above d [] (omega (arith, g.0)) (All-nil above))))
+above_in c kept (of4 a b d x l h f g k s e) =
+    subst (All above) (sym e)
+    (All-cons above a (b ∷ d ∷ x ∷ []) (omega (arith, l)) (All-cons above b (d ∷ x ∷ []) (omega (arith, f.0))
+    (All-cons above d (x ∷ []) (omega (arith, g.0)) (All-cons above x [] (omega (arith, k.0)) (All-nil above)))))
+
+above_from : (cs : List ℕ) → all_scalars cs ≡ true → list_all (is_kept true) cs ≡ true → All above (encode_utf8_all cs)
+above_from [] scalars kept = All-nil above
+above_from (c ∷ cs) scalars kept =
+    let s = both (scalar c) (all_scalars cs) scalars in
+    let k = both (is_kept true c) (list_all (is_kept true) cs) kept in
+    All-append above (encode_utf8 c) (encode_utf8_all cs) (above_in c k.0 (shape c (scalar_cases c s.0))) (above_from cs s.1 k.1)
+
+pub name_above : (name : List ℕ) → IsBytes name → All (λ b. 32 ≤ b) (visible_after true 0 name)
+name_above name bytes =
+    let shown = visible_after true 0 name in
+    let k = kept_is true shown (kept_after true name 0 bytes) in
+    subst (All above) (encodes-chars shown k.0) (above_from (chars shown) (scalars-chars shown k.0) k.1)

@@ -1,2 +1,3 @@
 -- What proofs of this crate and of those above it cite: statements with their proofs.
 pub mod Json
+pub mod Names

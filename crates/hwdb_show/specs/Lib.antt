@@ -1,4 +1,5 @@
 pub mod JsonTokens
+pub mod Escapes
 pub mod Laws
 pub mod Rows
 pub mod Lemmas

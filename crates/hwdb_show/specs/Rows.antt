@@ -1,6 +1,7 @@
 -- Worked rows: what is shown of some bytes. Which characters are for control, and their bytes, are from ECMA-48 (C0, C1) and
 -- the tables of Unicode.
 use Rattle.std.specs.Prelude.{◌≡◌, ◌∷◌, ◌++◌, [], codes}
+use Rattle.hwdb_spec.specs.Json.{escaped}
 use Rattle.hwdb_spec.specs.Visible.{shown_name, visible}
 
 pub record Rows : Type 0 where
@@ -14,3 +15,6 @@ pub record Rows : Type 0 where
   pub cut : visible (226 ∷ 130 ∷ 65 ∷ []) ≡ codes "\\xe2\\x82A"
   -- a name has no newline of ours
   pub name : shown_name (codes "a\n\tb") ≡ codes "a\\x0a\\x09b"
+  -- the same bytes in a string of JSON: DEL, U+009B and U+0080; then U+00A0, U+00C2 and U+00DB stay
+  pub json : escaped (34 ∷ 127 ∷ 194 ∷ 155 ∷ 194 ∷ 128 ∷ 194 ∷ 160 ∷ 195 ∷ 130 ∷ 195 ∷ 155 ∷ 34 ∷ [])
+      ≡ codes "\"\\u007f\\u009b\\u0080" ++ 194 ∷ 160 ∷ 195 ∷ 130 ∷ 195 ∷ 155 ∷ 34 ∷ []

@@ -4,11 +4,12 @@ ghost use Rattle.json.specs.Json.{boolean};
 ghost use Rattle.json.specs.Print.{print};
 ghost use Rattle.json.specs.Tree.{json_tokens};
 ghost use Rattle.hwdb_spec.specs.Lines.{byte};
-ghost use Rattle.hwdb_spec.specs.Json.{text_json, number_json, array_of};
+ghost use Rattle.hwdb_spec.specs.Json.{text_json, number_json, array_of, escaped};
 ghost use Rattle.hwdb_show.specs.JsonTokens.{tokens_of_member};
 
+use crate::escapes::escaped;
 use json::Writer;
-use std::alloc::AllocError;
+use std::alloc::{AllocError, Global};
 
 /// Adds bytes as an array of numbers.
 pub fn put_bytes(json: &mut Writer, bytes: &[u8]) -> Result<(), AllocError>
@@ -75,12 +76,12 @@ pub fn put_flag(json: &mut Writer, name: &str, holds: bool) -> Result<(), AllocE
     json.boolean(holds)
 }
 
-/// The JSON that was written, and a newline.
-pub fn ended(json: Writer) -> Result<Vec<u8>, AllocError>
+/// The JSON that was written, as it is printed, and a newline.
+pub fn ended(alloc: Global, json: Writer) -> Result<Vec<u8>, AllocError>
     ensures { IfOk result
-        (λ line. line.items ≡ json.before ++ (print json.tokens ++ byte "\n" ∷ [])) }
+        (λ line. line.items ≡ escaped (json.before ++ print json.tokens) ++ byte "\n" ∷ []) }
 {
-    let mut line = json.into_inner();
+    let mut line = escaped(alloc, json.into_inner())?;
     line.push(b'\n')?;
     Ok(line)
 }

@@ -17,7 +17,7 @@ const BEFORE: usize = 80;
 pub(crate) const DIGITS: [u8; 16] = *b"0123456789abcdef";
 
 /// Whether ASCII prints a byte.
-fn is_printed(byte: u8) -> bool
+pub(crate) fn is_printed(byte: u8) -> bool
     ensures { result ≡ in_span byte (32, 126) }
 {
     matches!(byte, 32..=126)

@@ -1,14 +1,15 @@
 //! Texts and names without bytes that a terminal would act on.
-ghost use Rattle.std.specs.Prelude.{◌≡◌, ◌<◌, ◌+◌, ◌++◌, ℕ, Bool, List, chars, drop, false, length, slice_index, take, true, OnErr, OnOk};
+ghost use Rattle.std.specs.Prelude.{◌≡◌, ◌<◌, ◌≤◌, ◌+◌, ◌++◌, ℕ, All, Bool, List, chars, drop, false, length, slice_index, take, true, OnErr, OnOk};
 ghost use Rattle.std.specs.List.{list_all};
 ghost use Rattle.std.specs.Str.{continuation_len};
 ghost use Rattle.hex.specs.Hex.{IsBytes};
 ghost use Rattle.hwdb_spec.specs.Colours.{painted, without_sequences};
 ghost use Rattle.hwdb_spec.specs.Outputs.{CutShort, Took};
-ghost use Rattle.hwdb_spec.specs.Visible.{are_kept, hex_byte, is_kept, shown_as, visible, visible_after};
+ghost use Rattle.hwdb_spec.specs.Patterns.{in_span};
+ghost use Rattle.hwdb_spec.specs.Visible.{are_kept, hex_byte, is_kept, shown_as, shown_name, visible, visible_after};
 ghost use Rattle.hwdb_show.specs.Rows.{Rows};
 
-use crate::shown::{DIGITS, push_digits};
+use crate::shown::{DIGITS, is_printed, push_digits};
 use hwdb_io::{Sink, write_text};
 use hwdb_spec::{DeviceFailed, TextKind};
 use std::alloc::AllocError;
@@ -128,6 +129,28 @@ pub fn push_visible(shown: &mut Vec<u8>, in_name: bool, text: &[u8]) -> Result<(
     Ok(())
 }
 
+/// Whether ASCII prints each byte of a text.
+fn all_printed(text: &[u8]) -> bool
+    ensures { result ≡ list_all (λ b. in_span b (32, 126)) text.now }
+{
+    let mut printed = true;
+    for byte in text {
+        printed &= is_printed(*byte);
+    }
+    printed
+}
+
+/// Adds a name, as it is shown. One that ASCII prints is copied.
+#[tactic(auto, using(crate::proofs::VisibleLemmas::printed_name))]
+pub fn push_name(text: &mut Vec<u8>, name: &[u8]) -> Result<(), AllocError>
+    ensures { OnOk result (text.new.items ≡ text.old.items ++ shown_name name.now) }
+{
+    if all_printed(name) {
+        return text.extend_from_slice(name);
+    }
+    push_visible(text, true, name)
+}
+
 /// A byte as `\x` and its two hexadecimal digits.
 #[tactic(auto, unfolding(hex::specs::Hex::encode_with))]
 fn hex_byte(byte: u8) -> [u8; 4]
@@ -186,4 +209,11 @@ pub fn shown_has_no_control()
     ensures coloured { (kind : TextKind) (text : List ℕ) → IsBytes text
         → without_sequences false (painted kind (visible text)) ≡ visible text }
     ensures rows { Rows }
+{}
+
+/// What is shown of a name has no character for control, and so no newline: no name makes a line of its own. Each of its bytes
+/// is 32 or more.
+pub fn names_forge_no_line()
+    ensures kept { (name : List ℕ) → IsBytes name → are_kept true (shown_name name) ≡ true }
+    ensures above { (name : List ℕ) → IsBytes name → All (λ b. 32 ≤ b) (shown_name name) }
 {}

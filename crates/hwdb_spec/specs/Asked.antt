@@ -10,6 +10,7 @@ use Rattle.hwdb_spec.specs.Store.{Contents, database_name, path_in}
 use Rattle.hwdb_spec.specs.System.{asked_database, bytes_at, database_folder}
 use Rattle.hwdb_spec.specs.Texts.{IsSpelling, list_text, max_file}
 use Rattle.hwdb_spec.specs.Tree.{Tree}
+use Rattle.hwdb_spec.specs.Visible.{shown_name}
 
 -- the path of the database in one of the folders below a root
 abbrev pub database_path : (usr : Bool) (root : List ℕ) → List ℕ
@@ -47,7 +48,7 @@ pub record IsDumped (given : Option (List ℕ)) (root : List ℕ) (contents : Co
 
 -- the words of a database with an assignment that no text says: its path, and the pattern, as `check` shows bytes
 abbrev pub unsayable_text : (path pattern : List ℕ) → List ℕ
-unsayable_text path pattern = path ++ (codes ": no text file can say an assignment of the pattern " ++ shown pattern)
+unsayable_text path pattern = shown_name path ++ (codes ": no text file can say an assignment of the pattern " ++ shown pattern)
 
 -- the text is what the database that is asked gives
 abbrev pub IsAnswered : (root : List ℕ) (Is : (bytes text : List ℕ) → Type 0) → Contents → (text : List ℕ) → Type 0

@@ -11,6 +11,7 @@ use Rattle.hwdb_spec.specs.Differences.Change.{Came, Went, Changed}
 use Rattle.hwdb_spec.specs.Json.{array_of, json_line, number_json, object_of, text_json}
 use Rattle.hwdb_spec.specs.Lines.{byte}
 use Rattle.hwdb_spec.specs.Tree.{Tree, map_of}
+use Rattle.hwdb_spec.specs.Visible.{shown_name}
 
 -- ---- what is counted
 
@@ -91,10 +92,10 @@ stat_of (Some devices) old new = with_devices no_stat devices old new
 
 -- ---- what is printed
 
--- the line of a name: the name, and after a tab each how many came, went and changed
+-- the line of a name: the name, as names of files are shown, and after a tab each how many came, went and changed
 abbrev pub counts_line : List ℕ × Count → List ℕ
 counts_line n =
-    n.0 ++ (codes "\t+" ++ (decimal n.1.came ++ (codes "\t-" ++ (decimal n.1.went ++ (codes "\t~" ++ (decimal n.1.changed ++ byte "\n" ∷ []))))))
+    shown_name n.0 ++ (codes "\t+" ++ (decimal n.1.came ++ (codes "\t-" ++ (decimal n.1.went ++ (codes "\t~" ++ (decimal n.1.changed ++ byte "\n" ∷ []))))))
 
 -- the line of the devices that have a change, if devices were asked for
 abbrev pub devices_line : Option (List (List ℕ)) → ℕ → List ℕ

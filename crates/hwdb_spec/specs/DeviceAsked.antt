@@ -10,6 +10,7 @@ use Rattle.hwdb_spec.specs.Store.{Contents}
 use Rattle.hwdb_spec.specs.Sysfs.{Device}
 use Rattle.hwdb_spec.specs.declared.devices.DeviceForm.{DeviceForm}
 use Rattle.hwdb_spec.specs.declared.devices.DeviceForm.TheVariants as form
+use Rattle.hwdb_spec.specs.Visible.{shown_name}
 
 -- ---- what is printed
 
@@ -54,16 +55,16 @@ IsDevicePrinted form names root (Some given) sight contents text = IsOfDevice fo
 
 -- what is said if there is no sysfs: a path that leads nowhere, why, and what to do
 abbrev pub no_sysfs_text : (path words : List ℕ) → List ℕ
-no_sysfs_text path words = codes "no sysfs: " ++ (path ++ (codes ": " ++ (words ++ codes ": mount it, or name another root")))
+no_sysfs_text path words = codes "no sysfs: " ++ (shown_name path ++ (codes ": " ++ (words ++ codes ": mount it, or name another root")))
 
 -- what is said if it can't be told whether a device is there: the path that can't be read, and why
 abbrev pub unread_text : (path words : List ℕ) → List ℕ
-unread_text path words = codes "cannot read " ++ (path ++ (codes ": " ++ words))
+unread_text path words = codes "cannot read " ++ (shown_name path ++ (codes ": " ++ words))
 
 -- what to do if there is no such device: to take what is near, or to look at the list
 abbrev pub near_hint : (near : List ℕ) → List ℕ
 near_hint [] = codes "'hwdb device' lists all"
-near_hint (b ∷ rest) = codes "there is " ++ (b ∷ rest)
+near_hint (b ∷ rest) = codes "there is " ++ shown_name (b ∷ rest)
 
 -- whether what is given is a path, and leads nowhere
 abbrev pub leads_nowhere : Sight → (root given : List ℕ) → Bool
@@ -76,7 +77,7 @@ cause_part false words = []
 
 -- what is said if there is no such device: what was given, why it leads nowhere if it does, and what to do
 abbrev pub no_device_text : (nowhere : Bool) (given words near : List ℕ) → List ℕ
-no_device_text nowhere given words near = codes "no device: " ++ (given ++ (codes ": " ++ (cause_part nowhere words ++ near_hint near)))
+no_device_text nowhere given words near = codes "no device: " ++ (shown_name given ++ (codes ": " ++ (cause_part nowhere words ++ near_hint near)))
 
 -- the same, by what sysfs shows
 abbrev pub missing_text : Sight → (root sys given words : List ℕ) → List ℕ

@@ -18,6 +18,7 @@ use Rattle.hwdb_spec.specs.NearPrefixes.{files_patterns, prefix_report}
 use Rattle.hwdb_spec.specs.Lookups.{Found, Told, first_value, lookups}
 use Rattle.hwdb_spec.specs.Sysfs.{Ancestor, At, Device, attribute_text, first_of, has_text}
 use Rattle.hwdb_spec.specs.Texts.{property_text}
+use Rattle.hwdb_spec.specs.Visible.{shown_name}
 use Rattle.hwdb_spec.specs.Tree.{Tree, answers}
 
 -- ---- what is asked, over a database
@@ -103,7 +104,7 @@ unanswered told = if is_none told then codes ": nothing" else []
 
 -- which rules file asks a string, of which of a device and its parents, and whether it gets nothing
 abbrev pub asker_line : Device → Found → List ℕ
-asker_line d f = codes "  " ++ (f.rule ++ (codes ", of " ++ (path_at d f.parent ++ line_of (unanswered f.told))))
+asker_line d f = codes "  " ++ (f.rule ++ (codes ", of " ++ (shown_name (path_at d f.parent) ++ line_of (unanswered f.told))))
 
 -- a string, who asks it, and what it gets, as `explain` prints it; and an empty line
 abbrev pub found_text : Device → Found → List ℕ
@@ -307,7 +308,7 @@ title_of chain =
 -- the kernel's name of a device, and how it is called
 abbrev pub row_of : List Ancestor → List ℕ
 row_of [] = []
-row_of (own ∷ parents) = line_of (own.name ++ title_of (own ∷ parents))
+row_of (own ∷ parents) = line_of (shown_name own.name ++ title_of (own ∷ parents))
 
 -- the line of a device in the list of all; empty if nothing is asked for it
 abbrev pub device_row : Device → List ℕ

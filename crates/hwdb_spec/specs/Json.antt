@@ -1,16 +1,18 @@
 -- The lines of JSON that `--json` prints: one object a line. Their form is our choice. What is JSON, and how it is written, is
 -- defined by the kit's `json` (RFC 8259).
-use Rattle.std.specs.Prelude.{codes, List, ℕ, Bool, not, ◌++◌, ◌∷◌, [], flat_map, filter, map, None, Option, Some, if◌then◌else◌}
+use Rattle.std.specs.Prelude.{codes, List, ℕ, Bool, true, false, not, ◌++◌, ◌∷◌, ◌==◌, ◌&&◌, [], flat_map, filter, get_or, map, None, Option, Some, if◌then◌else◌}
 use Rattle.std.specs.Fmt.{decimal}
 use Rattle.std.specs.Option.{option_map_or}
 use Rattle.std.specs.Str.{is_utf8}
 use Rattle.std.specs.Str.Parse.{digits_value}
+use Rattle.hex.specs.Hex.{encode_lower}
 use Rattle.json.specs.Json.{Json, string, number, array, object, Items, no_items, item, Members, no_members, member}
 use Rattle.json.specs.Find.{get}
 use Rattle.json.specs.Print.{print}
 use Rattle.json.specs.Tree.{json_tokens}
 use Rattle.hwdb_spec.specs.Assignment.{Position, Assignment}
 use Rattle.hwdb_spec.specs.Lines.{byte}
+use Rattle.hwdb_spec.specs.Patterns.{in_span}
 use Rattle.hwdb_spec.specs.Folders.{Source, all_assignments}
 use Rattle.hwdb_spec.specs.Tree.{Tree, answers, answers_after}
 use Rattle.hwdb_spec.specs.Answers.{effective_of, last_assignments}
@@ -45,9 +47,33 @@ number_json n = number (decimal n)
 abbrev pub text_json : List ℕ → Json
 text_json text = if is_utf8 text then string text else array_of (map number_json text)
 
+-- a character below U+0100, as JSON escapes it: `\u00` and two hexadecimal digits
+abbrev pub escaped_code : ℕ → List ℕ
+escaped_code c = codes "\\u00" ++ encode_lower (c ∷ [])
+
+-- whether a character of U+0080 to U+009F begins with this byte, after which come others: UTF-8 has them as C2 and a byte from 80 to 9F
+abbrev pub begins_control : ℕ → List ℕ → Bool
+begins_control b more = (b == 0xc2) && in_span (get_or more 0 0) (0x80, 0x9f)
+
+-- a byte of JSON's text: nothing if the escape of its character follows, DEL (7F) as its escape, any other as it is
+abbrev pub escaped_byte : (follows : Bool) → ℕ → List ℕ
+escaped_byte true b = []
+escaped_byte false b = if b == 0x7f then escaped_code b else b ∷ []
+
+-- JSON's text with DEL and U+0080 to U+009F escaped, which RFC 8259 leaves as they are and a terminal acts on (our choice). A
+-- byte that is `second` is the second one of such a character.
+unfoldable pub escaped_after : (second : Bool) → List ℕ → List ℕ
+escaped_after second [] = []
+escaped_after true (b ∷ more) = escaped_code b ++ escaped_after false more
+escaped_after false (b ∷ more) = let follows = begins_control b more in escaped_byte follows b ++ escaped_after follows more
+
+-- a text of JSON, as it is printed
+abbrev pub escaped : List ℕ → List ℕ
+escaped text = escaped_after false text
+
 -- a value as text, without spaces
 abbrev pub json_text : Json → List ℕ
-json_text value = print (json_tokens value)
+json_text value = escaped (print (json_tokens value))
 
 -- a value, and a newline
 abbrev pub json_line : Json → List ℕ

@@ -26,8 +26,10 @@ pub mod Kinds
 pub mod Warnings
 pub mod Findings
 pub mod Checks
+pub mod Once
 pub mod Progress
 pub mod ManyDevices
+pub mod Reloads
 pub mod ChangeCounts
 pub mod Comparisons
 pub mod LoneFile
@@ -76,6 +78,7 @@ pub mod DumpErrors
 pub mod CheckErrors
 pub mod AnsweredLines
 pub mod Refusals
+pub mod Told
 pub mod Selected
 pub mod Reading
 pub mod LeftOutTold

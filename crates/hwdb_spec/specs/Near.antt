@@ -104,22 +104,24 @@ rated device at =
     let ts = tokens (folded at.pattern) in
     record { missing = missing ts (folded device); front = front_literals ts (folded device); at = at }
 
--- the nearer first: by the literals that are missing, then those of the longest front, then file, line, pattern and path
+-- the order of places: by file, line, pattern and path
+abbrev pub place_cmp : PatternAt → PatternAt → Ordering
+place_cmp a b =
+    ordering_then (nat_cmp a.file b.file)
+    (ordering_then (nat_cmp a.line b.line) (ordering_then (text_cmp a.pattern b.pattern) (text_cmp a.path b.path)))
+
+-- the nearer first: by the literals that are missing, then those of the longest front, then the place
 abbrev pub near_cmp : Rated → Rated → Ordering
 near_cmp a b =
-    ordering_then (nat_cmp a.missing b.missing)
-    (ordering_then (nat_cmp b.front a.front)
-    (ordering_then (nat_cmp a.at.file b.at.file)
-    (ordering_then (nat_cmp a.at.line b.at.line)
-    (ordering_then (text_cmp a.at.pattern b.at.pattern) (text_cmp a.at.path b.at.path)))))
+    ordering_then (nat_cmp a.missing b.missing) (ordering_then (nat_cmp b.front a.front) (place_cmp a.at b.at))
 
 -- whether a pattern matches the device
 abbrev pub hits : List ℕ → PatternAt → Bool
 hits device at = matches (tokens at.pattern) device
 
--- those of some patterns that match the device
+-- those of some patterns that match the device, by file and line, each pattern and place once
 abbrev pub matching : List ℕ → List PatternAt → List PatternAt
-matching device all = filter (hits device) all
+matching device all = in_order place_cmp (filter (hits device) all)
 
 -- the nearest of some patterns that don't match the device, each pattern and place once; so many at most
 abbrev pub nearest : List ℕ → (limit : ℕ) → List PatternAt → List Rated

@@ -7,6 +7,7 @@ use Rattle.hwdb_spec.specs.Store.{Contents, path_in}
 use Rattle.hwdb_spec.specs.System.{bytes_at}
 use Rattle.hwdb_spec.specs.Texts.{max_file}
 use Rattle.hwdb_spec.specs.Verdicts.{fault_line}
+use Rattle.hwdb_spec.specs.Visible.{shown_name}
 use Rattle.hwdb_spec.specs.Outputs.{AppendsPrefix}
 use Rattle.hwdb_spec.specs.Errors.{error_text}
 use Rattle.hwdb_spec.specs.declared.causes.Cause.{Cause}
@@ -15,16 +16,16 @@ use Rattle.hwdb_spec.specs.declared.errors.ToolError.{ToolError}
 use Rattle.hwdb_spec.specs.declared.refusals.Refusal.{Refusal}
 use Rattle.hwdb_spec.specs.declared.refusals.Refusal.TheVariants.{Plain, At, NoDatabase, InWords}
 
--- a path, and after it the words of the cause, if one is known
+-- a path, as names are shown, and after it the words of the cause, if one is known
 abbrev pub file_text : (path : List ℕ) → Option Cause → (words : List ℕ) → List ℕ
-file_text path None words = path
-file_text path (Some cause) words = path ++ (codes ": " ++ words)
+file_text path None words = shown_name path
+file_text path (Some cause) words = shown_name path ++ (codes ": " ++ words)
 
 -- what is printed of an error over a path, if the cause has these words
 abbrev pub path_text : ToolError → (path : List ℕ) → Option Cause → (words : List ℕ) → List ℕ
 path_text Read path cause words = codes "cannot read " ++ file_text path cause words
 path_text Write path cause words = codes "cannot write " ++ file_text path cause words
-path_text TooLong path cause words = path ++ codes " is longer than 268435456 bytes"
+path_text TooLong path cause words = shown_name path ++ codes " is longer than 268435456 bytes"
 path_text (BadDatabase fault) path cause words = fault_line path fault
 path_text error path cause words = error_text error
 

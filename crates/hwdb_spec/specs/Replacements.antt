@@ -7,6 +7,7 @@ use Rattle.hwdb_spec.specs.Assignment.{Assignment}
 use Rattle.hwdb_spec.specs.Explanations.{origin_line}
 use Rattle.hwdb_spec.specs.Folders.{Source, all_assignments, chosen_of}
 use Rattle.hwdb_spec.specs.Json.{answer_members, json_line, object_of, text_json}
+use Rattle.hwdb_spec.specs.Once.{once}
 use Rattle.hwdb_spec.specs.Status.{masked_paths, said_line}
 use Rattle.hwdb_spec.specs.Texts.{property_text}
 
@@ -30,9 +31,9 @@ unfoldable pub replacements : List Assignment → List Replacement
 replacements [] = []
 replacements (a ∷ more) = replaced_by a (last_like a more) ++ replacements more
 
--- those of the files' assignments whose pattern matches the device, by priority, line and match line
+-- those of the files' assignments whose pattern matches the device, by priority, line and match line, each once
 abbrev pub replacements_for : (device : List ℕ) (etc usr : List Source) → List Replacement
-replacements_for device etc usr = replacements (filter (is_wanted device) (all_assignments etc usr))
+replacements_for device etc usr = replacements (once (filter (is_wanted device) (all_assignments etc usr)))
 
 -- the paths of the masked files
 abbrev pub masked_files : (etc usr : List Source) → List (List ℕ)

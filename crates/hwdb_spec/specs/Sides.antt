@@ -20,6 +20,7 @@ use Rattle.hwdb_spec.specs.Tree.{map_of_files}
 use Rattle.hwdb_spec.specs.Undone.{IsGivenUnread}
 use Rattle.hwdb_spec.specs.Written.{IsWritten}
 use Rattle.hwdb_spec.specs.declared.refusals.Refusal.{Refusal}
+use Rattle.hwdb_spec.specs.Visible.{shown_name}
 
 -- ---- which of the four it is
 
@@ -98,7 +99,7 @@ pub record IsSide (path : List ℕ) (contents : Contents) (bytes : List ℕ) : T
 -- the words of a folder that is no side: it has no text files, where they were looked for, and what may be named in place of it
 abbrev pub no_texts_text : (path : List ℕ) → List ℕ
 no_texts_text path =
-    (codes "cannot read " ++ path)
+    (codes "cannot read " ++ shown_name path)
     ++ codes ": no text file is in it, nor in its etc/udev/hwdb.d or usr/lib/udev/hwdb.d: name a folder that has one, a text file or a database"
 
 -- What an error says of a folder that is listed, and of a file that is read, is a parameter.

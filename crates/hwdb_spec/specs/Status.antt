@@ -19,6 +19,7 @@ use Rattle.hwdb_spec.specs.Summary.{Summary, count_line, summary_of}
 use Rattle.hwdb_spec.specs.System.{AreFilesIn, asked_database, bytes_at, etc_files, usr_files}
 use Rattle.hwdb_spec.specs.Texts.{max_file}
 use Rattle.hwdb_spec.specs.Tree.{Map, Tree, map_of, map_of_files}
+use Rattle.hwdb_spec.specs.Visible.{shown_name}
 use Rattle.hwdb_spec.specs.Written.{IsWritten}
 
 -- ---- how a database is, beside what the text files make
@@ -138,9 +139,13 @@ state_note true state = codes " (there are no text files)"
 state_note false Alike = codes " (written by another tool)"
 state_note false state = []
 
--- a line: a name, `: ` and a text
+-- a line of words: a name, and what is said of it
+abbrev pub words_line : (name words : List ℕ) → List ℕ
+words_line name words = name ++ (codes ": " ++ (words ++ byte "\n" ∷ []))
+
+-- a line: a name, `: ` and a text, which may be a path, as names are shown
 abbrev pub said_line : (name text : List ℕ) → List ℕ
-said_line name text = name ++ (codes ": " ++ (text ++ byte "\n" ∷ []))
+said_line name text = words_line name (shown_name text)
 
 -- the same of a text that there may be
 abbrev pub said_if : (name : List ℕ) → Option (List ℕ) → List ℕ
@@ -150,7 +155,7 @@ said_if name (Some text) = said_line name text
 -- the line of an amount that there may be
 abbrev pub amount_line : Option Amount → List ℕ
 amount_line None = []
-amount_line (Some amount) = said_line (codes "holds") (amount_words amount)
+amount_line (Some amount) = words_line (codes "holds") (amount_words amount)
 
 -- the line of the first change, if there is one
 abbrev pub first_line : (first : List ℕ) → List ℕ
@@ -175,7 +180,7 @@ report_text r =
     ++ (amount_line r.hidden
     ++ (flat_map (said_line (codes "masked")) r.masked
     ++ (flat_map (said_line (codes "ignored")) r.ignored
-    ++ (said_line (codes "state") (state_word r.bare r.state ++ state_note r.bare r.state) ++ (changes_lines r.state ++ remedy_line r)))))))
+    ++ (words_line (codes "state") (state_word r.bare r.state ++ state_note r.bare r.state) ++ (changes_lines r.state ++ remedy_line r)))))))
 
 -- a text that there may be
 abbrev pub maybe_json : Option (List ℕ) → Json

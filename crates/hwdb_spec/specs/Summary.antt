@@ -1,5 +1,5 @@
 -- What `verify` says of a database: how much is in it. The command and its form are our choice.
-use Rattle.std.specs.Prelude.{codes, List, ℕ, [], ◌∷◌, ◌++◌, ◌+◌, map, length, max}
+use Rattle.std.specs.Prelude.{codes, if◌then◌else◌, List, ℕ, [], ◌∷◌, ◌++◌, ◌+◌, map, length, max, nat_lt}
 use Rattle.std.specs.Fmt.{decimal}
 use Rattle.hwdb_spec.specs.Assignment.{ascending}
 use Rattle.hwdb_spec.specs.Lines.{byte}
@@ -58,11 +58,24 @@ summary_of bytes t = record {
 abbrev pub count_line : (name : List ℕ) → ℕ → List ℕ
 count_line name n = name ++ (codes ": " ++ (decimal n ++ byte "\n" ∷ []))
 
--- what `verify` prints of a database: a line for each number of its summary
-abbrev pub summary_text : Summary → List ℕ
-summary_text s =
+-- the lines of a summary: one for each number
+abbrev pub counts_text : Summary → List ℕ
+counts_text s =
     count_line (codes "files") s.files
     ++ (count_line (codes "patterns") s.patterns
     ++ (count_line (codes "keys") s.keys
     ++ (count_line (codes "assignments") s.assignments
     ++ (count_line (codes "nodes") s.nodes ++ (count_line (codes "depth") s.depth ++ count_line (codes "bytes") s.bytes)))))
+
+-- How many nodes one below the other udev of systemd 262 enters, the root counted. Of a deeper database it answers nothing.
+abbrev pub deepest_for_udev : ℕ
+deepest_for_udev = 2048
+
+-- what is said of a database by its depth: if it is too deep for udev, a line
+abbrev pub depth_warning : (depth : ℕ) → List ℕ
+depth_warning depth =
+    if nat_lt deepest_for_udev depth then codes "warning: udev of systemd 262 refuses a depth of more than 2048\n" else []
+
+-- what `verify` prints of a database: its summary, and a warning if udev can't take it
+abbrev pub summary_text : Summary → List ℕ
+summary_text s = counts_text s ++ depth_warning s.depth

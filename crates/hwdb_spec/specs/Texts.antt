@@ -11,6 +11,7 @@ use Rattle.hwdb_spec.specs.Records.{fault_text}
 use Rattle.hwdb_spec.specs.Folders.{FaultIn, Source, all_assignments}
 use Rattle.hwdb_spec.specs.Tree.{Tree, answers, answers_after}
 use Rattle.hwdb_spec.specs.Answers.{effective_of, last_assignments}
+use Rattle.hwdb_spec.specs.Visible.{shown_name}
 
 -- two decimal numbers and two hexadecimal texts, with colons between
 abbrev pub position_text : ℕ → ℕ → List ℕ → List ℕ → List ℕ
@@ -60,9 +61,9 @@ abbrev pub within_limit : Option ℕ → List Assignment → List Assignment
 within_limit None hits = hits
 within_limit (Some n) hits = take n hits
 
--- where a fault is: the path, `:`, the line's number
+-- where a fault is: the path, as names are shown, `:`, the line's number
 abbrev pub place_text : List ℕ → ℕ → List ℕ
-place_text path line = path ++ byte ":" ∷ decimal line
+place_text path line = shown_name path ++ byte ":" ∷ decimal line
 
 -- the line of a fault: where it is, `: `, what is wrong
 abbrev pub fault_line : List ℕ → Fault → List ℕ

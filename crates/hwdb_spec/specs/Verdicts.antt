@@ -5,6 +5,7 @@ use Rattle.std.specs.List.{ends_with}
 use Rattle.hwdb_spec.specs.declared.DbFault.{DbFault}
 use Rattle.hwdb_spec.specs.declared.DbFault.TheVariants.{Short, Signature, RecordSizes, Lengths, Strings, Place, Depth, ChildOrder, StringOffset, KeyOrder, Priority}
 use Rattle.hwdb_spec.specs.Texts.{at_offset, db_fault_name, db_fault_offset}
+use Rattle.hwdb_spec.specs.Visible.{shown_name}
 
 -- what is wrong with bytes that have a fault of a database
 abbrev pub db_fault_words : DbFault → List ℕ
@@ -36,12 +37,12 @@ remedy path = if ends_with nat_eq path (codes ".hwdb") then codes "'hwdb check' 
 
 -- a fault of the database at a path
 abbrev pub fault_text : (path : List ℕ) → DbFault → List ℕ
-fault_text path fault = codes "bad database: " ++ (at_offset (db_fault_name fault) (db_fault_offset fault) ++ (codes ": " ++ path))
+fault_text path fault = codes "bad database: " ++ (at_offset (db_fault_name fault) (db_fault_offset fault) ++ (codes ": " ++ shown_name path))
 
 -- the same in one line, with what to do
 abbrev pub fault_line : (path : List ℕ) → DbFault → List ℕ
 fault_line path fault =
-    codes "bad database: " ++ (at_offset (db_fault_name fault) (db_fault_offset fault) ++ (codes ": " ++ (path ++ (codes ": " ++ remedy path))))
+    codes "bad database: " ++ (at_offset (db_fault_name fault) (db_fault_offset fault) ++ (codes ": " ++ (shown_name path ++ (codes ": " ++ remedy path))))
 
 -- three lines on a fault: what is wrong, where it may come from, and what to do; the last one isn't ended
 abbrev pub explanation_text : (path : List ℕ) → DbFault → List ℕ

@@ -10,7 +10,7 @@ use Rattle.hwdb_spec.specs.Checks.{count_text}
 use Rattle.hwdb_spec.specs.Explanations.{explained}
 use Rattle.hwdb_spec.specs.Findings.{told_fault}
 use Rattle.hwdb_spec.specs.Folders.{Source, same}
-use Rattle.hwdb_spec.specs.Json.{json_line, number_json, object_of, text_json}
+use Rattle.hwdb_spec.specs.Json.{array_of, json_line, number_json, object_of, text_json}
 use Rattle.hwdb_spec.specs.Lines.{Line, begins_with, byte, clean, has_equals, has_key, is_blank, is_empty, is_none, is_property, key, lines, property, value}
 use Rattle.hwdb_spec.specs.Records.{faults}
 use Rattle.hwdb_spec.specs.Reports.{text_of_line}
@@ -152,20 +152,37 @@ wanted_members path device l =
     (codes "path", text_json path) ∷ (codes "line", number_json l.number) ∷ (codes "device", text_json device)
     ∷ (codes "wanted", text_json (wanted_text l)) ∷ []
 
+-- the first of what a device has instead, if it has something
+abbrev pub first_given : List GivenValue → Option GivenValue
+first_given [] = None
+first_given (g ∷ more) = Some g
+
+-- a property that a device has, as an object
+abbrev pub given_json : GivenValue → Json
+given_json g = object_of (given_members (Some g))
+
+-- what a device has besides what the lines of its record name, as a member: an array with an object for each property
+abbrev pub others_member : List GivenValue → List (List ℕ × Json)
+others_member others = (codes "others", array_of (map given_json others)) ∷ []
+
+-- what a device has instead, as members of an object: of `=` all that it has besides, of another line what it gives that line's key
+abbrev pub instead_members : Line → List GivenValue → List (List ℕ × Json)
+instead_members l instead = if wants_no_others l then others_member instead else given_members (first_given instead)
+
 -- a line that doesn't hold, as an object
-abbrev pub failure_json : (path device : List ℕ) → Line → Option GivenValue → Json
-failure_json path device l given = object_of (wanted_members path device l ++ given_members given)
+abbrev pub failure_json : (path device : List ℕ) → Line → List GivenValue → Json
+failure_json path device l instead = object_of (wanted_members path device l ++ instead_members l instead)
 
--- what is printed of a line that doesn't hold, as text or JSON
-abbrev pub failure : (json : Bool) → (path device : List ℕ) → Line → Option GivenValue → List ℕ
-failure true path device l given = json_line (failure_json path device l given)
-failure false path device l given = failure_text path device l given
+-- what is printed of a line that doesn't hold, as text: three lines for each property that is given instead, or once if there is none
+abbrev pub failure_texts : (path device : List ℕ) → Line → List GivenValue → List ℕ
+failure_texts path device l instead =
+    if is_none instead then failure_text path device l None
+    else flat_map (λ g. failure_text path device l (Some g)) instead
 
--- the same for each property that is given instead, or once if there is none
+-- the same, as text or as one line of JSON
 abbrev pub failures : (json : Bool) → (path device : List ℕ) → Line → List GivenValue → List ℕ
-failures json path device l instead =
-    if is_none instead then failure json path device l None
-    else flat_map (λ g. failure json path device l (Some g)) instead
+failures true path device l instead = json_line (failure_json path device l instead)
+failures false path device l instead = failure_texts path device l instead
 
 -- the properties that a line is about
 abbrev pub about : (all : List Line) (found : List GivenValue) → Line → List GivenValue

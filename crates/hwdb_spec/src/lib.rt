@@ -33,8 +33,10 @@
 //! | `Warnings` | the warnings of a file, and their reports |
 //! | `Findings` | what `check` prints of a file: reports, or lines of JSON |
 //! | `Checks` | what `check` prints, how much it finds, and its status |
+//! | `Once` | some assignments, each once |
 //! | `Progress` | what `update` says of its work |
 //! | `ManyDevices` | what `explain` prints of several devices, and a line of devices that is too long |
+//! | `Reloads` | what `query --reload -` says of a database that came in another one's place |
 //! | `ChangeCounts` | how many changes there are, by file and by key, and what `diff --stat` prints of that |
 //! | `Comparisons` | what `diff` compares, and what it prints, as text or JSON |
 //! | `LoneFile` | one text file alone, as `ask` reads it and `dump` writes it |
@@ -83,6 +85,7 @@
 //! | `CheckErrors` | the same of checking text files |
 //! | `AnsweredLines` | which lines of standard input are answered, and what was printed before an error |
 //! | `Refusals` | the errors that end the program, and the line of each |
+//! | `Told` | what a file system tells of what it is asked, and why a run ends with an error, as data |
 //! | `Selected` | which text files of two folders are read, and what each holds |
 //! | `Reading` | the errors of reading them |
 //! | `LeftOutTold` | what is said of those that are left out |
@@ -127,6 +130,7 @@ mod errors;
 mod form;
 mod job;
 mod refusals;
+mod unread;
 mod vocabulary;
 
 pub use attributes::ATTRIBUTES;
@@ -141,6 +145,7 @@ pub use form::Form;
 pub use job::{Job, Task, WordsFault};
 pub use refusals::Refusal;
 use std::{error, fmt};
+pub use unread::Unread;
 pub use vocabulary::{COMPANIONS, KEY_HINT, KEY_NAMES, Misuse, PROPERTIES, ValueForm};
 
 /// A named class of bytes, as POSIX has it in the C locale.

@@ -9,6 +9,7 @@ use Rattle.clap.specs.declared.error.kind.ErrorKind.TheVariants.{DisplayHelp, Di
 use Rattle.clap.specs.Kinds.{IsAmong}
 use Rattle.clap.specs.Walk.{Row, Text, all_of, first_of, one_of}
 use Rattle.clap.specs.Simple.{matches_of, subcommand_of}
+use Rattle.hwdb_spec.specs.Once.{once}
 use Rattle.hwdb_spec.specs.Jobs.{IsJob, IsJobOf, IsLimit, IsTask}
 use Rattle.hwdb_spec.specs.CommandLine.{hwdb_app}
 use Rattle.hwdb_spec.specs.declared.job.Job.{Job}
@@ -343,7 +344,7 @@ one_made one_reading form root files etc usr etc2 usr2 made made2 one two =
 -- what is said besides of one reading
 one_besides : (task : Task) (etc usr etc2 usr2 : List Source) → IsOneReading etc usr etc2 usr2 → text_besides task etc usr ≡ text_besides task etc2 usr2
 one_besides (Explain device json) etc usr etc2 usr2 one =
-    ap (λ (all : List Assignment). said_besides (is_dash (string_bytes device)) (replaced_form json (string_bytes device) (replacements (filter (is_wanted (string_bytes device)) all)) ++ masked_form json (masked_files etc usr)))
+    ap (λ (all : List Assignment). said_besides (is_dash (string_bytes device)) (replaced_form json (string_bytes device) (replacements (once (filter (is_wanted (string_bytes device)) all))) ++ masked_form json (masked_files etc usr)))
     (one_assignments etc usr etc2 usr2 one)
     ∙ ap (λ (paths : List (List ℕ)). said_besides (is_dash (string_bytes device)) (replaced_form json (string_bytes device) (replacements_for (string_bytes device) etc2 usr2) ++ masked_form json paths))
     (all_masked etc usr etc2 usr2 one)

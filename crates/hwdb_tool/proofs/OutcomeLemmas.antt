@@ -5,11 +5,13 @@ use Rattle.std.specs.Prelude.{if◌then◌else◌, codes}
 use Rattle.std.specs.FinMap as finite
 use Rattle.std.specs.Io.KnownBytes.{Appends}
 use Rattle.std.specs.Option.{option_map_or}
+use Rattle.hwdb_spec.specs.Visible.{shown_name}
 use Rattle.hwdb_spec.specs.Assignment.{Assignment}
 use Rattle.hwdb_spec.specs.Folders.{Source, Choice, FaultIn, all_assignments, chosen_of, contents, faults_of_files, file_assignments, file_faults, path_of}
 use Rattle.hwdb_spec.specs.Format.{IsDatabase}
 use Rattle.hwdb_spec.specs.Lines.{byte}
-use Rattle.hwdb_spec.specs.Progress.{chosen_line, kept_line, listing, progress_text, update_text, within_64_bits}
+use Rattle.hwdb_spec.specs.Progress.{chosen_line, kept_line, listing, progress_text, too_long_lines, update_text, within_64_bits}
+use Rattle.hwdb_spec.specs.Once.{once}
 use Rattle.hwdb_spec.specs.Store.{Contents, InPlace, IsKept, IsPartPath, Outcomes, Same, database_file, database_name, path_in}
 use Rattle.hwdb_spec.specs.System.{asked_database}
 use Rattle.hwdb_spec.specs.Tree.{Tree, map_of_files, surviving}
@@ -73,18 +75,20 @@ module _ (etc usr etc2 usr2 : List Source) (one : IsOneReading etc usr etc2 usr2
 
   one_line : (c : Choice) → chosen_line (names_in usr) c ≡ chosen_line (names_in usr2) c
   unfolding names_in
-  one_line c = ap (λ (b : Bool). path_of c ++ ((if (if c.from_etc then b else false) then codes " masks /usr/lib/udev/hwdb.d/" ++ c.name else []) ++ byte "\n" ∷ [])) (one.named c.name)
+  one_line c = ap (λ (b : Bool). shown_name (path_of c) ++ ((if (if c.from_etc then b else false) then codes " masks /usr/lib/udev/hwdb.d/" ++ shown_name c.name else []) ++ byte "\n" ∷ [])) (one.named c.name)
 
-  abbrev progress : (Choice → List ℕ) → List Choice → List Assignment → List ℕ
-  progress line chosen all = flat_map line chosen ++ kept_line (length chosen) (within_64_bits (length all)) (finite.len (surviving all))
+  abbrev progress : (Choice → List ℕ) → List Choice → List Assignment → (Choice → List ℕ) → List ℕ
+  progress line chosen all read =
+      (flat_map line chosen ++ kept_line (length chosen) (within_64_bits (length (once all))) (finite.len (surviving all))) ++ flat_map (too_long_lines read) chosen
 
   one_progress : (verbose : Bool) → progress_text (listing verbose usr) etc usr ≡ progress_text (listing verbose usr2) etc2 usr2
   unfolding names_in
   one_progress false = refl
   one_progress true =
-      ap (λ (line : Choice → List ℕ). progress line (chosen_of etc usr) (all_assignments etc usr)) (fun_ext one_line)
-      ∙ ap (λ (cs : List Choice). progress (chosen_line (names_in usr2)) cs (all_assignments etc usr)) one.chosen
-      ∙ ap (λ (all : List Assignment). progress (chosen_line (names_in usr2)) (chosen_of etc2 usr2) all) one_assignments
+      ap (λ (line : Choice → List ℕ). progress line (chosen_of etc usr) (all_assignments etc usr) (contents etc usr)) (fun_ext one_line)
+      ∙ ap (λ (cs : List Choice). progress (chosen_line (names_in usr2)) cs (all_assignments etc usr) (contents etc usr)) one.chosen
+      ∙ ap (λ (all : List Assignment). progress (chosen_line (names_in usr2)) (chosen_of etc2 usr2) all (contents etc usr)) one_assignments
+      ∙ ap (λ (read : Choice → List ℕ). progress (chosen_line (names_in usr2)) (chosen_of etc2 usr2) (all_assignments etc2 usr2) read) held
 
   pub one_said : (verbose : Bool) → update_text (listing verbose usr) etc usr ≡ update_text (listing verbose usr2) etc2 usr2
   one_said verbose = ap (λ (t : List ℕ). t ++ faults_text (faults_of_files etc usr)) (one_progress verbose)

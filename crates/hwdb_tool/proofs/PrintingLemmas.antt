@@ -18,7 +18,7 @@ use Rattle.hwdb_spec.specs.Refusals.{HasReason}
 use Rattle.hwdb_spec.specs.declared.refusals.Refusal.{Refusal}
 use Rattle.hwdb_spec.specs.declared.refusals.Refusal.TheVariants.{At, InWords, NoDatabase, Plain}
 use Rattle.hwdb_spec.specs.Program.{IsTaskDone}
-use Rattle.hwdb_spec.specs.Queries.{AreDone, AreDoneFrom}
+use Rattle.hwdb_spec.specs.Queries.{AreDone, AreDoneFrom, AreUnanswered, AreUnansweredFrom, IsStreamRefused}
 use Rattle.hwdb_spec.specs.Undone.{IsUnprinted}
 use Rattle.hwdb_tool.specs.Views.{IsNotPrinted, IsPrintedWith, texts_in}
 use Rattle.hwdb_tool.specs.declared.answer.Answer.{Answer}
@@ -54,6 +54,20 @@ pub streamed_done : (root : List ℕ) (form : Form) (devices : List (List ℕ)) 
 streamed_done root form devices input contents result err before now is zero all took =
     subst (λ (b : Bool). IfOk result (λ s. AreDoneFrom b root form devices input contents s err err before now)) (sym is)
     (streamed_at root form devices input contents result err before now zero all took)
+
+refused_at : (root : List ℕ) (form : Form) (devices : List (List ℕ)) (input : Option (List ℕ)) (contents : Contents) (result : Result ℕ Refusal) (err before now : Told)
+    → IfErr result (λ r. IsStreamRefused root form input contents r before now)
+    → IfErr result (λ r. AreUnansweredFrom true root form devices input contents r err err before now)
+refused_at root form devices input contents (Err e) err before now refused = (refused, refl)
+refused_at root form devices input contents (Ok s) err before now refused = tt
+
+-- the devices of standard input can't be answered
+pub streamed_refused : (root : List ℕ) (form : Form) (devices : List (List ℕ)) (input : Option (List ℕ)) (contents : Contents) (result : Result ℕ Refusal) (err before now : Told) → is_input devices ≡ true
+    → IfErr result (λ r. IsStreamRefused root form input contents r before now)
+    → IfErr result (λ r. AreUnanswered root form devices input contents r err err before now)
+streamed_refused root form devices input contents result err before now is refused =
+    subst (λ (b : Bool). IfErr result (λ r. AreUnansweredFrom b root form devices input contents r err err before now)) (sym is)
+    (refused_at root form devices input contents result err before now refused)
 
 -- the hits of a device
 pub listed_done : (after : Option (String Global)) (limit : Option ℕ) (device : String Global) (json : Bool) (root : List ℕ) (usr strict : Bool) (files : Files) (input err before now : Told) (devices : Sight) (result : Result ℕ Refusal)

@@ -1,10 +1,7 @@
 -- What the steps of a task hold.
-use Rattle.std.specs.Prelude.{◌≡◌, ℕ, Bool, true, false, List, Option, Some, length, map, string_bytes}
+use Rattle.std.specs.Prelude.{◌≡◌, ℕ, Bool, true, false, List, Option, Some, map, string_bytes}
 use Rattle.hwdb_spec.specs.Given.{is_dash}
-use Rattle.hwdb_spec.specs.Progress.{within_64_bits}
-use Rattle.hwdb_spec.specs.Written.{IsCompiled}
-use Rattle.hwdb_compile.specs.declared.sources.Compiled.{Compiled}
-use Rattle.hwdb_spec.specs.Folders.{Source, all_assignments}
+use Rattle.hwdb_spec.specs.Folders.{Source}
 use Rattle.hwdb_spec.specs.Explanations.{explain_text}
 use Rattle.hwdb_spec.specs.Json.{explain_json}
 use Rattle.hwdb_spec.specs.Store.{Contents}
@@ -21,11 +18,6 @@ use Rattle.hwdb_spec.specs.declared.job.Job.{Job}
 use Rattle.hwdb_spec.specs.declared.refusals.Refusal.{Refusal}
 use Rattle.hwdb_fs.specs.declared.folders.Selection.{Selection}
 use Rattle.hwdb_text.specs.declared.choice.ChosenFile.{ChosenFile}
-
--- a database of the files, and how many assignments they have
-pub record IsCompiledOf (etc usr : List Source) (c : Compiled) : Type 0 where
-  pub database : IsCompiled etc usr c.database.items
-  pub given : c.given ≡ within_64_bits (length (all_assignments etc usr))
 
 -- what is read of a path, where standard input has a text
 abbrev pub bytes_if : (dash : Bool) (text : List ℕ) → Contents → (path : List ℕ) → Option (List ℕ)

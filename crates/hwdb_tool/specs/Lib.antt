@@ -5,6 +5,7 @@ pub mod Statuses
 pub mod Emptying
 pub mod SideSteps
 pub mod Colours
+pub mod Reloading
 pub mod Crash
 pub mod Failures
 pub mod OneOutcome

@@ -65,6 +65,7 @@ pub fn explain<D: System, I: Source, O: Sink, E: Sink>(
             system,
             input,
             out,
+            err,
         );
     }
     let answer = explain_given(alloc, root, device.as_bytes(), json, system);

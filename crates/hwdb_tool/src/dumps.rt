@@ -13,6 +13,7 @@ use hwdb_fs::{Refusal, System};
 use hwdb_inspect::DumpError;
 use hwdb_lint::push_shown;
 use hwdb_print::ToolError;
+use hwdb_show::push_name;
 use std::alloc::{AllocError, Global};
 
 /// The database at the path, or if none is given the one that is asked, as a text file. Refuses bytes that are no
@@ -68,7 +69,8 @@ fn refused_pattern(alloc: Global, path: &[u8], pattern: &[u8]) -> Refusal
 fn unsayable(alloc: Global, path: &[u8], pattern: &[u8]) -> Result<Vec<u8>, AllocError>
     ensures { IfOk result (λ text. text.items ≡ unsayable_text path.now pattern.now) }
 {
-    let mut text = Vec::from_slice(alloc, path)?;
+    let mut text = Vec::new(alloc);
+    push_name(&mut text, path)?;
     text.extend_from_slice(b": no text file can say an assignment of the pattern ")?;
     push_shown(&mut text, pattern)?;
     Ok(text)

@@ -1,5 +1,5 @@
 //! What `update --usr --verbose` says before it updates: where /etc's database, which is asked first, hides the new one.
-ghost use Rattle.std.specs.Prelude.{◌≡◌, ◌≤◌, IfOk, IfErr, OnOk, string_bytes};
+ghost use Rattle.std.specs.Prelude.{◌≡◌, ◌≤◌, ◌++◌, IfOk, IfErr, OnOk, string_bytes};
 ghost use Rattle.hwdb_spec.specs.Flushing.{HandsOn};
 ghost use Rattle.hwdb_spec.specs.Runs.{HasTaken, files_by, told_by};
 ghost use Rattle.hwdb_spec.specs.Hiding.{hiding_line, hiding_text};
@@ -10,6 +10,7 @@ ghost use Rattle.hwdb_spec.specs.Done.{OldOrUpdatedLess};
 ghost use Rattle.hwdb_spec.specs.Refusals.{HasReason};
 ghost use Rattle.hwdb_spec.specs.Undone.{IsUntold, IsUnwritable};
 ghost use Rattle.hwdb_spec.specs.Asked.{database_path};
+ghost use Rattle.hwdb_spec.specs.Visible.{shown_name};
 
 use crate::databases::database_folder;
 use crate::printing::say;
@@ -17,6 +18,7 @@ use crate::updates::update;
 use hwdb_fs::{Refusal, System, path_in};
 use hwdb_io::Sink;
 use hwdb_replace::DATABASE;
+use hwdb_show::push_name;
 use std::alloc::{AllocError, Global};
 
 /// The path of the database of a folder below the root.
@@ -27,14 +29,24 @@ pub(crate) fn database_path(alloc: Global, root: &str, usr: bool) -> Result<Stri
     path_in(alloc, folder.as_str(), DATABASE)
 }
 
+/// Adds the path of the database of a folder below the root, as names are shown.
+fn push_path(alloc: Global, line: &mut Vec<u8>, root: &str, usr: bool) -> Result<(), AllocError>
+    ensures { OnOk result
+        (line.new.items ≡ line.old.items ++ shown_name (database_path usr root.now)) }
+{
+    let path = database_path(alloc, root, usr)?;
+    push_name(line, path.as_bytes())?;
+    Ok(())
+}
+
 /// The line of a database of /usr/lib that one of /etc hides.
 fn hiding_line(alloc: Global, root: &str) -> Result<Vec<u8>, AllocError>
     ensures { IfOk result (λ line. line.items ≡ hiding_line root.now) }
 {
-    let usr = database_path(alloc, root, true)?;
-    let mut line = database_path(alloc, root, false)?.into_bytes();
+    let mut line = Vec::new(alloc);
+    push_path(alloc, &mut line, root, false)?;
     line.extend_from_slice(b" hides ")?;
-    line.extend_from_slice(usr.as_bytes())?;
+    push_path(alloc, &mut line, root, true)?;
     line.extend_from_slice(b": it is asked first\n")?;
     Ok(line)
 }

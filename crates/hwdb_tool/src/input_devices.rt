@@ -10,17 +10,18 @@ ghost use Rattle.hwdb_spec.specs.Streams.{texts_of};
 ghost use Rattle.hwdb_spec.specs.Asked.{IsAnswered};
 ghost use Rattle.hwdb_spec.specs.Queries.{IsOfInput, IsStreamRefused};
 ghost use Rattle.hwdb_spec.specs.Reasons.{HasAskedReason};
+ghost use Rattle.hwdb_tool.specs.Reloading.{IsCalm};
 
 use crate::databases::{FoundDatabase, asked};
 use crate::reloading::{Asked, Watch};
 use hwdb_fs::{Refusal, System};
 use hwdb_io::{Cause, Sink, Source};
 use hwdb_print::{Form, ToolError, run_renewed};
-use std::alloc::Global;
+use std::alloc::{AllocError, Global};
 
 /// Prints what the database below the root gives each device that `input` names, one a line. With `reload` a database that is
 /// replaced meanwhile is read anew before the next line is answered.
-pub fn answer_input<D: System, I: Source, O: Sink>(
+pub fn answer_input<D: System, I: Source, O: Sink, E: Sink>(
     alloc: Global,
     root: &str,
     form: Form,
@@ -28,6 +29,7 @@ pub fn answer_input<D: System, I: Source, O: Sink>(
     system: &D,
     input: &mut I,
     out: &mut O,
+    err: &mut E,
 ) -> Result<u8, Refusal>
     ensures small { IfOk result (λ status. status ≡ 0) }
     ensures answered { D.Store.tells → OnOk result (IfSome (I.left input.old) (λ text. TookOne
@@ -44,12 +46,11 @@ pub fn answer_input<D: System, I: Source, O: Sink>(
     ensures unfailed { OnOk result (O.failures out.new ≡ O.failures out.old) }
     ensures hands_on { HandsOn (O.is_flushed out.old) (O.is_flushed out.new)
         (O.failures out.old) (O.failures out.new) }
+    ensures quiet { D.Store.tells → err.new ≡ err.old }
+    ensures err_hands_on { HandsOn (E.is_flushed err.old) (E.is_flushed err.new)
+        (E.failures err.old) (E.failures err.new) }
 {
-    let watch = if reload {
-        Some(Watch::new(alloc, root, system)?)
-    } else {
-        None
-    };
+    let watch = watched(alloc, root, reload, system)?;
     let FoundDatabase { path, bytes } = asked(alloc, root, system)?;
     let mut database = Asked {
         alloc,
@@ -58,10 +59,26 @@ pub fn answer_input<D: System, I: Source, O: Sink>(
         bytes,
         watch,
     };
-    match run_renewed(alloc, &mut database, form, input, out) {
+    match run_renewed(alloc, &mut database, form, input, out, err) {
         Ok(()) => Ok(0),
         Err(error) => Err(refusal_of(alloc, error, path.as_bytes(), input.cause())),
     }
+}
+
+/// What is in the places of the databases, if that is to be watched.
+fn watched<D: System>(
+    alloc: Global,
+    root: &str,
+    reload: bool,
+    system: &D,
+) -> Result<Watch, AllocError>
+    ensures { D.Store.tells → IfOk result IsCalm }
+{
+    if !reload {
+        return Ok(Watch::off(alloc));
+    }
+    let watch = Watch::new(alloc, root, system)?;
+    Ok(watch)
 }
 
 /// What is refused where the devices of standard input can't be answered from the database at the path.

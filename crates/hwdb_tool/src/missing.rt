@@ -10,6 +10,7 @@ ghost use Rattle.hwdb_spec.specs.DeviceErrors.{IsNoDevice, IsNoSysfs, IsWorded};
 
 use hwdb_fs::Refusal;
 use hwdb_io::Cause;
+use hwdb_show::push_name;
 use hwdb_sysfs::{DeviceFiles, Unfound, find_device, last_name, near_name, sysfs_below};
 use std::alloc::{AllocError, Global};
 
@@ -63,7 +64,7 @@ fn no_sysfs_text(alloc: Global, path: &[u8], words: &[u8]) -> Result<Vec<u8>, Al
     ensures { IfOk result (λ text. text.items ≡ spec.no_sysfs_text path.now words.now) }
 {
     let mut text = Vec::from_slice(alloc, b"no sysfs: ")?;
-    text.extend_from_slice(path)?;
+    push_name(&mut text, path)?;
     text.extend_from_slice(b": ")?;
     text.extend_from_slice(words)?;
     text.extend_from_slice(b": mount it, or name another root")?;
@@ -138,7 +139,7 @@ fn unread_text(alloc: Global, path: &[u8], words: &[u8]) -> Result<Vec<u8>, Allo
     ensures { IfOk result (λ text. text.items ≡ spec.unread_text path.now words.now) }
 {
     let mut text = Vec::from_slice(alloc, b"cannot read ")?;
-    text.extend_from_slice(path)?;
+    push_name(&mut text, path)?;
     text.extend_from_slice(b": ")?;
     text.extend_from_slice(words)?;
     Ok(text)
@@ -203,7 +204,7 @@ fn no_device_text(
         ≡ spec.no_device_text nowhere given.now words.now near.now) }
 {
     let mut text = Vec::from_slice(alloc, b"no device: ")?;
-    text.extend_from_slice(given)?;
+    push_name(&mut text, given)?;
     text.extend_from_slice(b": ")?;
     push_cause(&mut text, nowhere, words)?;
     push_hint(&mut text, near)?;
@@ -230,5 +231,5 @@ fn push_hint(text: &mut Vec<u8>, near: &[u8]) -> Result<(), AllocError>
         return text.extend_from_slice(b"'hwdb device' lists all");
     }
     text.extend_from_slice(b"there is ")?;
-    text.extend_from_slice(near)
+    push_name(text, near)
 }

@@ -3,20 +3,23 @@ ghost use Rattle.std.specs.Prelude.{◌≡◌, ◌++◌, ℕ, List, Option, leng
 ghost use Rattle.std.specs.Fmt.{decimal};
 ghost use Rattle.std.specs.FinMap as finite;
 ghost use Rattle.hwdb_spec.specs.Checks.{count_text};
-ghost use Rattle.hwdb_spec.specs.Progress.{chosen_line, kept_line, masks, progress_text};
+ghost use Rattle.hwdb_spec.specs.Folders.{path_of};
+ghost use Rattle.hwdb_spec.specs.Visible.{shown_name};
+ghost use Rattle.hwdb_spec.specs.Progress.{chosen_line, given_count, kept_line, masks, progress_text, too_long_lines};
 ghost use Rattle.hwdb_spec.specs.Tree.{Map};
-ghost use Rattle.hwdb_spec.specs.Written.{IsDatabaseOf};
+ghost use Rattle.hwdb_spec.specs.Written.{IsCompiled, IsDatabaseOf};
 ghost use Rattle.hwdb_text.specs.Views.{choice_of};
 ghost use Rattle.hwdb_compile.specs.Views.{ForFolders};
-ghost use Rattle.hwdb_text.specs.Views.{choice_in};
+ghost use Rattle.hwdb_text.specs.Views.{bytes_in, choice_in};
 ghost use Rattle.hwdb_fs.specs.Internal.{IsNameSet};
-ghost use Rattle.hwdb_tool.specs.Internal.{IsCompiledOf};
 
 use hwdb_compile::Compiled;
 use hwdb_fs::name_set;
 use hwdb_inspect::{assignments, members_are_the_map};
-use hwdb_lint::push_count;
+use hwdb_lint::{push_count, push_too_long};
+use hwdb_near::count_given;
 use hwdb_reader::{check, law_ascending, law_one_tree};
+use hwdb_show::push_name;
 use hwdb_text::{Chosen, ChosenFile};
 use itoa::Buffer;
 use std::alloc::{AllocError, Global};
@@ -30,6 +33,26 @@ pub(crate) fn masks(file: &Chosen, set: &BTreeSet<&str>) -> bool
     file.from_etc && set.contains(file.name.as_str())
 }
 
+/// Adds the path of a chosen file, as names are shown.
+fn push_path(alloc: Global, text: &mut Vec<u8>, file: &Chosen) -> Result<(), AllocError>
+    ensures { OnOk result
+        (text.new.items ≡ text.old.items ++ shown_name (path_of (choice_of file.now))) }
+{
+    let path = file.path(alloc)?;
+    push_name(text, path.as_bytes())?;
+    Ok(())
+}
+
+/// Adds the path of a file of /usr/lib, as names are shown.
+fn push_masked(text: &mut Vec<u8>, name: &[u8]) -> Result<(), AllocError>
+    ensures { OnOk result (text.new.items ≡ text.old.items
+        ++ (codes " masks /usr/lib/udev/hwdb.d/" ++ shown_name name.now)) }
+{
+    text.extend_from_slice(b" masks /usr/lib/udev/hwdb.d/")?;
+    push_name(text, name)?;
+    Ok(())
+}
+
 /// Adds the line of a chosen file: its path, and that of the one which it masks.
 fn push_chosen(
     alloc: Global,
@@ -40,11 +63,9 @@ fn push_chosen(
     ensures { OnOk result ((listed : List (List ℕ)) → IsNameSet listed set.now
         → text.new.items ≡ text.old.items ++ chosen_line listed (choice_of file.now)) }
 {
-    let path = file.path(alloc)?;
-    text.extend_from_slice(path.as_bytes())?;
+    push_path(alloc, text, file)?;
     if masks(file, set) {
-        text.extend_from_slice(b" masks /usr/lib/udev/hwdb.d/")?;
-        text.extend_from_slice(file.name.as_bytes())?;
+        push_masked(text, file.name.as_bytes())?;
     }
     text.push(b'\n')?;
     Ok(())
@@ -118,26 +139,69 @@ fn kept(alloc: Global, database: &[u8]) -> Result<usize, AllocError>
     }
 }
 
-/// A line for each chosen file, and how much they assign.
+/// How many assignments the files have.
+fn given(alloc: Global, files: &[ChosenFile<'_>]) -> Result<usize, AllocError>
+    ensures { IfOk result (λ n. ForFolders files.now (λ etc usr. n ≡ given_count etc usr)) }
+{
+    match count_given(alloc, files) {
+        Ok(given) => Ok(given),
+        // None has too many lines: they were compiled.
+        Err(_) => Err(AllocError),
+    }
+}
+
+/// Adds the match lines of a file that udev can't take.
+fn push_file_too_long(
+    alloc: Global,
+    text: &mut Vec<u8>,
+    file: ChosenFile<'_>,
+) -> Result<(), AllocError>
+    ensures { OnOk result (text.new.items
+        ≡ text.old.items ++ too_long_lines (λ _. file.entry.bytes.now) (choice_in file.entry)) }
+{
+    let path = file.choice.path(alloc)?;
+    push_too_long(text, path.as_bytes(), file.bytes)
+}
+
+/// Adds those of all files.
+fn push_all_too_long(
+    alloc: Global,
+    text: &mut Vec<u8>,
+    files: &[ChosenFile<'_>],
+) -> Result<(), AllocError>
+    ensures { OnOk result (text.new.items ≡ text.old.items
+        ++ flat_map (λ f. too_long_lines (λ _. bytes_in f) (choice_in f)) files.now) }
+{
+    for file in files {
+        push_file_too_long(alloc, text, *file)?;
+    }
+    Ok(())
+}
+
+/// A line for each chosen file, how much they assign, and the match lines that udev can't take.
 fn full_progress(
     alloc: Global,
     files: &[ChosenFile<'_>],
     listed: &[String],
-    compiled: &Compiled,
+    database: &[u8],
 ) -> Result<Vec<u8>, AllocError>
-    ensures { IfOk result (λ text. (m : Map) → IsDatabaseOf m compiled.now.database.items
-        → text.items
-        ≡ flat_map (chosen_line (map string_bytes listed.now)) (map choice_in files.now)
-        ++ kept_line (length files.now) compiled.now.given (finite.len m)) }
+    ensures { IfOk result (λ text. ForFolders files.now (λ etc usr. (m : Map)
+        → IsDatabaseOf m database.now → text.items
+        ≡ (flat_map (chosen_line (map string_bytes listed.now)) (map choice_in files.now)
+        ++ kept_line (length files.now) (given_count etc usr) (finite.len m))
+        ++ flat_map (λ f. too_long_lines (λ _. bytes_in f) (choice_in f)) files.now)) }
 {
     let mut text = chosen_lines(alloc, files, listed)?;
-    let kept = kept(alloc, &compiled.database)?;
-    push_kept_line(&mut text, files.len(), compiled.given, kept)?;
+    let given = given(alloc, files)?;
+    let kept = kept(alloc, database)?;
+    push_kept_line(&mut text, files.len(), given, kept)?;
+    push_all_too_long(alloc, &mut text, files)?;
     Ok(text)
 }
 
 /// What is said of chosen files before their fault lines. If the names of /usr/lib's files are given, it is a line for
-/// each chosen file, and how much they assign. Else it is nothing. Counting takes a walk over the database.
+/// each chosen file, how much they assign, and the match lines that udev can't take. Else it is nothing. It takes two passes over the
+/// files, and a walk over the database.
 pub fn progress(
     alloc: Global,
     files: &[ChosenFile<'_>],
@@ -145,11 +209,11 @@ pub fn progress(
     compiled: &Compiled,
 ) -> Result<Vec<u8>, AllocError>
     ensures { IfOk result (λ text. ForFolders files.now (λ etc usr.
-        IsCompiledOf etc usr compiled.now → text.items
+        IsCompiled etc usr compiled.now.database.items → text.items
         ≡ progress_text (option_map (λ l. map string_bytes l.now) listed.entry) etc usr)) }
 {
     match listed {
-        Some(names) => full_progress(alloc, files, names, compiled),
+        Some(names) => full_progress(alloc, files, names, &compiled.database),
         None => Ok(Vec::new(alloc)),
     }
 }

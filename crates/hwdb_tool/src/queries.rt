@@ -64,6 +64,7 @@ pub fn query<D: System, I: Source, O: Sink, E: Sink>(
             system,
             input,
             out,
+            err,
         );
     }
     let answer = query_given(alloc, root, devices, json, system);

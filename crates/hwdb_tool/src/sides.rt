@@ -31,6 +31,7 @@ use hwdb_fs::{Refusal, Selection, System, TextsBelow, with_texts};
 use hwdb_io::MAX_BYTES;
 use hwdb_lint::TextFile;
 use hwdb_print::ToolError;
+use hwdb_show::push_name;
 use hwdb_text::{Chosen, counts};
 use std::alloc::{AllocError, Global};
 
@@ -170,7 +171,7 @@ fn no_texts(alloc: Global, path: &str) -> Result<Vec<u8>, AllocError>
     ensures { IfOk result (λ text. text.items ≡ no_texts_text path.now) }
 {
     let mut text = Vec::from_slice(alloc, b"cannot read ")?;
-    text.extend_from_slice(path.as_bytes())?;
+    push_name(&mut text, path.as_bytes())?;
     text.extend_from_slice(NO_TEXTS.as_bytes())?;
     Ok(text)
 }

@@ -5,6 +5,7 @@ ghost use Rattle.hwdb_spec.specs.Verdicts.{db_fault_cause, db_fault_words, expla
 
 use hwdb_fs::remedy;
 use hwdb_reader::DbFault;
+use hwdb_show::push_name as show_name;
 use itoa::Buffer;
 use std::alloc::{AllocError, Global};
 
@@ -92,7 +93,7 @@ fn fault_at(alloc: Global, path: &[u8], fault: DbFault) -> Result<Vec<u8>, Alloc
     let mut text = Vec::from_slice(alloc, b"bad database: ")?;
     push_name(&mut text, fault)?;
     text.extend_from_slice(b": ")?;
-    text.extend_from_slice(path)?;
+    show_name(&mut text, path)?;
     Ok(text)
 }
 

@@ -1,4 +1,4 @@
-use Rattle.hwdb_expect.proofs.ComputedRows.{assign_rows, file_rows, hold_rows, malformed_rows, text_rows}
+use Rattle.hwdb_expect.proofs.ComputedRows.{assign_rows, file_rows, hold_rows, json_rows, malformed_rows, text_rows}
 use Rattle.hwdb_expect.proofs.laws.worked_rows.Goals as goal
 
 pub returns : goal.returns
@@ -8,4 +8,5 @@ returns c = record {
   assigns = assign_rows;
   malformed = malformed_rows;
   texts = text_rows;
+  json = json_rows;
 }

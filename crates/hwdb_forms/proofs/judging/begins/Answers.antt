@@ -1,13 +1,14 @@
-use Rattle.std.proofs.Common.{◌∙◌, ap, sym, take, List}
-use Rattle.hwdb_spec.specs.FormTable.{asked}
-use Rattle.hwdb_spec.specs.Forms.{can_begin}
+use Rattle.std.proofs.Common.{◌∙◌, ◌++◌, ap}
+use Rattle.hwdb_spec.specs.Forms.{meets_form}
 use Rattle.hwdb_spec.specs.Patterns.{Token}
-use Rattle.hwdb_forms.proofs.FrontLemmas.{views_take}
+use Rattle.std.specs.Prelude.{List}
+use Rattle.hwdb_forms.specs.Internal.{form_of}
+use Rattle.hwdb_forms.proofs.FrontLemmas.{starred, star_is}
 use Rattle.hwdb_forms.proofs.judging.begins.Goals as goal
 
-pub returns-then-seen : goal.returns-then-seen
-returns-then-seen c =
-    sym (ap (λ (ts : List Token). can_begin asked (take c.args.count ts)) c.requires.tokens ∙ c.in_ok-seen.ensures c.if-seen.true)
-
 pub returns : goal.returns
-returns c = c.in_ok-met.ensures ∙ ap (can_begin asked) (views_take c.args.tokens.now c.args.count)
+returns c =
+    c.in_ok-met.ensures
+    ∙ ap (λ (ts : List Token). meets_form ts (form_of c.args.form))
+    (starred c.args.front.now _ c.deref.result.now _ (c.deref.ensures.value ∙ c.in_ok-push.ensures.items)
+    (c.in_ok-extend_from_slice.ensures.items ∙ ap (λ l. l ++ c.args.front.now) c.in_ok-tokens.ensures.items) star_is)

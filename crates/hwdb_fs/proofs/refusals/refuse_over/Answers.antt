@@ -1,5 +1,6 @@
 use Rattle.std.proofs.Common.{ap, refl, sym, ◌∙◌, ◌++◌, List, [], ℕ}
 use Rattle.hwdb_spec.specs.Refusals.{refusal_line, path_text}
+use Rattle.hwdb_spec.specs.Visible.{shown_name}
 use Rattle.hwdb_spec.specs.declared.errors.ToolError.{ToolError}
 use Rattle.hwdb_fs.proofs.LineLemmas.{refused_as, two_line, plain_text}
 use Rattle.hwdb_fs.proofs.refusals.refuse_over.Goals as goal
@@ -27,8 +28,8 @@ returns-in-TooLong-clause-line g c = (
   [],
   refl,
   refused_as _ _ _ _ _ _
-      (two_line c.args.path.now c.as_slice-words.result.now
-      ∙ ap (λ (w : List ℕ). refusal_line (c.args.path.now ++ w)) c.as_slice-words.ensures
+      (two_line (shown_name c.args.path.now) c.as_slice-words.result.now
+      ∙ ap (λ (w : List ℕ). refusal_line (shown_name c.args.path.now ++ w)) c.as_slice-words.ensures
       ∙ ap (λ (e : ToolError). refusal_line (path_text e c.args.path.now c.args.cause [])) (sym c.in-TooLong.is))
       c.refuse.ensures.line,
 )

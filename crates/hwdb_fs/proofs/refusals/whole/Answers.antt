@@ -1,6 +1,6 @@
 use Rattle.hwdb_fs.proofs.LineLemmas.{joined_next}
 use Rattle.hwdb_fs.proofs.refusals.whole.Goals as goal
 
-pub loop-part-preserved : goal.loop-part-preserved
-loop-part-preserved c =
-    joined_next c.args.parts.now c.loop-part.part-index _ _ _ c.loop-part-test.true c.loop-part.invariant c.in_ok-extend_from_slice.ensures.items
+pub joining-preserved : goal.joining-preserved
+joining-preserved c =
+    joined_next c.args.name c.args.parts.now c.joining.i _ _ _ c.joining-test.true c.joining.invariant c.in_ok-push_part.ensures

@@ -1,4 +1,4 @@
-use Rattle.hwdb_near.proofs.ComputedRows.{file_rows, gathered_rows, head_rows, mark_rows, matching_rows, nearest_rows, place_rows, rated_rows, stop_rows, word_rows}
+use Rattle.hwdb_near.proofs.ComputedRows.{file_rows, gathered_rows, head_rows, mark_rows, matching_rows, nearest_rows, order_rows, place_rows, rated_rows, stop_rows, word_rows}
 use Rattle.hwdb_near.proofs.laws.worked_rows.Goals as goal
 
 pub returns : goal.returns
@@ -7,6 +7,7 @@ returns c = record {
   rated = rated_rows;
   nearest = nearest_rows;
   matching = matching_rows;
+  order = order_rows;
   marks = mark_rows;
   words = word_rows;
   heads = head_rows;

@@ -1,9 +1,8 @@
 use Rattle.std.proofs.Common.{◌∙◌, ap, map, sym, reverse, take}
 use Rattle.std.proofs.lemmas.List.{map_more}
-use Rattle.hwdb_spec.specs.Near.{matching}
 use Rattle.hwdb_near.specs.Views.{pattern_at}
-use Rattle.hwdb_near.specs.Internal.Ratings.{misses, rated_of}
-use Rattle.hwdb_near.proofs.NearestLemmas.{matching_more, misses_more}
+use Rattle.hwdb_near.specs.Internal.Ratings.{hitting, misses, rated_of}
+use Rattle.hwdb_near.proofs.NearestLemmas.{hitting_more, misses_more}
 use Rattle.hwdb_near.proofs.nearest.all_found.Goals as goal
 
 pub loop-at-init : goal.loop-at-init
@@ -19,6 +18,6 @@ loop-at-preserved c =
     let i = c.loop-at.at-index in
     let more = map_more pattern_at patterns i _ c.loop-at-test.true in
     record {
-      matching = matching_more device (map pattern_at (take i patterns)) _ _ _ c.loop-at.invariant.matching c.in_ok-put.ensures.matching ∙ ap (matching device) (sym more);
+      matching = hitting_more device (map pattern_at (take i patterns)) _ _ _ c.loop-at.invariant.matching c.in_ok-put.ensures.matching ∙ ap (hitting device) (sym more);
       nearest = misses_more device (map pattern_at (take i patterns)) _ _ _ c.loop-at.invariant.nearest c.in_ok-put.ensures.nearest ∙ ap (misses device) (sym more);
     }

@@ -10,7 +10,7 @@ use Rattle.hwdb_spec.specs.Streams.{texts_of}
 use Rattle.hwdb_spec.specs.declared.errors.ToolError.TheVariants.{Memory, Write}
 use Rattle.hwdb_print.proofs.AnsweredLemmas.{at_start, handed_on, many_before, memory_before, one_more, told_all, told_line, told_long, told_many, told_whole, unread_before, write_before}
 use Rattle.hwdb_print.proofs.LineLemmas.{read_too_long}
-use Rattle.hwdb_print.proofs.StreamLemmas.{none_of, some_of, some_weaker}
+use Rattle.hwdb_print.proofs.StreamLemmas.{heard, none_of, some_of, some_weaker}
 use Rattle.hwdb_print.proofs.streaming.answer_lines.Goals as goal
 
 pub answering-init : goal.answering-init
@@ -23,6 +23,8 @@ answering-init g c = record {
   same_input = refl;
   same_out = refl;
   flushed = λ f. f;
+  quiet = λ _. refl;
+  heard = (refl, λ f. f);
 }
 
 pub returns-in_err-device-clause-too_long : goal.returns-in_err-device-clause-too_long
@@ -71,7 +73,7 @@ returns-in_err-text-clause-before g c = λ stays.
 
 pub reopen-db-requires : goal.reopen-db-requires
 reopen-db-requires g c =
-    let renewed = c.renew.ensures.database c.answering.invariant.held.0 c.answering.invariant.held.1 in
+    let renewed = c.renew-is_heard.ensures.database c.answering.invariant.held.0 c.answering.invariant.held.1 in
     (renewed.0, subst (λ (b : List ℕ). IsDatabase b renewed.0) (sym c.bytes.ensures) renewed.1)
 
 pub returns-in_err-write_text-clause-before : goal.returns-in_err-write_text-clause-before
@@ -81,7 +83,7 @@ returns-in_err-write_text-clause-before g c = λ stays.
     let Is : List (List ℕ) → List ℕ → Type 0 = λ lines. IsTextOf (texts_of c.args.form lines) (g.R.Renewal.held c.args.database.now) in
     let line = some_of c.in_ok-device.field-0 c.in-Some.device _ c.in-Some.is c.in_ok-device.ensures.line in
     let fits : length c.in-Some.device.items ≤ max_file = omega (arith, c.in-Some.device.ok.0, some_of c.in_ok-device.field-0 c.in-Some.device _ c.in-Some.is c.in_ok-device.ensures.fits) in
-    let same = c.bytes.ensures ∙ c.renew.ensures.same (c.answering.invariant.stays stays) ∙ c.answering.invariant.same stays in
+    let same = c.bytes.ensures ∙ c.renew-is_heard.ensures.same (c.answering.invariant.stays stays) ∙ c.answering.invariant.same stays in
     let tree = c.reopen-db.ensures t (subst (λ (b : List ℕ). IsDatabase b t) (sym same) is) in
     let text = c.deref-in-answering.ensures.value ∙ c.in_ok-text.ensures ∙ ap (λ d. answer_text c.args.form c.answering.is_first d c.reopen-db.result) c.deref.ensures.value
     ∙ ap (λ u. answer_text c.args.form c.answering.is_first c.in-Some.device.items u) tree in
@@ -95,18 +97,20 @@ answering-preserved g c =
     let fits : length c.in-Some.device.items ≤ max_file = omega (arith, c.in-Some.device.ok.0, some_of c.in_ok-device.field-0 c.in-Some.device _ c.in-Some.is c.in_ok-device.ensures.fits) in
     let text = c.deref-in-answering.ensures.value ∙ c.in_ok-text.ensures ∙ ap (λ d. answer_text c.args.form c.answering.is_first d c.reopen-db.result) c.deref.ensures.value in
     record {
-      held = c.renew.ensures.database c.answering.invariant.held.0 c.answering.invariant.held.1;
-      same = λ s. c.renew.ensures.same (c.answering.invariant.stays s) ∙ c.answering.invariant.same s;
-      stays = λ s. c.renew.ensures.stays (c.answering.invariant.stays s);
+      held = c.renew-is_heard.ensures.database c.answering.invariant.held.0 c.answering.invariant.held.1;
+      same = λ s. c.renew-is_heard.ensures.same (c.answering.invariant.stays s) ∙ c.answering.invariant.same s;
+      stays = λ s. c.renew-is_heard.ensures.stays (c.answering.invariant.stays s);
       lines = λ t. one_more c.args.form t c.answering.counter c.answering.is_first _ _ _ _ _ _ c.in-Some.device.items (answer_text c.args.form c.answering.is_first c.in-Some.device.items t) line fits refl tt (c.answering.invariant.lines t);
       so_far = λ s t is.
-          let same = c.bytes.ensures ∙ c.renew.ensures.same (c.answering.invariant.stays s) ∙ c.answering.invariant.same s in
+          let same = c.bytes.ensures ∙ c.renew-is_heard.ensures.same (c.answering.invariant.stays s) ∙ c.answering.invariant.same s in
           let tree = c.reopen-db.ensures t (subst (λ (b : List ℕ). IsDatabase b t) (sym same) is) in
           one_more c.args.form t c.answering.counter c.answering.is_first _ _ _ _ _ _ c.in-Some.device.items c.deref-in-answering.result.now line fits
           (text ∙ ap (λ u. answer_text c.args.form c.answering.is_first c.in-Some.device.items u) tree) c.in_ok-write_text.ensures.took.whole (c.answering.invariant.so_far s t is);
       same_input = c.in_ok-device.ensures.failures ∙ c.answering.invariant.same_input;
       same_out = c.in_ok-write_text.ensures.took.unfailed ∙ c.answering.invariant.same_out;
       flushed = λ _. c.in_ok-write_text.ensures.flushed;
+      quiet = λ s. c.renew-is_heard.ensures.quiet (c.answering.invariant.stays s) ∙ c.answering.invariant.quiet s;
+      heard = c.renew-is_heard.ensures.heard c.args.err.now c.answering.invariant.heard;
     }
 
 pub returns-clause-line : goal.returns-clause-line
@@ -120,3 +124,24 @@ returns-clause-before g c = λ stays.
     let is = c.requires.database.1 in
     let Is : List (List ℕ) → List ℕ → Type 0 = λ lines. IsTextOf (texts_of c.args.form lines) (g.R.Renewal.held c.args.database.now) in
     many_before c.args.form t c.answering.counter c.answering.is_first Is (λ lines. record { tree = t; database = is; is = refl }) _ _ _ _ (omega (arith, c.answering-test.false)) (c.answering.invariant.so_far stays t is)
+
+pub returns-in_err-device-clause-err_hands_on : goal.returns-in_err-device-clause-err_hands_on
+returns-in_err-device-clause-err_hands_on g c = heard c.answering.is_heard _ _ _ _ c.answering.invariant.heard
+
+pub returns-in_default-clause-err_hands_on : goal.returns-in_default-clause-err_hands_on
+returns-in_default-clause-err_hands_on g c = heard c.answering.is_heard _ _ _ _ c.answering.invariant.heard
+
+pub returns-in_err-text-clause-quiet : goal.returns-in_err-text-clause-quiet
+returns-in_err-text-clause-quiet g c = λ stays. c.renew-is_heard.ensures.quiet (c.answering.invariant.stays stays) ∙ c.answering.invariant.quiet stays
+
+pub returns-in_err-text-clause-err_hands_on : goal.returns-in_err-text-clause-err_hands_on
+returns-in_err-text-clause-err_hands_on g c = heard c.renew-is_heard.result _ _ _ _ (c.renew-is_heard.ensures.heard c.args.err.now c.answering.invariant.heard)
+
+pub returns-in_err-write_text-clause-quiet : goal.returns-in_err-write_text-clause-quiet
+returns-in_err-write_text-clause-quiet g c = λ stays. c.renew-is_heard.ensures.quiet (c.answering.invariant.stays stays) ∙ c.answering.invariant.quiet stays
+
+pub returns-in_err-write_text-clause-err_hands_on : goal.returns-in_err-write_text-clause-err_hands_on
+returns-in_err-write_text-clause-err_hands_on g c = heard c.renew-is_heard.result _ _ _ _ (c.renew-is_heard.ensures.heard c.args.err.now c.answering.invariant.heard)
+
+pub returns-clause-err_hands_on : goal.returns-clause-err_hands_on
+returns-clause-err_hands_on g c = heard c.answering.is_heard _ _ _ _ c.answering.invariant.heard

@@ -2,6 +2,7 @@ use Rattle.std.proofs.Common.{◌≡◌, Option, None, List, ℕ}
 use Rattle.hwdb_spec.specs.Format.{IsDatabase}
 use Rattle.hwdb_spec.specs.Tree.{Tree}
 use Rattle.hwdb_print.proofs.AnsweredLemmas.{AreAnsweredOf}
+use Rattle.hwdb_print.specs.Internal.{IsHeard}
 use Rattle.hwdb_print.specs.Streams.{to_come}
 use Rattle.hwdb_print.proofs.streaming.answer_lines.Given as goal
 
@@ -16,4 +17,6 @@ invariant-answering g l = let untold : Option (List ℕ) = None in record {
   same_input : g.I.Source.failures l.input ≡ g.I.Source.failures l.initial.input;
   same_out : g.O.Sink.failures l.out ≡ g.O.Sink.failures l.initial.out;
   flushed : g.O.Sink.is_flushed l.initial.out → g.O.Sink.is_flushed l.out;
+  quiet : g.R.Renewal.stays l.initial.database → l.err ≡ l.initial.err;
+  heard : IsHeard l.is_heard (g.E.Sink.is_flushed l.initial.err) (g.E.Sink.is_flushed l.err) (g.E.Sink.failures l.initial.err) (g.E.Sink.failures l.err);
 }

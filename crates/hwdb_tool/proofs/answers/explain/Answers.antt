@@ -1,18 +1,22 @@
-use Rattle.std.proofs.Common.{◌∙◌, inl, subst, sym, IfErr, [], ◌∷◌}
+use Rattle.std.proofs.Common.{◌∙◌, inl, subst, sym, IfErr, IfOk, [], ◌∷◌}
 use Rattle.hwdb_spec.specs.declared.form.Form.TheVariants.{Explain}
 use Rattle.hwdb_spec.specs.Given.{is_dash}
 use Rattle.hwdb_spec.specs.Runs.{told_by}
 use Rattle.hwdb_spec.specs.Reasons.{HasAskedReason}
 use Rattle.hwdb_tool.proofs.AnswerLemmas.{printed_reason, unanswered_asked}
 use Rattle.hwdb_tool.proofs.ErrorLemmas.{both_errors}
-use Rattle.hwdb_tool.proofs.PrintingLemmas.{streamed_done}
+use Rattle.hwdb_spec.specs.Queries.{AreDone, AreUnanswered}
+use Rattle.hwdb_tool.proofs.PrintingLemmas.{streamed_done, streamed_refused}
 use Rattle.hwdb_tool.proofs.answers.explain.Goals as goal
 
 pub returns-then-is_dash-clause-answered : goal.returns-then-is_dash-clause-answered
 returns-then-is_dash-clause-answered g c = λ tells.
-    streamed_done c.args.root.now (Explain c.args.json) (c.args.device.now ∷ []) (g.I.Source.left c.args.input.now) (g.D.Store.seen c.args.system.now) c.answer_input.result
+    let told = told_by g.E.Sink.taken g.E.Sink.failures in
+    subst (λ e. IfOk c.answer_input.result (λ status. AreDone c.args.root.now (Explain c.args.json) (c.args.device.now ∷ []) (g.I.Source.left c.args.input.now) (g.D.Store.seen c.args.system.now) status
+    (told c.args.err.now) (told e) (told_by g.O.Sink.taken g.O.Sink.failures c.args.out.now) (told_by g.O.Sink.taken g.O.Sink.failures c.answer_input.new.out))) (sym (c.answer_input.ensures.quiet tells))
+    (streamed_done c.args.root.now (Explain c.args.json) (c.args.device.now ∷ []) (g.I.Source.left c.args.input.now) (g.D.Store.seen c.args.system.now) c.answer_input.result
     (told_by g.E.Sink.taken g.E.Sink.failures c.args.err.now) (told_by g.O.Sink.taken g.O.Sink.failures c.args.out.now) (told_by g.O.Sink.taken g.O.Sink.failures c.answer_input.new.out)
-    (sym c.is_dash.ensures ∙ c.if-is_dash.true) c.answer_input.ensures.small c.answer_input.ensures.all (c.answer_input.ensures.answered tells)
+    (sym c.is_dash.ensures ∙ c.if-is_dash.true) c.answer_input.ensures.small c.answer_input.ensures.all (c.answer_input.ensures.answered tells))
 
 pub returns-then-is_dash-clause-reason : goal.returns-then-is_dash-clause-reason
 returns-then-is_dash-clause-reason g c = λ tells.
@@ -34,3 +38,12 @@ returns-clause-reason g c = λ tells.
     printed_reason c.explain_given-answer.result c.printed.result (HasAskedReason (is_dash c.args.device.now) root fails seen input failures failures) _ _ _ _
     (both_errors _ _ _ c.explain_given-answer.result (λ r refused has. inl (unanswered_asked root seen r refused, has)) (c.explain_given-answer.ensures.refused tells) c.explain_given-answer.ensures.reason)
     (inl (tt, tt)) c.printed.ensures.refused
+
+pub returns-then-is_dash-clause-refused : goal.returns-then-is_dash-clause-refused
+returns-then-is_dash-clause-refused g c = λ tells.
+    let told = told_by g.E.Sink.taken g.E.Sink.failures in
+    subst (λ e. IfErr c.answer_input.result (λ r. AreUnanswered c.args.root.now (Explain c.args.json) (c.args.device.now ∷ []) (g.I.Source.left c.args.input.now) (g.D.Store.seen c.args.system.now) r
+    (told c.args.err.now) (told e) (told_by g.O.Sink.taken g.O.Sink.failures c.args.out.now) (told_by g.O.Sink.taken g.O.Sink.failures c.answer_input.new.out))) (sym (c.answer_input.ensures.quiet tells))
+    (streamed_refused c.args.root.now (Explain c.args.json) (c.args.device.now ∷ []) (g.I.Source.left c.args.input.now) (g.D.Store.seen c.args.system.now) c.answer_input.result
+    (told c.args.err.now) (told_by g.O.Sink.taken g.O.Sink.failures c.args.out.now) (told_by g.O.Sink.taken g.O.Sink.failures c.answer_input.new.out)
+    (sym c.is_dash.ensures ∙ c.if-is_dash.true) (c.answer_input.ensures.refused tells))

@@ -1,5 +1,6 @@
 use Rattle.std.proofs.Common.{◌∙◌, ◌++◌, ap, append_assoc, codes}
 use Rattle.hwdb_spec.specs.Reports.{shown}
+use Rattle.hwdb_spec.specs.Visible.{shown_name}
 use Rattle.hwdb_tool.proofs.dumps.unsayable.Goals as goal
 
 pub returns : goal.returns
@@ -7,5 +8,6 @@ returns c =
     c.in_ok-push_shown.ensures
     ∙ ap (λ l. l ++ shown c.args.pattern.now)
     (c.in_ok-extend_from_slice.ensures.items
-    ∙ ap (λ l. l ++ codes ": no text file can say an assignment of the pattern ") c.in_ok-text.ensures.items)
-    ∙ append_assoc c.args.path.now (codes ": no text file can say an assignment of the pattern ") (shown c.args.pattern.now)
+    ∙ ap (λ l. l ++ codes ": no text file can say an assignment of the pattern ")
+    (c.in_ok-push_name.ensures ∙ ap (λ l. l ++ shown_name c.args.path.now) c.new-text.ensures.items))
+    ∙ append_assoc (shown_name c.args.path.now) (codes ": no text file can say an assignment of the pattern ") (shown c.args.pattern.now)

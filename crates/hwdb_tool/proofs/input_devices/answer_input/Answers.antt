@@ -9,8 +9,8 @@ use Rattle.hwdb_spec.specs.Lemmas.Calls.{given_error}
 use Rattle.hwdb_tool.proofs.AnswerLemmas.{if_bad, stream_reason, streamed, unfound_asked}
 use Rattle.hwdb_tool.proofs.input_devices.answer_input.Goals as goal
 
-pub returns-in_err-new-clause-refused : goal.returns-in_err-new-clause-refused
-returns-in_err-new-clause-refused g c = λ tells.
+pub returns-in_err-watch-clause-refused : goal.returns-in_err-watch-clause-refused
+returns-in_err-watch-clause-refused g c = λ tells.
     let told = told_by g.O.Sink.taken g.O.Sink.failures c.args.out.now in
     given_error (Plain Memory) (λ r. IsStreamRefused c.args.root.now c.args.form (g.I.Source.left c.args.input.now) (g.D.Store.seen c.args.system.now) r told told)
     c.from_residual.result c.from_residual.ensures.1 (inl ((database_path false c.args.root.now, inl refl, tt), refl))
@@ -20,7 +20,7 @@ returns-in-Ok-clause-answered g c = λ tells.
     let asked = c.in_ok-path.ensures.asked tells in
     streamed (g.I.Source.left c.args.input.now) c.args.root.now c.args.form (g.D.Store.seen c.args.system.now) c.in_ok-path.field-0.bytes.items
     (g.O.Sink.taken c.args.out.now) (g.O.Sink.taken c.run_renewed.new.out) (g.O.Sink.failures c.args.out.now) (g.O.Sink.failures c.run_renewed.new.out)
-    asked c.in_ok-path.ensures.within (c.in-Ok.ensures.printed (tells, asked)) c.in-Ok.ensures.writes
+    asked c.in_ok-path.ensures.within (c.in-Ok.ensures.printed (tells, asked, c.in_ok-watch.ensures tells)) c.in-Ok.ensures.writes
 
 pub returns-clause-refused : goal.returns-clause-refused
 returns-clause-refused g c = λ tells.
@@ -37,7 +37,7 @@ returns-clause-refused g c = λ tells.
       refused = c.in-Err.ensures.refusals;
       line = c.in-Err.ensures.line;
       untouched = if_bad c.in-Err.error (λ both. ap g.O.Sink.taken both.1) c.in-Err.ensures.untouched;
-      printed = c.in-Err.ensures.before (tells, asked);
+      printed = c.in-Err.ensures.before (tells, asked, c.in_ok-watch.ensures tells);
       failed = c.in-Err.ensures.writes.0;
       unfailed = c.in-Err.ensures.writes.1;
     }
@@ -58,3 +58,11 @@ returns-clause-reason g c = λ tells.
     (g.I.Source.failures c.args.input.now) (g.I.Source.failures c.run_renewed.new.input) c.in-Err.error (string_bytes c.in_ok-path.field-0.path) c.refusal_of.result
     (c.in_ok-path.ensures.path tells) (subst (λ p. IsOfInput c.in-Err.error p c.refusal_of.result) c.as_bytes.ensures.value c.refusal_of.ensures)
     c.in-Err.ensures.reads.0 (λ w. c.in-Err.ensures.too_long (ap Err w))
+
+pub returns-in-Ok-clause-quiet : goal.returns-in-Ok-clause-quiet
+returns-in-Ok-clause-quiet g c = λ tells.
+    c.in-Ok.ensures.quiet (tells, c.in_ok-path.ensures.asked tells, c.in_ok-watch.ensures tells)
+
+pub returns-clause-quiet : goal.returns-clause-quiet
+returns-clause-quiet g c = λ tells.
+    c.in-Err.ensures.quiet (tells, c.in_ok-path.ensures.asked tells, c.in_ok-watch.ensures tells)

@@ -1,4 +1,7 @@
-use Rattle.std.proofs.Common.{ap, sym, ◌∙◌}
+use Rattle.std.proofs.Common.{◌≡◌, ap, if◌then◌else◌, option_map, subst, sym, ◌∙◌, Global, Ok, Vec, ℕ}
+use Rattle.hwdb_fs.specs.Lemmas.OverReads.{present_as}
+use Rattle.hwdb_fs.specs.Raw.{present, told_bytes}
+use Rattle.hwdb_spec.specs.Told.{IsReadTo, IsUnreadAs}
 use Rattle.std.specs.Prelude.{Some}
 use Rattle.hwdb_spec.specs.Lemmas.Calls.{each_error, each_value}
 use Rattle.hwdb_fs.proofs.OverlayLemmas.{both_errors, copied_plain, copied_reason, copied_unread, looking_reason, same_at, there_at, unread_over}
@@ -52,3 +55,21 @@ returns-clause-reason g c =
     let made = c.args.self.now.bytes.now in
     let files = g.D.Store.seen c.args.self.now.system.now in
     both_errors _ _ _ c.database.result (λ r unread has. looking_reason root made files (g.D.System.may_fail c.args.self.now.system.now) c.args.path.now r (sym c.is_database.ensures ∙ c.if-is_database.false) unread has) c.database.ensures.refused c.database.ensures.reason
+
+pub returns-in-Ok-clause-told : goal.returns-in-Ok-clause-told
+returns-in-Ok-clause-told g c = λ tells.
+    let w = g.D.System.reads c.args.self.now.system.now in
+    subst (λ b. (if b then present (told_bytes c.args.self.now.bytes.now) else w.database c.args.path.now) ≡ Ok (Some c.in-Ok.bytes.items))
+    (sym (sym c.is_database.ensures ∙ c.if-is_database.true)) (ap present c.in-Ok.ensures.told)
+
+pub returns-in-Err-clause-told : goal.returns-in-Err-clause-told
+returns-in-Err-clause-told g c = λ tells.
+    let w = g.D.System.reads c.args.self.now.system.now in
+    subst (λ b. IsUnreadAs (if b then present (told_bytes c.args.self.now.bytes.now) else w.database c.args.path.now) c.args.path.now c.in-Err.refusal)
+    (sym (sym c.is_database.ensures ∙ c.if-is_database.true)) (present_as (told_bytes c.args.self.now.bytes.now) c.args.path.now c.in-Err.refusal c.in-Err.ensures.told)
+
+pub returns-clause-told : goal.returns-clause-told
+returns-clause-told g c = λ tells.
+    let w = g.D.System.reads c.args.self.now.system.now in
+    subst (λ b. IsReadTo (λ found. option_map (λ (v : Vec ℕ Global). v.items) found) (if b then present (told_bytes c.args.self.now.bytes.now) else w.database c.args.path.now) c.args.path.now c.database.result)
+    (sym (sym c.is_database.ensures ∙ c.if-is_database.false)) (c.database.ensures.told tells)

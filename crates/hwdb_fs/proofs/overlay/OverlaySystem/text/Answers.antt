@@ -1,4 +1,6 @@
-use Rattle.std.proofs.Common.{ap, sym, ◌∙◌}
+use Rattle.std.proofs.Common.{ap, if◌then◌else◌, subst, sym, ◌∙◌, Global, Vec, ℕ}
+use Rattle.hwdb_fs.specs.Raw.{told_bytes}
+use Rattle.hwdb_spec.specs.Told.{IsReadTo}
 use Rattle.std.specs.Prelude.{Some}
 use Rattle.hwdb_spec.specs.Refusals.{IsUnreadable}
 use Rattle.hwdb_spec.specs.Lemmas.Calls.{each_error, each_value}
@@ -54,3 +56,15 @@ returns-clause-reason g c =
     let made = c.args.self.now.bytes.now in
     let files = g.D.Store.seen c.args.self.now.system.now in
     both_errors _ _ _ c.text.result (λ r unread has. reading_reason root made files (g.D.System.may_fail c.args.self.now.system.now) c.args.path.now r (sym c.is_database.ensures ∙ c.if-is_database.false) unread has) c.text.ensures.refused c.text.ensures.reason
+
+pub returns-then-is_database-clause-told : goal.returns-then-is_database-clause-told
+returns-then-is_database-clause-told g c = λ tells.
+    let w = g.D.System.reads c.args.self.now.system.now in
+    subst (λ b. IsReadTo (λ (v : Vec ℕ Global). v.items) (if b then told_bytes c.args.self.now.bytes.now else w.text c.args.path.now) c.args.path.now c.copy.result)
+    (sym (sym c.is_database.ensures ∙ c.if-is_database.true)) c.copy.ensures.told
+
+pub returns-clause-told : goal.returns-clause-told
+returns-clause-told g c = λ tells.
+    let w = g.D.System.reads c.args.self.now.system.now in
+    subst (λ b. IsReadTo (λ (v : Vec ℕ Global). v.items) (if b then told_bytes c.args.self.now.bytes.now else w.text c.args.path.now) c.args.path.now c.text.result)
+    (sym (sym c.is_database.ensures ∙ c.if-is_database.false)) (c.text.ensures.told tells)

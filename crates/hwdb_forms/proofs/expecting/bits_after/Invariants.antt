@@ -1,0 +1,10 @@
+use Rattle.std.proofs.Common.{◌≡◌, ◌<◌, ◌+◌, ℕ, drop, map, true}
+use Rattle.std.specs.Prelude.{if◌then◌else◌}
+use Rattle.hwdb_spec.specs.Forms.{can_match}
+use Rattle.hwdb_forms.specs.Internal.{followed, form_of, has_bit, views}
+use Rattle.hwdb_forms.proofs.expecting.bits_after.Given as goal
+
+abbrev pub invariant-loop-form : goal.invariant-loop-form
+invariant-loop-form l =
+    (i : ℕ) → i < 128
+    → (if has_bit l.bits i then true else can_match (map form_of (drop l.form-index l.forms)) (followed (views l.tokens) (l.first + i))) ≡ can_match (map form_of l.forms) (followed (views l.tokens) (l.first + i))

@@ -1,0 +1,3 @@
+-- What the laws of a file system in memory, and of one with another database in its place, cite: statements with their proofs.
+pub mod MemoryReads
+pub mod OverReads

@@ -1,0 +1,169 @@
+-- A run does what its plan ends in.
+use Rattle.std.proofs.Common.{◌≡◌, ◌∙◌, ◌⊎◌, inl, inr, ap, sym, subst, Bool, List, None, Option, Some, Result, Ok, Err, IfSome, MatchResult, ℕ, refl}
+use Rattle.std.specs.Io.KnownBytes.{Appends}
+use Rattle.std.specs.Result.{IsErrAnd}
+use Rattle.hwdb_spec.specs.CompileErrors.{IsRefusal}
+use Rattle.hwdb_spec.specs.Databases.{IsNoDatabase}
+use Rattle.hwdb_spec.specs.Errors.{refusal_of_compile}
+use Rattle.hwdb_spec.specs.Folders.{FaultIn, Source, faults_of_files}
+use Rattle.hwdb_spec.specs.Format.{IsDatabase}
+use Rattle.hwdb_spec.specs.Refusals.{IsOfCause}
+use Rattle.hwdb_spec.specs.Runs.{AreKept, Files, HasTaken, Told, World}
+use Rattle.hwdb_spec.specs.Streams.{texts_of}
+use Rattle.hwdb_spec.specs.Texts.{devices_of, faults_text, status_of}
+use Rattle.hwdb_spec.specs.Tree.{Tree}
+use Rattle.hwdb_spec.specs.declared.DbFault.{DbFault}
+use Rattle.hwdb_spec.specs.declared.form.Form.{Form}
+use Rattle.hwdb_spec.specs.declared.errors.CompileError.{CompileError}
+use Rattle.hwdb_spec.specs.declared.errors.CompileError.TheVariants as compiling
+use Rattle.hwdb_spec.specs.declared.errors.ToolError.TheVariants as error
+use Rattle.hwdb_spec.specs.declared.errors.ToolError.TheVariants.{BadDatabase}
+use Rattle.hwdb_spec.specs.declared.refusals.Refusal.{Refusal}
+use Rattle.hwdb_spec.specs.declared.refusals.Refusal.TheVariants as refusal
+use Rattle.hwdb_plan.specs.Put.{put_plan}
+use Rattle.hwdb_plan.specs.Streams.{answered}
+use Rattle.hwdb_plan.specs.Ended.{Does, IsUnput, Leaves, Prints, ReplacesWith, StreamsTo, outs, outs_of}
+use Rattle.hwdb_plan.specs.Plans.{AreMadeOf, End, Ends, Follows, Next, Plan}
+use Rattle.hwdb_plan.specs.Plans.End.{Answers, Replaces, Stops, Streams}
+use Rattle.hwdb_spec.specs.Told.{Reads, stop_of}
+use Rattle.hwdb_spec.specs.Told.Stop.{Over, Plain}
+
+-- an answer that was had and printed, or not: of any type that has a status and two texts
+module _ {Y : Type 0} (status : Y → ℕ) (err out : Y → List ℕ) where
+  abbrev end_of : Y → End
+  end_of a = Answers (status a) (err a) (out a)
+
+  pub answer_does : (answer : Result Y Refusal) (result : Result ℕ Refusal) (w : Reads) (p : Plan) (before now : World) → Follows end_of w p answer → AreKept before.files now.files
+      → MatchResult answer (λ a. Prints (status a) (err a) (out a) (outs_of before) (outs_of now) result) (λ r. (result ≡ Err r) × (outs_of now ≡ outs_of before))
+      → Does w p before now result
+  answer_does (Ok a) result w p before now ends kept prints = inl (end_of a, ends, (prints, kept))
+  answer_does (Err r) (Ok n) w p before now why kept (is, same) = absurd cc
+  answer_does (Err r) (Err x) w p before now (inl memory) kept (is, same) = inr (forgone, same, kept)
+    where
+      forgone : x ≡ refusal.Plain error.Memory
+      forgone = cc
+  answer_does (Err r) (Err x) w p before now (inr ends) kept (is, same) = inl (Stops (stop_of r), ends, (says, same, kept))
+    where
+      one : x ≡ r
+      one = cc
+
+      says : stop_of x ≡ stop_of r
+      says = ap stop_of one
+
+pub nothing_changed : (files : Files) → AreKept files files
+nothing_changed files = record { same = λ p. refl; no_more = λ p v l. l }
+
+-- a step's error is handed on before anything was done
+pub stop_does : (w : Reads) (p : Plan) (before : World) (r : Refusal) (result : Result ℕ Refusal) → (r ≡ refusal.Plain error.Memory) ⊎ Ends w p (Stops (stop_of r)) → IsErrAnd result (λ x. x ≡ r) → Does w p before before result
+stop_does w p before r (Ok n) why is = absurd is
+stop_does w p before r (Err x) (inl memory) is = inr (is ∙ memory, refl, nothing_changed before.files)
+stop_does w p before r (Err x) (inr ends) is = inl (Stops (stop_of r), ends, (ap stop_of is, refl, nothing_changed before.files))
+
+-- before what follows
+pub before_next : (w : Reads) (p : Next → Plan) (next : Next) (r : Refusal) → (r ≡ refusal.Plain error.Memory) ⊎ ((n : Next) → Ends w (p n) (Stops (stop_of r)))
+    → (r ≡ refusal.Plain error.Memory) ⊎ Ends w (p next) (Stops (stop_of r))
+before_next w p next r (inl memory) = inl memory
+before_next w p next r (inr ends) = inr (ends next)
+
+-- ---- lines of standard input
+module _ (w : Reads) (p : Next → Plan) (form : Form) (path bytes : List ℕ) (step : (next : Next) (e : End) → Ends w (next path bytes) e → Ends w (p next) e) where
+  -- they aren't answered: the bytes are no database
+  pub bad_ends : (at : List ℕ) (f : DbFault) (r : Refusal) → IsNoDatabase bytes f → at ≡ path → IsOfCause (BadDatabase f) at None r → (r ≡ refusal.Plain error.Memory) ⊎ Ends w (p (answered form)) (Stops (stop_of r))
+  unfolding Ends
+  bad_ends at f (refusal.Plain e) none same of = inl (ap refusal.Plain of)
+  bad_ends at f (refusal.At e q c) none same of = inr (step (answered form) (Stops (Over e q.items c)) (inr (f, none, one)))
+    where
+      error_ : e ≡ BadDatabase f
+      error_ = of.0
+
+      there : q.items ≡ path
+      there = of.1 ∙ same
+
+      cause : c ≡ None
+      cause = of.2
+
+      one : Stops (Over e q.items c) ≡ Stops (Over (BadDatabase f) path None)
+      one = cc
+  bad_ends at f refusal.NoDatabase none same of = absurd of
+  bad_ends at f (refusal.InWords text) none same of = absurd of
+
+  -- they are
+  pub stream_does : (t : Tree) → IsDatabase bytes t → (before now : World) (result : Result ℕ Refusal)
+      → IfSome before.input.bytes (λ told. StreamsTo (λ lines. texts_of form lines t) (devices_of told) before.out now.out result) → now.err ≡ before.err → AreKept before.files now.files
+      → Does w (p (answered form)) before now result
+  unfolding Ends
+  stream_does t is before now result streams quiet kept =
+      inl (Streams (λ lines. texts_of form lines t), step (answered form) (Streams (λ lines. texts_of form lines t)) (inl (t, is, refl)), (streams, quiet, kept))
+
+-- ---- a database in its place
+module _ (w : Reads) (etc usr : List Source) (most : ℕ) (strict : Bool) (folder : List ℕ) where
+  abbrev Puts : Plan
+  Puts = put_plan etc usr None most strict folder
+
+  pub put_does : (bytes : List ℕ) (faults : List FaultIn) → AreMadeOf etc usr most bytes → faults ≡ faults_of_files etc usr → (before now : World) (result : Result ℕ Refusal)
+      → ReplacesWith folder bytes (faults_text faults) (status_of strict faults) before.files now.files before.err now.err result ⊎ IsUnput before.files now.files before.err now.err result
+      → now.out ≡ before.out → Does w Puts before now result
+  unfolding Ends
+  put_does bytes faults made same before now result (inl replaces) quiet =
+      inl (
+        Replaces folder bytes (faults_text (faults_of_files etc usr)) (status_of strict (faults_of_files etc usr)),
+        inl (bytes, made, refl),
+        (subst (λ (l : List FaultIn). ReplacesWith folder bytes (faults_text l) (status_of strict l) before.files now.files before.err now.err result) same replaces, quiet),
+      )
+  put_does bytes faults made same before now result (inr unput) quiet =
+      inr (unput.0, ap (λ (x : Told). outs x now.out) unput.1 ∙ ap (λ (x : Told). outs before.err x) quiet, unput.2)
+
+  pub uncompiled_does : (e : CompileError) (r : Refusal) (before : World) → IsRefusal etc usr most e → r ≡ refusal.Plain (refusal_of_compile e) → Does w Puts before before (Err r)
+  unfolding Ends
+  uncompiled_does compiling.Memory r before much is = inr (is, refl, nothing_changed before.files)
+  uncompiled_does compiling.TooManyFiles r before much is =
+      inl (Stops (Plain error.TooManyFiles), inr (compiling.TooManyFiles, much, refl), (ap stop_of is, refl, nothing_changed before.files))
+  uncompiled_does compiling.TooManyLines r before much is =
+      inl (Stops (Plain error.TooManyLines), inr (compiling.TooManyLines, much, refl), (ap stop_of is, refl, nothing_changed before.files))
+  uncompiled_does compiling.TooLarge r before much is =
+      inl (Stops (Plain error.TooLarge), inr (compiling.TooLarge, much, refl), (ap stop_of is, refl, nothing_changed before.files))
+
+-- ---- an end leaves one status, and one text on each output, if no output fails
+-- devices that tell what they had before
+pub record TellAll (before : World) : Type 0 where
+  pub input : List ℕ
+  pub err : List ℕ
+  pub out : List ℕ
+  pub of_input : before.input.bytes ≡ Some input
+  pub of_err : before.err.bytes ≡ Some err
+  pub of_out : before.out.bytes ≡ Some out
+
+one_grown : (had : List ℕ) (now now2 : Option (List ℕ)) (text : List ℕ) → Appends (Some had) now text → Appends (Some had) now2 text → now ≡ now2
+one_grown had (Some xs) (Some ys) text one two = ap Some (one ∙ sym two)
+one_grown had None now2 text one two = absurd one
+one_grown had (Some xs) None text one two = absurd two
+
+one_taken : (had : List ℕ) (before now now2 : Told) (text : List ℕ) → before.bytes ≡ Some had → HasTaken text before now → HasTaken text before now2 → now.bytes ≡ now2.bytes
+one_taken had before now now2 text told one two =
+    one_grown had now.bytes now2.bytes text (subst (λ (o : Option (List ℕ)). Appends o now.bytes text) told one.whole) (subst (λ (o : Option (List ℕ)). Appends o now2.bytes text) told two.whole)
+
+pub leaves_one : (e : End) (before now now2 : World) (m n : ℕ) → TellAll before → Leaves e before now (Ok m) → Leaves e before now2 (Ok n)
+    → (m ≡ n) × (now.err.bytes ≡ now2.err.bytes) × (now.out.bytes ≡ now2.out.bytes)
+leaves_one (Stops s) before now now2 m n tell a b = absurd a.0
+leaves_one (Answers status err out) before now now2 m n tell a b = (
+  a.0.0 ∙ sym b.0.0,
+  one_taken tell.err before.err now.err now2.err err tell.of_err a.0.1.took_err b.0.1.took_err,
+  one_taken tell.out before.out now.out now2.out out tell.of_out a.0.1.took_out b.0.1.took_out,
+)
+leaves_one (Streams text) before now now2 m n tell a b =
+    let one : StreamsTo text (devices_of tell.input) before.out now.out (Ok m) =
+    subst (λ (o : Option (List ℕ)). IfSome o (λ told. StreamsTo text (devices_of told) before.out now.out (Ok m))) tell.of_input a.0 in
+    let two : StreamsTo text (devices_of tell.input) before.out now2.out (Ok n) =
+    subst (λ (o : Option (List ℕ)). IfSome o (λ told. StreamsTo text (devices_of told) before.out now2.out (Ok n))) tell.of_input b.0 in
+    (one.0 ∙ sym two.0, ap (λ (t : Told). t.bytes) (a.1 ∙ sym b.1), one_taken tell.out before.out now.out now2.out (text (devices_of tell.input)) tell.of_out one.2 two.2)
+leaves_one (Replaces folder bytes said status) before now now2 m n tell a b =
+    (a.0.0 ∙ sym b.0.0, one_taken tell.err before.err now.err now2.err said tell.of_err a.0.1 b.0.1, ap (λ (t : Told). t.bytes) (a.1 ∙ sym b.1))
+
+-- ---- two runs of one plan over one input
+-- both did what the plan ends in, and it has one end: then they are alike
+pub runs_are_one : (w : Reads) (p : Plan) (before now now2 : World) (m n : ℕ) → TellAll before → ((e f : End) → Ends w p e → Ends w p f → e ≡ f)
+    → Does w p before now (Ok m) → Does w p before now2 (Ok n) → (m ≡ n) × (now.err.bytes ≡ now2.err.bytes) × (now.out.bytes ≡ now2.out.bytes)
+runs_are_one w p before now now2 m n tell one (inl (e, ends, left)) (inl (f, ends2, left2)) =
+    leaves_one e before now now2 m n tell left (subst (λ (x : End). Leaves x before now2 (Ok n)) (one f e ends2 ends) left2)
+runs_are_one w p before now now2 m n tell one (inr forgone) b = absurd forgone.0
+runs_are_one w p before now now2 m n tell one (inl a) (inr forgone) = absurd forgone.0

@@ -1,0 +1,9 @@
+pub mod Plans
+pub mod Ended
+pub mod Laws
+pub mod Asking
+pub mod Verify
+pub mod Dump
+pub mod Streams
+pub mod Put
+pub mod Lemmas

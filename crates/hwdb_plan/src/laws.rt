@@ -1,0 +1,48 @@
+//! Laws of plans. Each function does nothing: its contract is the law.
+ghost use Rattle.hwdb_plan.specs.Laws.{AnswersLeaveAll, DoneIsOne, OnlyAskedMatters, OverIsNoMore, OverIsOver, PlansEndAlike};
+
+use hwdb_reader::law_one_tree;
+use hwdb_replace::Store;
+use hwdb_writer::law_one_written_form;
+
+/// Every plan has one end, but for which fault of one database, or of files that are too much, is told.
+pub fn plans_end_alike()
+    ensures { PlansEndAlike }
+{
+    law_one_tree();
+    law_one_written_form();
+}
+
+/// An end that is no error is the only one.
+pub fn done_is_one()
+    ensures { DoneIsOne }
+{
+    law_one_tree();
+    law_one_written_form();
+}
+
+/// A crash leaves what there was, if a plan answers.
+pub fn answers_leave_all<D: Store>(store: &D)
+    ensures { AnswersLeaveAll (D.may_leave store.now) }
+{
+    law_one_tree();
+    law_one_written_form();
+}
+
+/// With `--text` a plan ends as it does over files of which one has these bytes.
+#[tactic(auto, using(crate::proofs::LawLemmas::over_is_over))]
+pub fn over_is_over()
+    ensures { OverIsOver }
+{}
+
+/// And in nothing else.
+#[tactic(auto, using(crate::proofs::LawLemmas::over_is_no_more))]
+pub fn over_is_no_more()
+    ensures { OverIsNoMore }
+{}
+
+/// What a plan doesn't ask doesn't matter.
+#[tactic(auto, using(crate::proofs::LawLemmas::only_asked))]
+pub fn only_asked_matters()
+    ensures { OnlyAskedMatters }
+{}

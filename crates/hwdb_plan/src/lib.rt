@@ -1,0 +1,24 @@
+//! Commands as plans: what is asked of the file system, what follows each answer, and what a run leaves then.
+//!
+//! A plan is data. A command's function follows its plan: it gives what the plan ends in. So what is so of all plans is so of all
+//! commands, and no law has a case for one of them.
+//!
+//! | File of `specs/` | Says |
+//! |---|---|
+//! | `Plans` | a plan, what it ends in, and when a result follows it |
+//! | `Ended` | what a run leaves whose plan ends so |
+//! | `Laws` | what is so of every plan |
+//! | `Asking` | the database that a command asks for, as the front of a plan |
+//! | `Verify`, `Dump` | the plans of these commands |
+//! | `Streams` | that of `query -` and `explain -` |
+//! | `Put` | the end of `update`'s |
+//!
+//! `laws` shows the laws.
+#![tactic(auto)]
+
+mod laws;
+
+pub use laws::{
+    answers_leave_all, done_is_one, only_asked_matters, over_is_no_more, over_is_over,
+    plans_end_alike,
+};
