@@ -11,7 +11,7 @@ use Rattle.hwdb_spec.specs.Undone.{IsUntold}
 pub record IsUpdatedTelling (root : List ℕ) (usr verbose strict skip : Bool) (status : ℕ) (before : Files) (err_before err_now : Told) (in_place : List ℕ → Type 0) : Type 0 where
   pub err_then : Told
   pub told : HasTaken (hiding_text usr verbose root before.seen) err_before err_then
-  pub updated : IsUpdatedLess root verbose strict skip status before err_then err_now in_place
+  pub updated : IsUpdatedLess root usr verbose strict skip status before err_then err_now in_place
 
 -- the line was said, and the update fails
 pub record IsRefusedTelling (root : List ℕ) (usr verbose skip : Bool) (refusal : Refusal) (before now : Files) (err_before err_now : Told) : Type 0 where

@@ -96,6 +96,8 @@ pub mod Tested
 pub mod TestErrors
 pub mod DeviceErrors
 pub mod Readable
+pub mod Commands
+pub mod Emptied
 pub mod HidingTold
 pub mod Reasons
 pub mod CheckedReasons

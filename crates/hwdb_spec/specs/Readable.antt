@@ -2,7 +2,8 @@
 -- first. What it leaves, and its errors. Our choice.
 use Rattle.std.specs.Prelude.{◌++◌, ◌≡◌, ◌⊎◌, All, Bool, List, ℕ}
 use Rattle.hwdb_spec.specs.Done.{IsUpdated}
-use Rattle.hwdb_spec.specs.Folders.{Choice, choice, path_of}
+use Rattle.hwdb_spec.specs.Emptied.{IsLossOf}
+use Rattle.hwdb_spec.specs.Folders.{Choice, choice, chosen_of, path_of}
 use Rattle.hwdb_spec.specs.LeftOut.{AreLeftOut, status_less, without}
 use Rattle.hwdb_spec.specs.Runs.{AreKept, Files, HasTaken, Told}
 use Rattle.hwdb_spec.specs.Store.{Contents}
@@ -20,17 +21,22 @@ pub record AreAllRead (root : List ℕ) (contents : Contents) : Type 0 where
   pub in_usr : AreNamesIn (usr_files root) contents usr
   pub read : All (λ (c : Choice). IsText contents (root ++ path_of c)) (choice etc usr)
 
--- The others were read. Standard error took the lines of the files that are left out, and then what an update of the others says that is done
-pub record IsUpdatedLess (root : List ℕ) (verbose strict skip : Bool) (status : ℕ) (before : Files) (err_before err_now : Told) (in_place : List ℕ → Type 0) : Type 0 where
+-- The others were read. Standard error took the lines of the files that are left out, those of what is lost, and then what an update of
+-- the others says that is done
+pub record IsUpdatedLess (root : List ℕ) (usr verbose strict skip : Bool) (status : ℕ) (before : Files) (err_before err_now : Told) (in_place : List ℕ → Type 0) : Type 0 where
   pub left_out : List Choice
   pub are : AreLeftOut skip before.fails root before.seen left_out
   pub said : List ℕ
   pub lines : AreTold root left_out said
   pub read : AreAllRead root (without left_out root before.seen)
+  pub err_said : Told
+  pub told : HasTaken said err_before err_said
+  pub loss : List ℕ
   pub err_then : Told
-  pub told : HasTaken said err_before err_then
+  pub told_loss : HasTaken loss err_said err_then
   pub plainly : ℕ
   pub updated : IsUpdated root verbose strict plainly (without left_out root before.seen) err_then.bytes err_now.bytes in_place
+  pub lost : IsLossOf (chosen_of updated.of_etc updated.of_usr) root usr before.seen loss
   pub answer : status ≡ status_less strict left_out plainly
 
 -- the lines were said, and the update of the others fails; or saying them did

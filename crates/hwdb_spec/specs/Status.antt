@@ -5,6 +5,7 @@ use Rattle.json.specs.Json.{Json, null}
 use Rattle.hwdb_spec.specs.Asked.{database_path}
 use Rattle.hwdb_spec.specs.Assignment.{ascending}
 use Rattle.hwdb_spec.specs.Checks.{count_text}
+use Rattle.hwdb_spec.specs.Commands.{update_words}
 use Rattle.hwdb_spec.specs.Differences.{Change, change_text, differences}
 use Rattle.hwdb_spec.specs.Folders.{AreAccepted, Choice, Source, chosen_of}
 use Rattle.hwdb_spec.specs.Format.{IsDatabase}
@@ -247,15 +248,6 @@ path_asked root false false = None
 abbrev pub path_hidden : (root : List ℕ) (etc usr : Bool) → Option (List ℕ)
 path_hidden root true true = Some (database_path true root)
 path_hidden root etc usr = None
-
--- a root as an option of the command; nothing if none was given
-abbrev pub root_words : (root : List ℕ) → List ℕ
-root_words [] = []
-root_words (b ∷ more) = codes " --root=" ++ b ∷ more
-
--- the command that makes the database of a folder anew
-abbrev pub update_words : (usr : Bool) (root : List ℕ) → List ℕ
-update_words usr root = codes "hwdb update" ++ ((if usr then codes " --usr" else []) ++ root_words root)
 
 -- The command after which the asked database is fresh and hides none. If there are two it makes that of /usr/lib anew, of the text
 -- files of both folders, and removes the one that hides it.

@@ -1,15 +1,16 @@
 -- The errors of each task, when each comes, and what it leaves. Our choice.
-use Rattle.std.specs.Prelude.{◌∷◌, ◌≡◌, ◌≢◌, ◌≤◌, ◌⊎◌, Bool, Contains, List, None, Option, Some, [], codes, false, length, true, ℕ}
+use Rattle.std.specs.Prelude.{◌++◌, ◌∷◌, ◌≡◌, ◌≢◌, ◌≤◌, ◌⊎◌, Bool, Contains, List, None, Option, Some, [], codes, false, length, true, ℕ}
 use Rattle.hwdb_spec.specs.Listings.{IsListBeginning, IsListRefusal}
 use Rattle.hwdb_spec.specs.UpdateErrors.{IsAskRefusal, IsUpdateRefusal, UpdateUndone}
 use Rattle.hwdb_spec.specs.CheckErrors.{IsCheckRefusal}
 use Rattle.hwdb_spec.specs.Asked.{IsAskedPath, IsListFrom, database_path}
 use Rattle.hwdb_spec.specs.Failures.{HasFailed}
-use Rattle.hwdb_spec.specs.Folders.{Source}
+use Rattle.hwdb_spec.specs.Emptied.{IsLossOf, IsLossUnseen}
+use Rattle.hwdb_spec.specs.Folders.{Source, chosen_of}
 use Rattle.hwdb_spec.specs.Given.{IsGiven, is_dash}
 use Rattle.hwdb_spec.specs.Outputs.{CutShortOne, Texts, TookOne}
 use Rattle.hwdb_spec.specs.Progress.{listing, update_text}
-use Rattle.hwdb_spec.specs.Runs.{AreKept, Files, PrintedPart, Told, WasCut}
+use Rattle.hwdb_spec.specs.Runs.{AreKept, Files, HasTaken, PrintedPart, Told, WasCut}
 use Rattle.hwdb_spec.specs.Store.{AreTaken, Contents, most_parts}
 use Rattle.hwdb_spec.specs.System.{AreFilesIn, asked_database, bytes_at, database_folder, etc_files, usr_files}
 use Rattle.hwdb_spec.specs.Texts.{max_file}
@@ -127,21 +128,23 @@ pub record AreNotChecked (Are : List Source → Type 0) (refusal : Refusal) : Ty
 abbrev pub IsCheckRefused : (Unread : Refusal → Type 0) (Are : List Source → Type 0) → Refusal → Type 0
 IsCheckRefused Unread Are refusal = Unread refusal ⊎ AreNotChecked Are refusal
 
--- compiling the files fails, or what is said of them can't be written: no file changed
-pub record IsUncompiled (of_etc of_usr : List Source) (listed : Option (List (List ℕ))) (refusal : Refusal) (before now : Files) (err_before err_now : Told) : Type 0 where
+-- compiling the files fails, or what is said of them can't be written, after what is lost: no file changed
+pub record IsUncompiled (loss : List ℕ) (of_etc of_usr : List Source) (listed : Option (List (List ℕ))) (refusal : Refusal) (before now : Files) (err_before err_now : Told) : Type 0 where
   pub error : ToolError
   pub is : refusal ≡ Plain error
   pub refused : IsUpdateRefusal of_etc of_usr max_file error
   pub kept : AreKept before now
   pub untouched : error ≢ Write → err_now ≡ err_before
-  pub cut : error ≡ Write → WasCut (update_text listed of_etc of_usr) err_before err_now
+  pub cut : error ≡ Write → WasCut (loss ++ update_text listed of_etc of_usr) err_before err_now
 
--- the database can't be replaced, after standard error took what is said of the files
-pub record IsUnwritten (root : List ℕ) (usr : Bool) (of_etc of_usr : List Source) (listed : Option (List (List ℕ))) (refusal : Refusal) (before now : Files) (err_before err_now : Told) : Type 0 where
+-- the database can't be replaced, after standard error took what is lost, and then what is said of the files
+pub record IsUnwritten (loss root : List ℕ) (usr : Bool) (of_etc of_usr : List Source) (listed : Option (List (List ℕ))) (refusal : Refusal) (before now : Files) (err_before err_now : Told) : Type 0 where
   pub unreplaced : Unreplaced
   pub is : IsOver Write (database_path usr root) refusal
-  pub undone : UpdateUndone of_etc of_usr listed (database_folder usr root) err_before.bytes err_now.bytes (Unit {0}) before.seen now.seen before.left now.left unreplaced
-  pub unfailed : err_now.failures ≡ err_before.failures
+  pub err_then : Told
+  pub told : HasTaken loss err_before err_then
+  pub undone : UpdateUndone of_etc of_usr listed (database_folder usr root) err_then.bytes err_now.bytes (Unit {0}) before.seen now.seen before.left now.left unreplaced
+  pub unfailed : err_now.failures ≡ err_then.failures
 
 -- the database of a folder can't be written: a call failed, or each name for the new file is taken
 abbrev pub IsUnwritable : (folder : List ℕ) → Contents → (failures_before failures_now : ℕ) → Type 0
@@ -153,14 +156,26 @@ pub record IsUpdateUndone (root : List ℕ) (usr verbose : Bool) (read : Content
   pub of_usr : List Source
   pub in_etc : AreFilesIn (etc_files root) read of_etc
   pub in_usr : AreFilesIn (usr_files root) read of_usr
-  pub refused : IsUncompiled of_etc of_usr (listing verbose of_usr) refusal before now err_before err_now
-      ⊎ IsUnwritten root usr of_etc of_usr (listing verbose of_usr) refusal before now err_before err_now
+  pub loss : List ℕ
+  pub lost : IsLossOf (chosen_of of_etc of_usr) root usr before.seen loss
+  pub refused : IsUncompiled loss of_etc of_usr (listing verbose of_usr) refusal before now err_before err_now
+      ⊎ IsUnwritten loss root usr of_etc of_usr (listing verbose of_usr) refusal before now err_before err_now
 
--- an update of files that were read fails: for want of memory, or for one of these
+-- these text files were read, of which there are none, and it can't be seen what is lost
+pub record IsUnseen (root : List ℕ) (read : Contents) (refusal : Refusal) (before now : Files) (err_before err_now : Told) : Type 0 where
+  pub of_etc : List Source
+  pub of_usr : List Source
+  pub in_etc : AreFilesIn (etc_files root) read of_etc
+  pub in_usr : AreFilesIn (usr_files root) read of_usr
+  pub unseen : IsLossUnseen (chosen_of of_etc of_usr) root before.seen refusal
+  pub kept : AreKept before now
+  pub untouched : err_now ≡ err_before
+
+-- an update of files that were read fails: for want of memory, since it can't be seen what is lost, or for one of these
 abbrev pub IsSelectedRefused : (root : List ℕ) (usr verbose : Bool) (read : Contents) → Refusal → (before now : Files) (err_before err_now : Told) → Type 0
 IsSelectedRefused root usr verbose read refusal before now err_before err_now =
     ((refusal ≡ Plain Memory) × AreKept before now × (err_now ≡ err_before))
-    ⊎ IsUpdateUndone root usr verbose read refusal before now err_before err_now
+    ⊎ (IsUnseen root read refusal before now err_before err_now ⊎ IsUpdateUndone root usr verbose read refusal before now err_before err_now)
 
 -- saying lines failed: for want of memory, or at standard error, which took a prefix
 abbrev pub IsUntold : (text : List ℕ) → Refusal → (err_before err_now : Told) → Type 0

@@ -103,6 +103,8 @@
 //! | `TestErrors` | what `test` refuses, and when |
 //! | `DeviceErrors` | what `device` asks sysfs, and its errors |
 //! | `Readable` | an update of the text files that can be read |
+//! | `Emptied` | if there are no text files: what `update` says of a database that it empties or hides, and which errors that gives |
+//! | `Commands` | the command that makes a database anew, as it is told |
 //! | `HidingTold` | an update, and before it the line on a database that hides the new one |
 //! | `Reasons` | what an error says of a file is so |
 //! | `CheckedReasons` | the same of `check` |

@@ -14,7 +14,8 @@ module _ (root : List ℕ) (usr strict : Bool) (before now : World) where
       (λ told. ⊎_elim (λ unread. unread.1)
       (λ less. ⊎_elim (λ unsaid. unsaid.1)
       (λ said. ⊎_elim (λ memory. memory.1)
-      (λ undone. ⊎_elim (λ uncompiled. uncompiled.kept) (λ unwritten. absurd unwritten.is) undone.refused) said.2) less.refused) told.refused) r.0
+      (λ more. ⊎_elim (λ unseen. unseen.kept)
+      (λ undone. ⊎_elim (λ uncompiled. uncompiled.kept) (λ unwritten. absurd unwritten.is) undone.refused) more) said.2) less.refused) told.refused) r.0
   cut_keeps task r = r.1
 
   -- the same of a task over the text files

@@ -49,7 +49,7 @@ use Rattle.hwdb_tool.proofs.RefusalLemmas.{NeverNamed}
 use Rattle.hwdb_tool.proofs.ComparedErrorLemmas.{Undiffed, diff_diff, diff_done, undiffed}
 use Rattle.hwdb_tool.proofs.OutcomeLemmas.{one_taken}
 use Rattle.hwdb_tool.proofs.TaskLemmas.{all_read}
-use Rattle.hwdb_tool.proofs.UpdateErrorLemmas.{Undated, undated, update_done, update_update}
+use Rattle.hwdb_tool.proofs.UpdateErrorLemmas.{Unupdated, undated, unupdated_one, updated_done}
 use Rattle.hwdb_tool.proofs.StatusErrorLemmas.{Unstated, status_done, status_status, unstated}
 use Rattle.hwdb_tool.proofs.TrialErrorLemmas.{Untested, test_done, test_test, untested}
 use Rattle.hwdb_tool.proofs.TextErrorLemmas.{Unchosen, Ungiven, chosen_chosen, chosen_done, given_done, given_given, never_unchecked, unchosen, ungiven}
@@ -174,7 +174,7 @@ module _ (header : OneHeader) (tree : OneTree) where
   Why fails U input files (Check paths allowed json) root r = Unchecked (map string_bytes paths.items) input files root r
   Why fails U input files (Near paths device limit json) root r = Uncompared (map string_bytes paths.items) input files root r
   Why fails U input files (Test paths database json) root r = Untested (map string_bytes paths.items) (option_map string_bytes database) input files root r
-  Why fails U input files (Update verbose skip) root r = Undated root files r
+  Why fails U input files (Update verbose skip) root r = Unupdated root files r
   Why fails U input files (Device path strings json pattern) root r = ⊥
   Why fails U input files (Status json quiet) root r = Unstated root files r
 
@@ -250,7 +250,7 @@ module _ (header : OneHeader) (tree : OneTree) where
         let asked = never_asked fails root before.files (λ p is. never p (inr is)) in
         (unstated fails Unwritable root before.files (λ p is. never p (inl is)) asked (never (database_path true root) (inr (inr refl))) r of listed not.1 found.0, left_then found.1 not.0.1.same)
     why (Update verbose skip) kind never named not =
-        let found = undated root usr verbose r of (scene_of fails left before).files (scene_of fails_now left_now now).files first before.err now.err skip fails Unwritable kind tells never listed not.1 not.0.0 in
+        let found = undated root usr verbose r of (scene_of fails left before).files (scene_of fails_now left_now now).files first before.err now.err skip fails Unwritable kind tells (λ p is. never p (inl is)) (λ p is. never p (inr is)) listed not.1 not.0.0 in
         (found.0, record { err = found.1.err; out = not.0.1; files = found.1.kept.same })
 
   -- two of them are one
@@ -268,7 +268,7 @@ module _ (header : OneHeader) (tree : OneTree) where
     one_why fails fails2 U U2 files root r r2 (Check paths allowed json) kind one two = check_check choice stand root files told (map string_bytes paths.items) r r2 one two
     one_why fails fails2 U U2 files root r r2 (Near paths device limit json) kind one two = near_near root files told (map string_bytes paths.items) r r2 one two
     one_why fails fails2 U U2 files root r r2 (Test paths database json) kind one two = test_test header (map string_bytes paths.items) (option_map string_bytes database) root files told r r2 one two
-    one_why fails fails2 U U2 files root r r2 (Update verbose skip) kind one two = update_update choice reading root files r r2 one two
+    one_why fails fails2 U U2 files root r r2 (Update verbose skip) kind one two = unupdated_one choice reading root files r r2 one two
     one_why fails fails2 U U2 files root r r2 (Device path strings json pattern) kind one two = absurd kind
     one_why fails fails2 U U2 files root r r2 (Status json quiet) kind one two = status_status choice reading form root files r r2 one two
 
@@ -344,9 +344,9 @@ module _ (header : OneHeader) (tree : OneTree) where
         let place : List ℕ → Type 0 = λ database. InPlace (database_folder usr root) database before.files.seen now.files.seen now.files.left in
         let less = done.0.updated in
         let none : less.left_out ≡ [] = less.are.asked_for kind in
-        update_done choice reading root before.files.seen form verbose strict status less.err_then.bytes now.err.bytes place r
+        updated_done choice reading root before.files.seen form usr verbose strict status less.loss less.err_then.bytes now.err.bytes place r
         (subst (λ (l : List Choice). AreAllRead root (without l root before.files.seen)) none less.read)
-        (all_read root verbose strict skip status before.files done.0.err_then now.err place (inl kind) less) not
+        (all_read root usr verbose strict skip status before.files done.0.err_then now.err place (inl kind) less) not
 
   pub done_is_no_error : ListingsGiveOneChoice → ListingsGiveOneReading → OneStand → OneForm → (fails fails_now fails2 fails2_now : List ℕ → Type 0) (left left_now left2 left2_now : Outcomes) → DoneEndsSo IsCovered fails fails_now fails2 fails2_now left left_now left2 left2_now
   done_is_no_error choice reading stand form fails fails_now fails2 fails2_now left left_now left2 left2_now = λ task root usr strict status r before now before2 now2 kind input is done not.

@@ -1,5 +1,5 @@
 -- Each task is a function.
-use Rattle.std.proofs.Common.{◌≡◌, ◌∙◌, inl, inr, ap, refl, sym, subst, Bool, true, false, if◌then◌else◌, List, [], ◌∷◌, ◌++◌, map, ℕ, Option, Some, None, string_bytes, All}
+use Rattle.std.proofs.Common.{◌≡◌, ◌∙◌, append_assoc, inl, inr, ap, refl, sym, subst, Bool, true, false, if◌then◌else◌, List, [], ◌∷◌, ◌++◌, map, ℕ, Option, Some, None, string_bytes, All}
 use Rattle.std.specs.Prelude.{option_map}
 use Rattle.std.specs.Option.{option_map_or}
 use Rattle.std.specs.Io.KnownBytes.{Appends}
@@ -11,7 +11,8 @@ use Rattle.hwdb_spec.specs.Assignment.{Position}
 use Rattle.hwdb_spec.specs.Checks.{check_status, check_text, empty_tally, tally_from}
 use Rattle.hwdb_spec.specs.Comparisons.{comparison_form, devices_named, has_changed}
 use Rattle.hwdb_spec.specs.Dump.{dump_text}
-use Rattle.hwdb_spec.specs.Folders.{Choice, Source, choice, path_of}
+use Rattle.hwdb_spec.specs.Emptied.{IsLossOf}
+use Rattle.hwdb_spec.specs.Folders.{Choice, Source, choice, chosen_of, path_of}
 use Rattle.hwdb_spec.specs.Format.{IsDatabase}
 use Rattle.std.proofs.lemmas.List.{append-nil}
 use Rattle.std.proofs.lemmas.List.Elements.{All-head, All-tail}
@@ -48,6 +49,7 @@ use Rattle.hwdb_spec.specs.Queries.{AreAnsweredFrom, IfNamed}
 use Rattle.hwdb_spec.specs.LoneFile.{lone}
 use Rattle.hwdb_tool.specs.OneOutcome.{AnswersAreOne, IsFunction, IsOneAnswer, IsOneInput, IsOneOutcome, LeavesNothingOut, Scene, scene_of, ListingsGiveOneChoice, ListingsGiveOneReading}
 use Rattle.hwdb_tool.proofs.SideLemmas.{OneSideFiles, one_side}
+use Rattle.hwdb_tool.proofs.EmptyingLemmas.{one_loss_of}
 use Rattle.hwdb_tool.proofs.StatusLemmas.{one_status_text}
 use Rattle.hwdb_tool.proofs.OutcomeLemmas.{one_answer, one_held, one_kept, one_map, one_place, one_said, one_status, one_taken, one_taken_then, one_text}
 
@@ -105,18 +107,33 @@ all_said first None then_ hid said none told more = absurd told
 all_said first (Some xs) None hid said none told more = absurd more
 all_said first (Some xs) (Some ys) hid said none told more = more ∙ ap (λ (t : List ℕ). xs ++ t) none ∙ append-nil xs ∙ told
 
-pub all_read : (root : List ℕ) (verbose strict skip : Bool) (status : ℕ) (old : Files) (before now : Told) (in_place : List ℕ → Type 0)
-    → LeavesNothingOut old.fails (Update verbose skip) → (less : IsUpdatedLess root verbose strict skip status old before now in_place) → IsUpdated root verbose strict status old.seen less.err_then.bytes now.bytes in_place
-all_read root verbose strict skip status old before now in_place nothing less =
+-- what an update says that is done, and what is lost by it
+pub record IsUpdatedLosing (root : List ℕ) (usr verbose strict : Bool) (status : ℕ) (read seen : Contents) (loss : List ℕ) (err_before err_now : Option (List ℕ)) (in_place : List ℕ → Type 0) : Type 0 where
+  pub updated : IsUpdated root verbose strict status read err_before err_now in_place
+  pub lost : IsLossOf (chosen_of updated.of_etc updated.of_usr) root usr seen loss
+
+pub all_read : (root : List ℕ) (usr verbose strict skip : Bool) (status : ℕ) (old : Files) (before now : Told) (in_place : List ℕ → Type 0)
+    → LeavesNothingOut old.fails (Update verbose skip) → (less : IsUpdatedLess root usr verbose strict skip status old before now in_place)
+    → IsUpdatedLosing root usr verbose strict status old.seen old.seen less.loss less.err_then.bytes now.bytes in_place
+all_read root usr verbose strict skip status old before now in_place nothing less =
     let none = nothing_out old.fails verbose skip root old.seen less.left_out nothing less.are in
     let answer : less.plainly ≡ status = sym (less.answer ∙ none_status strict less.left_out less.plainly none) in
-    subst (λ (s : ℕ). IsUpdated root verbose strict s old.seen less.err_then.bytes now.bytes in_place) answer
-    (subst (λ (l : List Choice). IsUpdated root verbose strict less.plainly (without l root old.seen) less.err_then.bytes now.bytes in_place) none less.updated)
+    subst (λ (s : ℕ). IsUpdatedLosing root usr verbose strict s old.seen old.seen less.loss less.err_then.bytes now.bytes in_place) answer
+    (subst (λ (l : List Choice). IsUpdatedLosing root usr verbose strict less.plainly (without l root old.seen) old.seen less.loss less.err_then.bytes now.bytes in_place) none
+    (record { updated = less.updated; lost = less.lost }))
 
-all_told : (root : List ℕ) (verbose strict skip : Bool) (status : ℕ) (old : Files) (first : List ℕ) (before now : Told) (hid : List ℕ) (in_place : List ℕ → Type 0)
-    → LeavesNothingOut old.fails (Update verbose skip) → Appends (Some first) before.bytes hid → (less : IsUpdatedLess root verbose strict skip status old before now in_place) → Appends (Some first) less.err_then.bytes hid
-all_told root verbose strict skip status old first before now hid in_place nothing told less =
-    all_said first before.bytes less.err_then.bytes hid less.said (none_said root less.left_out less.said (nothing_out old.fails verbose skip root old.seen less.left_out nothing less.are) less.lines) told less.told.whole
+-- what is lost was said after that
+more_told : (first : List ℕ) (then_ now : Option (List ℕ)) (hid loss : List ℕ) → Appends (Some first) then_ hid → Appends then_ now loss → Appends (Some first) now (hid ++ loss)
+more_told first None now hid loss told more = absurd told
+more_told first (Some xs) None hid loss told more = absurd more
+more_told first (Some xs) (Some ys) hid loss told more = more ∙ ap (λ (t : List ℕ). t ++ loss) told ∙ append_assoc first hid loss
+
+all_told : (root : List ℕ) (usr verbose strict skip : Bool) (status : ℕ) (old : Files) (first : List ℕ) (before now : Told) (hid : List ℕ) (in_place : List ℕ → Type 0)
+    → LeavesNothingOut old.fails (Update verbose skip) → Appends (Some first) before.bytes hid → (less : IsUpdatedLess root usr verbose strict skip status old before now in_place) → Appends (Some first) less.err_then.bytes (hid ++ less.loss)
+all_told root usr verbose strict skip status old first before now hid in_place nothing told less =
+    more_told first less.err_said.bytes less.err_then.bytes hid less.loss
+    (all_said first before.bytes less.err_said.bytes hid less.said (none_said root less.left_out less.said (nothing_out old.fails verbose skip root old.seen less.left_out nothing less.are) less.lines) told less.told.whole)
+    less.told_loss.whole
 
 abbrev IsHeld : (input : List ℕ) (files : Contents) → Source → Type 0
 IsHeld input files s = IsGiven s.name (Some input) files s.bytes
@@ -335,20 +352,25 @@ module _ (tree : (bytes : List ℕ) (t u : Tree) → IsDatabase bytes t → IsDa
   -- an update of all files
   module _ (left left2 : Outcomes) where
     one_update : (root : List ℕ) (usr verbose strict : Bool) (status status2 : ℕ) (old : Contents) (now now2 : Scene) (err_before : List ℕ) (err_then err_then2 : Option (List ℕ))
-        → IsUpdated root verbose strict status old err_then now.err.bytes (λ database. InPlace (database_folder usr root) database old now.files left)
-        → IsUpdated root verbose strict status2 old err_then2 now2.err.bytes (λ database. InPlace (database_folder usr root) database old now2.files left2)
-        → Appends (Some err_before) err_then (hiding_text usr verbose root old) → Appends (Some err_before) err_then2 (hiding_text usr verbose root old)
+        → (loss loss2 : List ℕ)
+        → IsUpdatedLosing root usr verbose strict status old old loss err_then now.err.bytes (λ database. InPlace (database_folder usr root) database old now.files left)
+        → IsUpdatedLosing root usr verbose strict status2 old old loss2 err_then2 now2.err.bytes (λ database. InPlace (database_folder usr root) database old now2.files left2)
+        → Appends (Some err_before) err_then (hiding_text usr verbose root old ++ loss) → Appends (Some err_before) err_then2 (hiding_text usr verbose root old ++ loss2)
         → now.out.bytes ≡ now2.out.bytes → IsOneOutcome (database_folder usr root) status status2 now now2
-    one_update root usr verbose strict status status2 old now now2 err_before err_then err_then2 a b told told2 same_out =
+    one_update root usr verbose strict status status2 old now now2 err_before err_then err_then2 loss loss2 losing losing2 told told2 same_out =
+        let a = losing.updated in
+        let b = losing2.updated in
         let reading = one_reading root old a.of_etc a.of_usr b.of_etc b.of_usr a.in_etc a.in_usr b.in_etc b.in_usr in
+        let one : loss ≡ loss2 = one_loss_of (chosen_of a.of_etc a.of_usr) (chosen_of b.of_etc b.of_usr) root usr old loss loss2 reading.chosen losing.lost losing2.lost in
         let same = form (map_of_files a.of_etc a.of_usr) a.updated.database b.updated.database a.updated.written
         (subst (λ m. IsWritten m b.updated.database) (sym (one_map a.of_etc a.of_usr b.of_etc b.of_usr reading)) b.updated.written) in
         record {
           one_status = a.updated.answer ∙ one_status a.of_etc a.of_usr b.of_etc b.of_usr reading strict ∙ sym b.updated.answer;
           one_files = one_place (database_folder usr root) a.updated.database b.updated.database old now.files now2.files left left2 same a.updated.stored b.updated.stored;
-          one_err = one_taken_then err_before err_then err_then2 now.err.bytes now2.err.bytes (hiding_text usr verbose root old)
+          one_err = one_taken_then err_before err_then err_then2 now.err.bytes now2.err.bytes (hiding_text usr verbose root old ++ loss)
               (update_text (listing verbose a.of_usr) a.of_etc a.of_usr) (update_text (listing verbose b.of_usr) b.of_etc b.of_usr)
-              (one_said a.of_etc a.of_usr b.of_etc b.of_usr reading verbose) told told2 a.updated.told b.updated.told;
+              (one_said a.of_etc a.of_usr b.of_etc b.of_usr reading verbose) told
+              (subst (λ (l : List ℕ). Appends (Some err_before) err_then2 (hiding_text usr verbose root old ++ l)) (sym one) told2) a.updated.told b.updated.told;
           one_out = same_out;
         }
 
@@ -368,10 +390,11 @@ module _ (tree : (bytes : List ℕ) (t u : Tree) → IsDatabase bytes t → IsDa
         let told = subst (λ (o : Option (List ℕ)). Appends o one.0.err_then.bytes hid) input.err.of_one one.0.told.whole in
         let told2 = subst (λ (o : Option (List ℕ)). Appends o two.0.err_then.bytes hid) input.err.of_two two.0.told.whole in
         one_update left_now left2_now root usr verbose strict status status2 old now now2 input.err.bytes one.0.updated.err_then.bytes two.0.updated.err_then.bytes
-        (all_read root verbose strict skip status first one.0.err_then now.err place nothing one.0.updated)
-        (all_read root verbose strict skip status2 second two.0.err_then now2.err place2 nothing2 two.0.updated)
-        (all_told root verbose strict skip status first input.err.bytes one.0.err_then now.err hid place nothing told one.0.updated)
-        (all_told root verbose strict skip status2 second input.err.bytes two.0.err_then now2.err hid place2 nothing2 told2 two.0.updated)
+        one.0.updated.loss two.0.updated.loss
+        (all_read root usr verbose strict skip status first one.0.err_then now.err place nothing one.0.updated)
+        (all_read root usr verbose strict skip status2 second two.0.err_then now2.err place2 nothing2 two.0.updated)
+        (all_told root usr verbose strict skip status first input.err.bytes one.0.err_then now.err hid place nothing told one.0.updated)
+        (all_told root usr verbose strict skip status2 second input.err.bytes two.0.err_then now2.err hid place2 nothing2 told2 two.0.updated)
         (ap (λ (t : Told). t.bytes) one.1 ∙ input.out.of_one ∙ sym (ap (λ (t : Told). t.bytes) two.1 ∙ input.out.of_two))
     each (Device path strings json pattern) = λ root usr strict status status2 before now before2 now2 input nothing nothing2 one two.
         let kind = device_form strings json pattern in

@@ -1,11 +1,13 @@
 -- Errors of an update over what it reads: each comes alone.
-use Rattle.std.proofs.Common.{◌≡◌, ◌≤◌, ◌<◌, ◌⊎◌, ◌∙◌, ◌++◌, inl, inr, ⊎_elim, ap, sym, subst, refl, arith, ℕ, Bool, true, false, List, [], ◌∷◌, length, map, Option, Some}
+use Rattle.std.proofs.Common.{◌≡◌, ◌≤◌, ◌<◌, ◌⊎◌, ◌∙◌, ◌++◌, inl, inr, ⊎_elim, ap, sym, subst, refl, arith, ℕ, Bool, true, false, List, [], ◌∷◌, length, map, Option, Some, None, IfSome}
 use Rattle.std.proofs.lemmas.List.{length-map}
 use Rattle.std.proofs.lemmas.List.Elements.{All-contains, Contains-append_right}
 use Rattle.std.specs.Io.KnownBytes.{Appends}
 use Rattle.std.specs.Prelude.{Contains}
 use Rattle.hwdb_spec.specs.Done.{IsUpdated}
 use Rattle.hwdb_spec.specs.Folders.{AreAccepted, Choice, HaveManyLines, Source, chosen_of, choice, contents, max_files, max_lines, names, path_of}
+use Rattle.hwdb_spec.specs.Asked.{database_path}
+use Rattle.hwdb_spec.specs.Emptied.{IsShort}
 use Rattle.hwdb_spec.specs.Hiding.{hiding_text}
 use Rattle.hwdb_spec.specs.LeftOut.{without}
 use Rattle.hwdb_spec.specs.Lines.{lines}
@@ -24,12 +26,14 @@ use Rattle.hwdb_spec.specs.declared.errors.ToolError.{ToolError}
 use Rattle.hwdb_spec.specs.declared.errors.ToolError.TheVariants.{Read, Write, TooLong, TooManyFiles, TooManyLines, TooLarge, BadPosition, BadDatabase, Replace, Memory}
 use Rattle.hwdb_spec.specs.HidingTold.{IsTellingUpdateRefused}
 use Rattle.hwdb_tool.specs.OneOutcome.{IsOneReading, ListingsGiveOneChoice, ListingsGiveOneReading}
-use Rattle.hwdb_tool.specs.OneRefusal.{IsOfFolders, IsOfListing, IsOfWhatIsRead, IsOneError}
+use Rattle.hwdb_tool.specs.OneRefusal.{IsOfDatabase, IsOfFolders, IsOfListing, IsOfWhatIsRead, IsOneError}
 use Rattle.hwdb_spec.specs.Readable.{AreAllRead, IsRefusedAfter, IsRefusedLess, IsUpdateRefused}
 use Rattle.hwdb_spec.specs.Undone.{IsSelectedRefused, IsUntold, IsUpdateUndone}
 use Rattle.hwdb_tool.proofs.AskErrorLemmas.{OneForm}
 use Rattle.hwdb_tool.proofs.OutcomeLemmas.{one_map}
-use Rattle.hwdb_tool.proofs.TaskLemmas.{all_said, none_said}
+use Rattle.hwdb_tool.proofs.EmptyingLemmas.{shorts_of}
+use Rattle.hwdb_tool.proofs.RefusalLemmas.{IsLongAt, over_over, unread_there}
+use Rattle.hwdb_tool.proofs.TaskLemmas.{IsUpdatedLosing, all_said, none_said}
 use Rattle.hwdb_tool.proofs.TextErrorLemmas.{AreTooMany, IsChosenLong, Unchosen, chosen_chosen, not_text, unchosen}
 
 -- too many files are chosen, or one has too many lines, or their database is too large
@@ -47,6 +51,25 @@ pub record IsUncompiledAll (root : List ℕ) (files : Contents) (r : Refusal) : 
   pub in_usr : AreFilesIn (usr_files root) files of_usr
   pub much : ((r ≡ Plain TooManyFiles) × (max_files < length (chosen_of of_etc of_usr)))
       ⊎ (((r ≡ Plain TooManyLines) × HaveManyLines of_etc of_usr) ⊎ ((r ≡ Plain TooLarge) × IsTooLarge of_etc of_usr max_file))
+
+-- the same, and it was seen what is lost, if there are none
+pub record IsUncompiledKnown (root : List ℕ) (files : Contents) (r : Refusal) : Type 0 where
+  pub is : IsUncompiledAll root files r
+  pub known : chosen_of is.of_etc is.of_usr ≡ [] → IsShort false root files × IsShort true root files
+
+-- there are none, and one of both databases is too long
+pub record IsUnseenLong (root : List ℕ) (files : Contents) (r : Refusal) : Type 0 where
+  pub all : AreAllRead root files
+  pub of_etc : List Source
+  pub of_usr : List Source
+  pub in_etc : AreFilesIn (etc_files root) files of_etc
+  pub in_usr : AreFilesIn (usr_files root) files of_usr
+  pub none : chosen_of of_etc of_usr ≡ []
+  pub long : IsLongAt files (database_path false root) r ⊎ (IsShort false root files × IsLongAt files (database_path true root) r)
+
+-- an update isn't done
+abbrev pub Unupdated : (root : List ℕ) → Contents → Refusal → Type 0
+Unupdated root files r = Unchosen root files r ⊎ (IsUncompiledKnown root files r ⊎ IsUnseenLong root files r)
 
 abbrev pub Undated : (root : List ℕ) → Contents → Refusal → Type 0
 Undated root files r = Unchosen root files r ⊎ IsUncompiledAll root files r
@@ -73,14 +96,17 @@ over_write path NoDatabase over of = over
 over_write path (InWords text) over of = over
 
 module _ (root : List ℕ) (usr verbose : Bool) (r : Refusal) (of : IsOfWhatIsRead r) (before now : Files) where
-  module _ (first hid : List ℕ) (err_now : Told) where
+  module _ (fails : List ℕ → Type 0) (U : Type 0) (places : (path : List ℕ) → IsOfDatabase None root path → fails path → ⊥) (reason : HasReason fails U before.seen r) (first hid : List ℕ) (err_now : Told) where
     abbrev Ends : Type 0
-    Ends = IsUncompiledAll root before.seen r × IsLeftUndated first hid before now err_now
+    Ends = (IsUncompiledKnown root before.seen r ⊎ IsUnseenLong root before.seen r) × IsLeftUndated first hid before now err_now
 
     compiled : (err_said : Told) → Appends (Some first) err_said.bytes hid → AreAllRead root before.seen → IsUpdateUndone root usr verbose before.seen r before now err_said err_now → Ends
     compiled err_said told all undone =
         ⊎_elim (λ un. (
-          record { all = all; of_etc = undone.of_etc; of_usr = undone.of_usr; in_etc = undone.in_etc; in_usr = undone.in_usr; much = much un.error un.is un.refused },
+          inl (record {
+            is = record { all = all; of_etc = undone.of_etc; of_usr = undone.of_usr; in_etc = undone.in_etc; in_usr = undone.in_usr; much = much un.error un.is un.refused };
+            known = shorts_of (chosen_of undone.of_etc undone.of_usr) root usr before.seen undone.loss undone.lost;
+          }),
           record {
             err = subst (λ (t : Told). Appends (Some first) t.bytes hid) (sym (un.untouched (λ w. of_write r (un.is ∙ ap Plain w) of))) told;
             kept = un.kept;
@@ -101,7 +127,20 @@ module _ (root : List ℕ) (usr verbose : Bool) (r : Refusal) (of : IsOfWhatIsRe
 
     selected : (err_said : Told) → Appends (Some first) err_said.bytes hid → AreAllRead root before.seen → IsSelectedRefused root usr verbose before.seen r before now err_said err_now → Ends
     selected err_said told all (inl memory) = absurd (of_memory r memory.0 of)
-    selected err_said told all (inr undone) = compiled err_said told all undone
+    selected err_said told all (inr (inl un)) = (
+      inr (record {
+        all = all;
+        of_etc = un.of_etc;
+        of_usr = un.of_usr;
+        in_etc = un.in_etc;
+        in_usr = un.in_usr;
+        none = un.unseen.0;
+        long = ⊎_elim (λ etc. inl (unread_there fails U before.seen (database_path false root) (places (database_path false root) (inl refl)) r etc reason of))
+            (λ lib. inr (lib.0, unread_there fails U before.seen (database_path true root) (places (database_path true root) (inr refl)) r lib.1 reason of)) un.unseen.1;
+      }),
+      record { err = subst (λ (t : Told). Appends (Some first) t.bytes hid) (sym un.untouched) told; kept = un.kept },
+    )
+    selected err_said told all (inr (inr undone)) = compiled err_said told all undone
 
     after : (said : List ℕ) (err_then : Told) → said ≡ [] → Appends (Some first) err_then.bytes hid → AreAllRead root before.seen
         → IsRefusedAfter said root usr verbose before.seen r before now err_then err_now → Ends
@@ -120,8 +159,8 @@ module _ (root : List ℕ) (usr verbose : Bool) (r : Refusal) (of : IsOfWhatIsRe
       of_plain true files is unread = absurd cc
       of_plain false files is unread = unread
 
-      module _ (fails : List ℕ → Type 0) (U : Type 0) (never : (path : List ℕ) → IsOfFolders root path → fails path → ⊥) (listed : IsOfListing root r → ⊥) (reason : HasReason fails U before.seen r) where
-        update : IsUpdateRefused root usr verbose skip r before now err_then err_now → Undated root before.seen r × IsLeftUndated first hid before now err_now
+      module _ (never : (path : List ℕ) → IsOfFolders root path → fails path → ⊥) (listed : IsOfListing root r → ⊥) where
+        update : IsUpdateRefused root usr verbose skip r before now err_then err_now → Unupdated root before.seen r × IsLeftUndated first hid before now err_now
         update (inl unread) =
             let none : unread.0.0 ≡ [] = unread.0.1.asked_for plain in (
               inl (unchosen root before.seen fails U never r
@@ -131,13 +170,13 @@ module _ (root : List ℕ) (usr verbose : Bool) (r : Refusal) (of : IsOfWhatIsRe
         update (inr refused) = let end = less refused in (inr end.0, end.1)
 
   pub undated : (first : List ℕ) (err_before err_now : Told) (skip : Bool) (fails : List ℕ → Type 0) (U : Type 0) → skip ≡ false → err_before.bytes ≡ Some first
-      → ((path : List ℕ) → IsOfFolders root path → fails path → ⊥) → (IsOfListing root r → ⊥) → HasReason fails U before.seen r
-      → IsTellingUpdateRefused root usr verbose skip r before now err_before err_now → Undated root before.seen r × IsLeftUndated first (hiding_text usr verbose root before.seen) before now err_now
-  undated first err_before err_now skip fails U plain is never listed reason (inl untold) = absurd (of_untold (hiding_text usr verbose root before.seen) r err_before err_now untold.0 of)
-  undated first err_before err_now skip fails U plain is never listed reason (inr tell) =
-      update first (hiding_text usr verbose root before.seen) err_now skip plain tell.err_then
+      → ((path : List ℕ) → IsOfFolders root path → fails path → ⊥) → ((path : List ℕ) → IsOfDatabase None root path → fails path → ⊥) → (IsOfListing root r → ⊥) → HasReason fails U before.seen r
+      → IsTellingUpdateRefused root usr verbose skip r before now err_before err_now → Unupdated root before.seen r × IsLeftUndated first (hiding_text usr verbose root before.seen) before now err_now
+  undated first err_before err_now skip fails U plain is never places listed reason (inl untold) = absurd (of_untold (hiding_text usr verbose root before.seen) r err_before err_now untold.0 of)
+  undated first err_before err_now skip fails U plain is never places listed reason (inr tell) =
+      update fails U places reason first (hiding_text usr verbose root before.seen) err_now skip plain tell.err_then
       (subst (λ (o : Option (List ℕ)). Appends o tell.err_then.bytes (hiding_text usr verbose root before.seen)) is tell.told.whole)
-      fails U never listed reason tell.refused
+      never listed tell.refused
 
 -- one has too many lines, or none has
 pub lines_or_few : (etc usr etc2 usr2 : List Source) → IsOneReading etc usr etc2 usr2 → HaveManyLines etc usr → AreAccepted etc2 usr2 → ⊥
@@ -236,3 +275,56 @@ module _ (choices : ListingsGiveOneChoice) (readings : ListingsGiveOneReading) (
       → AreAllRead root files → IsUpdated root verbose strict status files err_before err_now place → Undated root files r → ⊥
   update_done form verbose strict status eb en place r all done =
       made_or_undated form done.of_etc done.of_usr done.updated.database done.in_etc done.in_usr all done.updated.accepted done.updated.written done.updated.within r
+
+  -- ---- an update that isn't done
+
+  short_long : (usr : Bool) (r : Refusal) → IsShort usr root files → IsLongAt files (database_path usr root) r → ⊥
+  short_long usr r short long =
+      let within : length long.bytes ≤ max_file = subst (λ (o : Option (List ℕ)). IfSome o (λ b. length b ≤ max_file)) long.held short in
+      let more = long.long in
+      omega (arith, within, more)
+
+  none_long : (r r2 : Refusal) → Unchosen root files r → IsUnseenLong root files r2 → ⊥
+  none_long r r2 (inl many) two =
+      let size : length (chosen_of two.of_etc two.of_usr) ≡ 0 = ap length two.none in
+      let few : length (chosen_of two.of_etc two.of_usr) ≤ max_files = omega (arith, size) in
+      many_or_few r two.of_etc two.of_usr many two.in_etc two.in_usr few
+  none_long r r2 (inr long) two = long_or_read r long two.all
+
+  known_long : (r r2 : Refusal) → IsUncompiledKnown root files r → IsUnseenLong root files r2 → ⊥
+  known_long r r2 one two =
+      let un = one.is in
+      let reading = readings root files un.of_etc un.of_usr two.of_etc two.of_usr un.in_etc un.in_usr two.in_etc two.in_usr in
+      let short = one.known (reading.chosen ∙ two.none) in
+      ⊎_elim (λ etc. short_long false r2 short.0 etc) (λ lib. short_long true r2 short.1 lib.1) two.long
+
+  long_long : (r r2 : Refusal) → IsUnseenLong root files r → IsUnseenLong root files r2 → IsOneError r r2
+  long_long r r2 one two = go one.long two.long
+    where
+      go : IsLongAt files (database_path false root) r ⊎ (IsShort false root files × IsLongAt files (database_path true root) r)
+          → IsLongAt files (database_path false root) r2 ⊎ (IsShort false root files × IsLongAt files (database_path true root) r2) → IsOneError r r2
+      go (inl a) (inl b) = over_over TooLong TooLong (database_path false root) (database_path false root) r r2 a.over b.over refl refl
+      go (inl a) (inr b) = absurd (short_long false r b.0 a)
+      go (inr a) (inl b) = absurd (short_long false r2 a.0 b)
+      go (inr a) (inr b) = over_over TooLong TooLong (database_path true root) (database_path true root) r r2 a.1.over b.1.over refl refl
+
+  pub unupdated_one : (r r2 : Refusal) → Unupdated root files r → Unupdated root files r2 → IsOneError r r2
+  unupdated_one r r2 (inl one) (inl two) = chosen_chosen root files choices r r2 one two
+  unupdated_one r r2 (inl one) (inr (inl two)) = unchosen_uncompiled r r2 one two.is
+  unupdated_one r r2 (inl one) (inr (inr two)) = absurd (none_long r r2 one two)
+  unupdated_one r r2 (inr (inl one)) (inl two) = uncompiled_unchosen r r2 one.is two
+  unupdated_one r r2 (inr (inl one)) (inr (inl two)) = update_update r r2 (inr one.is) (inr two.is)
+  unupdated_one r r2 (inr (inl one)) (inr (inr two)) = absurd (known_long r r2 one two)
+  unupdated_one r r2 (inr (inr one)) (inl two) = absurd (none_long r2 r two one)
+  unupdated_one r r2 (inr (inr one)) (inr (inl two)) = absurd (known_long r2 r two one)
+  unupdated_one r r2 (inr (inr one)) (inr (inr two)) = long_long r r2 one two
+
+  pub updated_done : OneForm → (usr verbose strict : Bool) (status : ℕ) (loss : List ℕ) (err_before err_now : Option (List ℕ)) (place : List ℕ → Type 0) (r : Refusal)
+      → AreAllRead root files → IsUpdatedLosing root usr verbose strict status files files loss err_before err_now place → Unupdated root files r → ⊥
+  updated_done form usr verbose strict status loss eb en place r all done (inl un) = update_done form verbose strict status eb en place r all done.updated (inl un)
+  updated_done form usr verbose strict status loss eb en place r all done (inr (inl un)) = update_done form verbose strict status eb en place r all done.updated (inr un.is)
+  updated_done form usr verbose strict status loss eb en place r all done (inr (inr un)) =
+      let is = done.updated in
+      let reading = readings root files is.of_etc is.of_usr un.of_etc un.of_usr is.in_etc is.in_usr un.in_etc un.in_usr in
+      let short = shorts_of (chosen_of is.of_etc is.of_usr) root usr files loss done.lost (reading.chosen ∙ un.none) in
+      ⊎_elim (λ etc. short_long false r short.0 etc) (λ lib. short_long true r short.1 lib.1) un.long

@@ -1,7 +1,9 @@
 -- An update that is refused after its files were read.
 use Rattle.std.specs.Io.KnownBytes.{Appends}
-use Rattle.std.proofs.Common.{◌≡◌, ◌≢◌, inl, inr, ap, subst, sym, refl, ℕ, Bool, List, Result, Ok, Err, IfErr}
+use Rattle.std.proofs.Common.{◌≡◌, ◌≢◌, ◌++◌, inl, inr, ap, subst, sym, refl, ℕ, Bool, List, Result, Ok, Err, IfErr}
 use Rattle.hwdb_spec.specs.Runs.{AreKept, Files, Told, WasCut}
+use Rattle.hwdb_spec.specs.Emptied.{IsLossOf}
+use Rattle.hwdb_spec.specs.Folders.{chosen_of}
 use Rattle.hwdb_spec.specs.Store.{Contents}
 use Rattle.hwdb_spec.specs.System.{database_folder}
 use Rattle.hwdb_spec.specs.Progress.{given_where, update_text}
@@ -12,6 +14,7 @@ use Rattle.hwdb_compile.specs.Views.{ForFolders}
 use Rattle.hwdb_spec.specs.UpdateErrors.{IsUpdateRefusal, OnUnreplaced, UpdateUndone}
 use Rattle.hwdb_spec.specs.declared.errors.ToolError.{ToolError}
 use Rattle.hwdb_spec.specs.declared.errors.ToolError.TheVariants.{Read, Write, TooLong, TooManyFiles, TooManyLines, TooLarge, BadPosition, BadDatabase, Replace, Memory}
+use Rattle.hwdb_tool.specs.Emptying.{AfterLoss}
 use Rattle.hwdb_tool.specs.Internal.{AreReadOf}
 use Rattle.hwdb_spec.specs.Refusals.{HasReason, IsOfUpdate}
 use Rattle.hwdb_spec.specs.Undone.{IsSelectedRefused}
@@ -77,13 +80,15 @@ module _ {S W : Type 0} (store : S → Files) (told : W → Told) (old new : S) 
   Refused refusal = IsSelectedRefused root usr verbose read_from refusal (store old) (store new) (told err_old) (told err_new)
 
   -- an error of compiling
-  plain : AreReadOf root read_from listed files → (error : ToolError) (refusal : Refusal) → refusal ≡ Plain error
+  plain : (read : AreReadOf root read_from listed files) (loss : List ℕ) → IsLossOf (chosen_of read.of_etc read.of_usr) root usr (store old).seen loss → (error : ToolError) (refusal : Refusal) → refusal ≡ Plain error
       → ForFolders files (λ e u. IsUpdateRefusal e u max_file error) → error ≢ Write → (err_new ≡ err_old) × (new ≡ old) → Refused refusal
-  plain read error refusal is refused other same = inr record {
+  plain read loss lost error refusal is refused other same = inr (inr record {
     of_etc = read.of_etc;
     of_usr = read.of_usr;
     in_etc = read.in_etc;
     in_usr = read.in_usr;
+    loss = loss;
+    lost = lost;
     refused = inl record {
       error = error;
       is = is;
@@ -92,54 +97,62 @@ module _ {S W : Type 0} (store : S → Files) (told : W → Told) (old new : S) 
       untouched = λ _. ap told same.0;
       cut = λ w. absurd (other w);
     };
-  }
+  })
 
-  pub update_refused : tells → AreReadOf root read_from listed files → (error : ToolError) (refusal : Refusal) → IsOfUpdate error (database_path usr root) refusal
+  pub update_refused : tells → (read : AreReadOf root read_from listed files) (loss : List ℕ) → IsLossOf (chosen_of read.of_etc read.of_usr) root usr (store old).seen loss
+      → (error : ToolError) (refusal : Refusal) → IsOfUpdate error (database_path usr root) refusal
       → ForFolders files (λ e u. IsUpdateRefusal e u max_file error)
-      → OnUnreplaced (λ u. ((told err_new).failures ≡ (told err_old).failures) × ForFolders files (λ e r. UpdateUndone e r (given_where verbose listed) (database_folder usr root) (told err_old).bytes (told err_new).bytes tells (store old).seen (store new).seen (store old).left (store new).left u)) error
-      → (error ≡ Write → (new ≡ old) × ForFolders files (λ e u. WasCut (update_text (given_where verbose listed) e u) (told err_old) (told err_new)))
+      → OnUnreplaced (λ u. AfterLoss loss files (λ before e r. ((told err_new).failures ≡ before.failures)
+      × UpdateUndone e r (given_where verbose listed) (database_folder usr root) before.bytes (told err_new).bytes tells (store old).seen (store new).seen (store old).left (store new).left u) (told err_old)) error
+      → (error ≡ Write → (new ≡ old) × ForFolders files (λ e u. WasCut (loss ++ update_text (given_where verbose listed) e u) (told err_old) (told err_new)))
       → (error ≢ Write → ((u : Unreplaced) → error ≢ Replace u) → (err_new ≡ err_old) × (new ≡ old))
       → Refused refusal
   unfolding is_write is_replace
-  update_refused t read (Replace u) refusal is refused undone cut same = inr record {
+  update_refused t read loss lost (Replace u) refusal is refused undone cut same = inr (inr record {
     of_etc = read.of_etc;
     of_usr = read.of_usr;
     in_etc = read.in_etc;
     in_usr = read.in_usr;
-    refused = inr (let un = undone.1 read.of_etc read.of_usr read.are in record {
+    loss = loss;
+    lost = lost;
+    refused = inr (let both = undone.2 read.of_etc read.of_usr read.are in let un = both.1 in record {
       unreplaced = u;
       is = is;
-      undone = record { database = un.database; written = un.written; told = subst (λ l. Appends (told err_old).bytes (told err_new).bytes (update_text l read.of_etc read.of_usr)) (ap (given_where verbose) (sym read.named)) un.told; seen = λ _. un.seen t; left = λ _. un.left t };
-      unfailed = undone.0;
+      err_then = undone.0;
+      told = undone.1;
+      undone = record { database = un.database; written = un.written; told = subst (λ l. Appends undone.0.bytes (told err_new).bytes (update_text l read.of_etc read.of_usr)) (ap (given_where verbose) (sym read.named)) un.told; seen = λ _. un.seen t; left = λ _. un.left t };
+      unfailed = both.0;
     });
-  }
-  update_refused t read Write refusal is refused undone cut same = inr record {
+  })
+  update_refused t read loss lost Write refusal is refused undone cut same = inr (inr record {
     of_etc = read.of_etc;
     of_usr = read.of_usr;
     in_etc = read.in_etc;
     in_usr = read.in_usr;
+    loss = loss;
+    lost = lost;
     refused = inl record {
       error = Write;
       is = is;
       refused = refused read.of_etc read.of_usr read.are;
       kept = kept (cut refl).0;
       untouched = λ n. absurd (n refl);
-      cut = λ w. subst (λ l. WasCut (update_text l read.of_etc read.of_usr) (told err_old) (told err_new)) (ap (given_where verbose) (sym read.named)) ((cut refl).1 read.of_etc read.of_usr read.are);
+      cut = λ w. subst (λ l. WasCut (loss ++ update_text l read.of_etc read.of_usr) (told err_old) (told err_new)) (ap (given_where verbose) (sym read.named)) ((cut refl).1 read.of_etc read.of_usr read.are);
     };
-  }
-  update_refused t read Read refusal is refused undone cut same =
-      plain read Read refusal is refused (not_write Read (λ x. x)) (same (not_write Read (λ x. x)) (λ u. not_replace Read u (λ x. x)))
-  update_refused t read TooLong refusal is refused undone cut same =
-      plain read TooLong refusal is refused (not_write TooLong (λ x. x)) (same (not_write TooLong (λ x. x)) (λ u. not_replace TooLong u (λ x. x)))
-  update_refused t read TooManyFiles refusal is refused undone cut same =
-      plain read TooManyFiles refusal is refused (not_write TooManyFiles (λ x. x)) (same (not_write TooManyFiles (λ x. x)) (λ u. not_replace TooManyFiles u (λ x. x)))
-  update_refused t read TooManyLines refusal is refused undone cut same =
-      plain read TooManyLines refusal is refused (not_write TooManyLines (λ x. x)) (same (not_write TooManyLines (λ x. x)) (λ u. not_replace TooManyLines u (λ x. x)))
-  update_refused t read TooLarge refusal is refused undone cut same =
-      plain read TooLarge refusal is refused (not_write TooLarge (λ x. x)) (same (not_write TooLarge (λ x. x)) (λ u. not_replace TooLarge u (λ x. x)))
-  update_refused t read BadPosition refusal is refused undone cut same =
-      plain read BadPosition refusal is refused (not_write BadPosition (λ x. x)) (same (not_write BadPosition (λ x. x)) (λ u. not_replace BadPosition u (λ x. x)))
-  update_refused t read (BadDatabase fault) refusal is refused undone cut same =
-      plain read (BadDatabase fault) refusal is refused (not_write (BadDatabase fault) (λ x. x)) (same (not_write (BadDatabase fault) (λ x. x)) (λ u. not_replace (BadDatabase fault) u (λ x. x)))
-  update_refused t read Memory refusal is refused undone cut same =
-      plain read Memory refusal is refused (not_write Memory (λ x. x)) (same (not_write Memory (λ x. x)) (λ u. not_replace Memory u (λ x. x)))
+  })
+  update_refused t read loss lost Read refusal is refused undone cut same =
+      plain read loss lost Read refusal is refused (not_write Read (λ x. x)) (same (not_write Read (λ x. x)) (λ u. not_replace Read u (λ x. x)))
+  update_refused t read loss lost TooLong refusal is refused undone cut same =
+      plain read loss lost TooLong refusal is refused (not_write TooLong (λ x. x)) (same (not_write TooLong (λ x. x)) (λ u. not_replace TooLong u (λ x. x)))
+  update_refused t read loss lost TooManyFiles refusal is refused undone cut same =
+      plain read loss lost TooManyFiles refusal is refused (not_write TooManyFiles (λ x. x)) (same (not_write TooManyFiles (λ x. x)) (λ u. not_replace TooManyFiles u (λ x. x)))
+  update_refused t read loss lost TooManyLines refusal is refused undone cut same =
+      plain read loss lost TooManyLines refusal is refused (not_write TooManyLines (λ x. x)) (same (not_write TooManyLines (λ x. x)) (λ u. not_replace TooManyLines u (λ x. x)))
+  update_refused t read loss lost TooLarge refusal is refused undone cut same =
+      plain read loss lost TooLarge refusal is refused (not_write TooLarge (λ x. x)) (same (not_write TooLarge (λ x. x)) (λ u. not_replace TooLarge u (λ x. x)))
+  update_refused t read loss lost BadPosition refusal is refused undone cut same =
+      plain read loss lost BadPosition refusal is refused (not_write BadPosition (λ x. x)) (same (not_write BadPosition (λ x. x)) (λ u. not_replace BadPosition u (λ x. x)))
+  update_refused t read loss lost (BadDatabase fault) refusal is refused undone cut same =
+      plain read loss lost (BadDatabase fault) refusal is refused (not_write (BadDatabase fault) (λ x. x)) (same (not_write (BadDatabase fault) (λ x. x)) (λ u. not_replace (BadDatabase fault) u (λ x. x)))
+  update_refused t read loss lost Memory refusal is refused undone cut same =
+      plain read loss lost Memory refusal is refused (not_write Memory (λ x. x)) (same (not_write Memory (λ x. x)) (λ u. not_replace Memory u (λ x. x)))

@@ -131,7 +131,7 @@ IsOfDiffed given old_path new_path path = Contains given path ⊎ (IsOfSide old_
 
 -- such a task may read the path
 abbrev pub MayRead : Task → (root path : List ℕ) → Type 0
-MayRead (Update verbose skip) root path = IsOfFolders root path
+MayRead (Update verbose skip) root path = IsOfFolders root path ⊎ IsOfDatabase None root path
 MayRead (Check files allowed json) root path = IsOfChecked (map string_bytes files.items) root path
 MayRead (Near files device limit json) root path = IsOfCompared (map string_bytes files.items) root path
 MayRead (Test files database json) root path = IsOfTried (map string_bytes files.items) (option_map string_bytes database) root path

@@ -7,7 +7,7 @@
 //! | `printing` | the one place where that is printed |
 //! | `outlet` | where standard output goes to: a sink whose reader may go away |
 //! | `coloured` | one that shows what it takes in colour, and as a terminal is shown it |
-//! | `updates` | `update`; `progress`: what it says of its files; `hiding`: of a database that hides the new one |
+//! | `updates` | `update`; `progress`: what it says of its files; `hiding`: of a database that hides the new one; `emptied`: of one that is lost |
 //! | `queries` | `query`, of the devices of the words or of standard input; `in_parts`: of a database whose strings alone are held |
 //! | `answers` | `explain`, `list` and `ask` |
 //! | `input_devices` | `query -` and `explain -`: the devices that standard input names |
@@ -19,7 +19,7 @@
 //! | `differences` | `diff` |
 //! | `verification` | `verify`; `verdicts`: its words on bytes that are no database |
 //! | `dumps` | `dump` |
-//! | `statuses` | `status` |
+//! | `statuses` | `status`; `commands`: the command that makes a database anew |
 //! | `over_text` | `--text`: the text files in place of a database; `besides`: what `explain` tells of them that no database can |
 //! | `databases` | the database that a command asks for |
 //! | `given` | files that words name, or standard input |
@@ -41,12 +41,14 @@ mod as_before;
 mod besides;
 mod checks;
 mod coloured;
+mod commands;
 mod crash;
 mod databases;
 mod devices;
 mod differences;
 mod dispatch;
 mod dumps;
+mod emptied;
 mod failures;
 mod given;
 mod given_folders;

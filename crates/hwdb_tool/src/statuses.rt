@@ -11,6 +11,7 @@ ghost use Rattle.hwdb_spec.specs.Reading.{AreUnread};
 ghost use Rattle.hwdb_spec.specs.Status.{IsAmount, IsStatus, has_database, hidden_database, is_well, masked_of, root_words};
 ghost use Rattle.hwdb_inspect.specs.Views.{amount_shown, report_shown, state_shown};
 ghost use Rattle.hwdb_spec.specs.Asked;
+ghost use Rattle.hwdb_spec.specs.Commands;
 ghost use Rattle.hwdb_spec.specs.Runs.{OnOut};
 ghost use Rattle.hwdb_spec.specs.System as Folder;
 ghost use Rattle.hwdb_spec.specs.System.{bytes_at};
@@ -25,6 +26,7 @@ ghost use Rattle.hwdb_spec.specs.declared.errors.ToolError.{ToolError};
 ghost use Rattle.hwdb_spec.specs.declared.refusals.Refusal.TheVariants.{Plain};
 
 use crate::answer::Answer;
+use crate::commands::update_words;
 use crate::databases::{ETC_FOLDER, USR_FOLDER, found_in};
 use crate::hiding::database_path;
 use crate::progress::masks;
@@ -322,30 +324,6 @@ fn path_hidden(
     } else {
         Ok(None)
     }
-}
-
-/// Adds a root as an option of the command, if one was given.
-fn push_root(words: &mut Vec<u8>, root: &str) -> Result<(), AllocError>
-    ensures { OnOk result (words.new.items ≡ words.old.items ++ root_words root.now) }
-{
-    if root.is_empty() {
-        return Ok(());
-    }
-    words.extend_from_slice(b" --root=")?;
-    words.extend_from_slice(root.as_bytes())?;
-    Ok(())
-}
-
-/// The command that makes the database of a folder anew.
-fn update_words(alloc: Global, usr: bool, root: &str) -> Result<Vec<u8>, AllocError>
-    ensures { IfOk result (λ words. words.items ≡ Status.update_words usr root.now) }
-{
-    let mut words = Vec::from_slice(alloc, b"hwdb update")?;
-    if usr {
-        words.extend_from_slice(b" --usr")?;
-    }
-    push_root(&mut words, root)?;
-    Ok(words)
 }
 
 /// The command that makes the database of /usr/lib anew, and removes the one that hides it.

@@ -1,5 +1,5 @@
 //! `update`: the text files of both folders, compiled into the database of one.
-ghost use Rattle.std.specs.Prelude.{◌≡◌, ◌≢◌, ◌≤◌, ℕ, List, length, map, option_map, string_bytes, All, IfOk, IfErr, IsErrOf};
+ghost use Rattle.std.specs.Prelude.{◌≡◌, ◌≢◌, ◌≤◌, ◌++◌, ℕ, List, length, map, option_map, string_bytes, All, IfOk, IfErr, IsErrOf};
 ghost use Rattle.hwdb_spec.specs.Flushing.{HandsOn};
 ghost use Rattle.hwdb_spec.specs.Progress.{given_where, update_text};
 ghost use Rattle.hwdb_spec.specs.Store as spec;
@@ -11,15 +11,17 @@ ghost use Rattle.hwdb_compile.specs.Views.{ForFolders};
 ghost use Rattle.hwdb_text.specs.Views.{choice_in};
 ghost use Rattle.hwdb_spec.specs.Runs.{WasCut, files_by, told_by};
 ghost use Rattle.hwdb_spec.specs.UpdateErrors.{IsUpdateRefusal, OnUnreplaced, UpdateUndone};
-ghost use Rattle.hwdb_spec.specs.Done.{OldOrWritten, Updated, IsUpdated, OldOrUpdated, OldOrUpdatedLess};
+ghost use Rattle.hwdb_spec.specs.Done.{OldOrWritten, Updated, OldOrUpdated, OldOrUpdatedLess};
 ghost use Rattle.hwdb_spec.specs.LeftOutTold.{AreTold};
 ghost use Rattle.hwdb_spec.specs.Refusals.{HasReason};
+ghost use Rattle.hwdb_tool.specs.Emptying.{AfterLoss, IsUpdatedTold};
 ghost use Rattle.hwdb_tool.specs.Internal.{IsOfSelection};
 ghost use Rattle.hwdb_spec.specs.Readable.{IsUpdateRefused, IsUpdatedLess};
 ghost use Rattle.hwdb_spec.specs.LeftOut.{status_less};
 ghost use Rattle.hwdb_spec.specs.Undone.{IsSelectedRefused, IsUnwritable};
 
 use crate::databases::database_folder;
+use crate::emptied::loss_if;
 use crate::printing::say;
 use crate::progress::progress;
 use hwdb_compile::compile_chosen;
@@ -32,10 +34,11 @@ use std::alloc::Global;
 
 /// Compiles chosen files, says of them what is to be said, and puts their database in its place in a folder of the
 /// store. Their fault lines are said. If the names of /usr/lib's files are given, it is said before which files they are and how
-/// much they assign. Returns the status: 1 if `strict` and there is a fault line, else 0.
+/// much they assign. Before all that comes what is lost. Returns the status: 1 if `strict` and there is a fault line, else 0.
 fn update_files<S: Store, E: Sink>(
     alloc: Global,
     files: &[ChosenFile<'_>],
+    loss: &[u8],
     listed: Option<&[String]>,
     strict: bool,
     folder: &str,
@@ -44,10 +47,11 @@ fn update_files<S: Store, E: Sink>(
 ) -> Result<u8, ToolError>
     requires { All IsStorableChoice (map choice_in files.now) }
     ensures updated { let names = option_map (λ l. map string_bytes l.now) listed.entry in
-        IfOk result (λ status. ForFolders files.now (λ etc usr.
+        IfOk result (λ status. AfterLoss loss.now files.now (λ before etc usr.
         Updated etc usr names max_file strict status
-        (E.taken err.old) (E.taken err.new) (λ database. S.tells → spec.InPlace folder.now database
-        (S.seen store.old) (S.seen store.new) (S.may_leave store.new)))) }
+        before.bytes (E.taken err.new) (λ database. S.tells → spec.InPlace folder.now database
+        (S.seen store.old) (S.seen store.new) (S.may_leave store.new)))
+        (told_by E.taken E.failures err.old)) }
     ensures status { IfOk result (λ status. status ≤ 1) }
     ensures any_moment { S.tells → ForFolders files.now (λ etc usr.
         spec.LeavesOnly S.moment S.left_since store.old store.new
@@ -56,16 +60,17 @@ fn update_files<S: Store, E: Sink>(
     ensures refusals { IfErr result
         (λ e. ForFolders files.now (λ etc usr. IsUpdateRefusal etc usr max_file e)) }
     ensures unreplaced { let names = option_map (λ l. map string_bytes l.now) listed.entry in
-        IfErr result (OnUnreplaced (λ u. (E.failures err.new ≡ E.failures err.old)
-        × ForFolders files.now (λ etc usr. UpdateUndone etc usr names folder.now
-        (E.taken err.old) (E.taken err.new) S.tells (S.seen store.old) (S.seen store.new)
-        (S.may_leave store.old) (S.may_leave store.new) u))) }
+        IfErr result (OnUnreplaced (λ u. AfterLoss loss.now files.now (λ before etc usr.
+        (E.failures err.new ≡ before.failures) × UpdateUndone etc usr names folder.now
+        before.bytes (E.taken err.new) S.tells (S.seen store.old) (S.seen store.new)
+        (S.may_leave store.old) (S.may_leave store.new) u)
+        (told_by E.taken E.failures err.old))) }
     ensures unwritten { S.tells → IfErr result (OnUnreplaced
         (λ _. IsUnwritable folder.now (S.seen store.old)
         (S.failures store.old) (S.failures store.new))) }
     ensures cut_short { let names = option_map (λ l. map string_bytes l.now) listed.entry in
         IsErrOf result ToolError.Write → (store.new ≡ store.old) × ForFolders files.now
-        (λ etc usr. WasCut (update_text names etc usr)
+        (λ etc usr. WasCut (loss.now ++ update_text names etc usr)
         (told_by E.taken E.failures err.old) (told_by E.taken E.failures err.new)) }
     ensures untouched { IfErr result
         (λ e. e ≢ ToolError.Write → ((u : Unreplaced) → e ≢ ToolError.Replace u)
@@ -75,7 +80,9 @@ fn update_files<S: Store, E: Sink>(
 {
     let compiled = compile_chosen(alloc, files, MAX_BYTES)?;
     let told = progress(alloc, files, listed, &compiled)?;
-    put_in_place(alloc, &compiled, &told, strict, folder, store, err)
+    let mut said = Vec::from_slice(alloc, loss)?;
+    said.extend_from_slice(&told)?;
+    put_in_place(alloc, &compiled, &said, strict, folder, store, err)
 }
 
 /// The names of /usr/lib's files, where `verbose`.
@@ -88,7 +95,7 @@ fn listing(verbose: bool, listed: &[String]) -> Option<&[String]>
 
 /// Compiles chosen text files of both folders into the database of one, which takes the old one's place once it is whole
 /// on the disk. Their fault lines go to `err`, and before these, where `verbose`, which files they are, which of them mask
-/// others, and how much they assign. Returns the status: 1 where `strict` and there is a fault, else 0. After a refusal the
+/// others, and how much they assign. If there are none, it says first which database is lost by that. Returns the status: 1 where `strict` and there is a fault, else 0. After a refusal the
 /// old database stands as it was, and no new file.
 fn update_selected<D: System, E: Sink>(
     alloc: Global,
@@ -107,8 +114,8 @@ fn update_selected<D: System, E: Sink>(
         → D.Store.tells → spec.LeavesOnly D.Store.moment D.Store.left_since system.old system.new
         (OldOrUpdated root.now usr files (D.Store.seen system.old) (D.Store.may_leave system.old)) }
     ensures updated { (files : spec.Contents) → IsOfSelection root.now files selection.now
-        → D.Store.tells → IfOk result (λ status. IsUpdated root.now verbose strict status files
-        (E.taken err.old) (E.taken err.new)
+        → D.Store.tells → IfOk result (λ status. IsUpdatedTold root.now usr verbose strict status
+        files (D.Store.seen system.old) (told_by E.taken E.failures err.old) (E.taken err.new)
         (λ database. spec.InPlace (Folder.database_folder usr root.now) database
         (D.Store.seen system.old) (D.Store.seen system.new) (D.Store.may_leave system.new))) }
     ensures refused { (files : spec.Contents) → IsOfSelection root.now files selection.now
@@ -126,9 +133,11 @@ fn update_selected<D: System, E: Sink>(
     let files = with_texts(alloc, &selection.chosen, &selection.texts)?;
     let folder = database_folder(alloc, root, usr)?;
     let path = path_in(alloc, folder.as_str(), DATABASE)?.into_bytes();
+    let loss = loss_if(alloc, root, usr, files.as_slice().is_empty(), system)?;
     match update_files(
         alloc,
         &files,
+        &loss,
         listing(verbose, &selection.listed),
         strict,
         folder.as_str(),
@@ -169,7 +178,7 @@ pub fn update<D: System, E: Sink>(
         → spec.LeavesOnly D.Store.moment D.Store.left_since system.old system.new
         (OldOrUpdatedLess (D.System.may_fail system.old) root.now usr skip
         (D.Store.seen system.old) (D.Store.may_leave system.old)) }
-    ensures updated { D.Store.tells → IfOk result (λ status. IsUpdatedLess root.now verbose
+    ensures updated { D.Store.tells → IfOk result (λ status. IsUpdatedLess root.now usr verbose
         strict skip status (files_by D.Store.seen D.System.may_fail D.Store.may_leave
         D.Store.failures system.old)
         (told_by E.taken E.failures err.old) (told_by E.taken E.failures err.new)

@@ -76,16 +76,21 @@ pub returns-clause-updated : goal.returns-clause-updated
 returns-clause-updated g c = λ tells.
     let T = told_by g.E.Sink.taken g.E.Sink.failures in
     let less = c.in_ok-readable.ensures.selected tells in
+    let done = c.in_ok-status.ensures.updated (without less.left_out c.args.root.now (g.D.Store.seen c.args.system.now)) less.selected tells in
     record {
       left_out = less.left_out;
       are = less.are;
       said = c.in_ok-readable.readable.said.items;
       lines = less.told;
       read = all_read c.args.root.now (without less.left_out c.args.root.now (g.D.Store.seen c.args.system.now)) _ _ _ less.selected;
-      err_then = T c.say.new.err;
+      err_said = T c.say.new.err;
       told = subst (λ t. HasTaken t (T c.args.err.now) (T c.say.new.err)) c.deref.ensures.value c.in_ok-say.ensures.took;
+      loss = done.loss;
+      err_then = done.err_then;
+      told_loss = done.told;
       plainly = c.in_ok-status.status;
-      updated = c.in_ok-status.ensures.updated (without less.left_out c.args.root.now (g.D.Store.seen c.args.system.now)) less.selected tells;
+      updated = done.updated;
+      lost = done.lost;
       answer = c.status_less.ensures.is c.args.root.now less.left_out (subst (AreTold c.args.root.now less.left_out) (sym c.deref-2.ensures.value) less.told);
     }
 

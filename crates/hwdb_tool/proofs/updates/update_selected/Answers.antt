@@ -1,13 +1,17 @@
-use Rattle.std.proofs.Common.{◌≡◌, ◌∙◌, ap, inl, map, option_map, string_bytes, refl, subst, sym, Err}
+use Rattle.std.proofs.Common.{◌≡◌, ◌∙◌, ◌++◌, ap, inl, inr, length, map, option_map, string_bytes, refl, subst, sym, Err, List, Option, ℕ}
 use Rattle.std.specs.Io.KnownBytes.{Appends}
 use Rattle.hwdb_spec.specs.Progress.{given_where, update_text}
-use Rattle.hwdb_text.specs.Views.{choice_of}
+use Rattle.hwdb_text.specs.Views.{choice_in, choice_of}
 use Rattle.hwdb_compile.specs.Views.{ForFolders}
 use Rattle.hwdb_spec.specs.declared.errors.ToolError.TheVariants.{Memory}
-use Rattle.hwdb_spec.specs.Runs.{WasCut, files_by, told_by}
+use Rattle.hwdb_spec.specs.Folders.{chosen_of}
+use Rattle.hwdb_spec.specs.Runs.{HasTaken, WasCut, files_by, told_by}
+use Rattle.hwdb_spec.specs.Status.{is_bare}
+use Rattle.hwdb_spec.specs.declared.errors.Unreplaced.{Unreplaced}
 use Rattle.hwdb_spec.specs.UpdateErrors.{OnUnreplaced, UpdateUndone}
 use Rattle.hwdb_spec.specs.Store.{InPlace, database_name, path_in}
 use Rattle.hwdb_spec.specs.System.{database_folder}
+use Rattle.hwdb_tool.specs.Emptying.{AfterLoss}
 use Rattle.hwdb_tool.specs.Internal.{AreReadOf}
 use Rattle.hwdb_spec.specs.Refusals.{IsOfUpdate}
 use Rattle.hwdb_spec.specs.Undone.{IsSelectedRefused, IsUnwritable}
@@ -15,6 +19,7 @@ use Rattle.hwdb_spec.specs.Asked.{database_path}
 use Rattle.hwdb_spec.specs.declared.refusals.Refusal.TheVariants.{Plain}
 use Rattle.hwdb_tool.proofs.FolderLemmas.{are_read}
 use Rattle.hwdb_tool.proofs.MomentLemmas.{leaves_old_or_updated}
+use Rattle.hwdb_tool.proofs.StatusLemmas.{bare_files}
 use Rattle.hwdb_tool.proofs.UpdateLemmas.{update_reason, update_refused}
 use Rattle.hwdb_tool.proofs.updates.update_selected.Goals as goal
 use Rattle.hwdb_spec.specs.Lemmas.Calls.{given_error}
@@ -48,28 +53,38 @@ returns-in-Ok-clause-updated g c = λ files selected tells.
     let texts = c.args.selection.now.texts.items in
     let listed = map string_bytes c.args.selection.now.listed.items in
     let names : option_map (λ l. map string_bytes l.now) c.listing.result ≡ given_where c.args.verbose listed =
-    c.listing.ensures ∙ ap (λ l. given_where c.args.verbose (map string_bytes l)) c.deref-4.ensures.value in
+    c.listing.ensures ∙ ap (λ l. given_where c.args.verbose (map string_bytes l)) c.deref-5.ensures.value in
     let folder : c.as_str-2.result.now ≡ database_folder c.args.usr root = c.as_str-2.ensures.value ∙ c.in_ok-folder.ensures in
     let read : AreReadOf root files listed c.in_ok-files.files.items =
     are_read root files listed (map choice_of chosen) (map (λ t. t.items) texts) c.in_ok-files.files.items selected
     (c.in_ok-files.ensures.choices ∙ ap (map choice_of) c.deref.ensures.value) (c.in_ok-files.ensures.bytes ∙ ap (map (λ t. t.items)) c.deref-2.ensures.value) in
     let given : AreReadOf root files listed c.deref-3.result.now = subst (AreReadOf root files listed) (sym c.deref-3.ensures.value) read in
-    let done = c.in-Ok.ensures.updated given.of_etc given.of_usr given.are in
+    let T = told_by g.E.Sink.taken g.E.Sink.failures in
+    let after = c.in-Ok.ensures.updated in
+    let done = after.2 given.of_etc given.of_usr given.are in
+    let bare = bare_files c.in_ok-files.files.items (length c.as_slice.result.now) c.is_empty.result (ap length c.as_slice.ensures.value) c.is_empty.ensures
+    ∙ ap (λ l. is_bare (map choice_in l)) (sym c.deref-3.ensures.value) ∙ ap is_bare given.are.choices in
     record {
-      of_etc = given.of_etc;
-      of_usr = given.of_usr;
-      in_etc = given.in_etc;
-      in_usr = given.in_usr;
+      loss = c.in_ok-loss.loss.items;
+      err_then = after.0;
+      told = subst (λ l. HasTaken l (T c.args.err.now) after.0) c.deref-4.ensures.value after.1;
       updated = record {
-        accepted = done.accepted;
-        database = done.database;
-        written = done.written;
-        compiled = done.compiled;
-        within = done.within;
-        told = subst (λ l. Appends (g.E.Sink.taken c.args.err.now) (g.E.Sink.taken c.update_files.new.err) (update_text l given.of_etc given.of_usr)) (names ∙ ap (given_where c.args.verbose) (sym given.named)) done.told;
-        stored = subst (λ f. InPlace f done.database seen (g.D.Store.seen c.update_files.new.store) (g.D.Store.may_leave c.update_files.new.store)) folder (done.stored tells);
-        answer = done.answer;
+        of_etc = given.of_etc;
+        of_usr = given.of_usr;
+        in_etc = given.in_etc;
+        in_usr = given.in_usr;
+        updated = record {
+          accepted = done.accepted;
+          database = done.database;
+          written = done.written;
+          compiled = done.compiled;
+          within = done.within;
+          told = subst (λ l. Appends after.0.bytes (g.E.Sink.taken c.update_files.new.err) (update_text l given.of_etc given.of_usr)) (names ∙ ap (given_where c.args.verbose) (sym given.named)) done.told;
+          stored = subst (λ f. InPlace f done.database seen (g.D.Store.seen c.update_files.new.store) (g.D.Store.may_leave c.update_files.new.store)) folder (done.stored tells);
+          answer = done.answer;
+        };
       };
+      lost = c.in_ok-loss.ensures.loss (chosen_of given.of_etc given.of_usr) bare tells;
     }
 
 pub returns-in-Ok-clause-any_moment : goal.returns-in-Ok-clause-any_moment
@@ -110,7 +125,7 @@ returns-clause-refused g c = λ files selected tells.
     let texts = c.args.selection.now.texts.items in
     let listed = map string_bytes c.args.selection.now.listed.items in
     let names : option_map (λ l. map string_bytes l.now) c.listing.result ≡ given_where c.args.verbose listed =
-    c.listing.ensures ∙ ap (λ l. given_where c.args.verbose (map string_bytes l)) c.deref-4.ensures.value in
+    c.listing.ensures ∙ ap (λ l. given_where c.args.verbose (map string_bytes l)) c.deref-5.ensures.value in
     let folder : c.as_str-2.result.now ≡ database_folder c.args.usr root = c.as_str-2.ensures.value ∙ c.in_ok-folder.ensures in
     let read : AreReadOf root files listed c.in_ok-files.files.items =
     are_read root files listed (map choice_of chosen) (map (λ t. t.items) texts) c.in_ok-files.files.items selected
@@ -120,14 +135,24 @@ returns-clause-refused g c = λ files selected tells.
     ap (λ v. v.items) c.into_bytes-path.ensures.value ∙ c.in_ok-path_in.ensures ∙ ap (λ f. path_in f database_name) (c.as_str.ensures.value ∙ c.in_ok-folder.ensures) in
     let F = files_by g.D.Store.seen g.D.System.may_fail g.D.Store.may_leave g.D.Store.failures in
     let T = told_by g.E.Sink.taken g.E.Sink.failures in
-    let same : Type 0 = g.E.Sink.failures c.update_files.new.err ≡ g.E.Sink.failures c.args.err.now in
+    let bare = bare_files c.in_ok-files.files.items (length c.as_slice.result.now) c.is_empty.result (ap length c.as_slice.ensures.value) c.is_empty.ensures
+    ∙ ap (λ l. is_bare (map choice_in l)) (sym c.deref-3.ensures.value) ∙ ap is_bare given.are.choices in
+    let now = g.E.Sink.taken c.update_files.new.err in
+    let failures = g.E.Sink.failures c.update_files.new.err in
+    let Left : (loss : List ℕ) (names : Option (List (List ℕ))) (folder : List ℕ) → Unreplaced → Type 0 =
+    λ loss names folder u. AfterLoss loss c.deref-3.result.now (λ before e r. (failures ≡ before.failures)
+    × UpdateUndone e r names folder before.bytes now g.D.Store.tells seen (g.D.Store.seen c.update_files.new.store) (g.D.Store.may_leave c.args.system.now) (g.D.Store.may_leave c.update_files.new.store) u) (T c.args.err.now) in
+    let loss = c.in_ok-loss.loss.items in
+    let shown = option_map (λ l. map string_bytes l.now) c.listing.result in
     update_refused F T c.args.system.now c.update_files.new.store c.args.err.now c.update_files.new.err root c.args.usr c.args.verbose files listed c.deref-3.result.now
-    g.D.Store.tells tells given c.in-Err.error c.of_update.result
+    g.D.Store.tells tells given loss (c.in_ok-loss.ensures.loss (chosen_of given.of_etc given.of_usr) bare tells) c.in-Err.error c.of_update.result
     (subst (λ p. IsOfUpdate c.in-Err.error p c.of_update.result) at c.of_update.ensures)
     c.in-Err.ensures.refusals
-    (subst (λ n. OnUnreplaced (λ u. same × ForFolders c.deref-3.result.now (λ e r. UpdateUndone e r n (database_folder c.args.usr root) (g.E.Sink.taken c.args.err.now) (g.E.Sink.taken c.update_files.new.err) g.D.Store.tells seen (g.D.Store.seen c.update_files.new.store) (g.D.Store.may_leave c.args.system.now) (g.D.Store.may_leave c.update_files.new.store) u)) c.in-Err.error) names
-    (subst (λ f. OnUnreplaced (λ u. same × ForFolders c.deref-3.result.now (λ e r. UpdateUndone e r (option_map (λ l. map string_bytes l.now) c.listing.result) f (g.E.Sink.taken c.args.err.now) (g.E.Sink.taken c.update_files.new.err) g.D.Store.tells seen (g.D.Store.seen c.update_files.new.store) (g.D.Store.may_leave c.args.system.now) (g.D.Store.may_leave c.update_files.new.store) u)) c.in-Err.error) folder c.in-Err.ensures.unreplaced))
-    (λ is. let cut = c.in-Err.ensures.cut_short (ap Err is) in (cut.0, subst (λ n. ForFolders c.deref-3.result.now (λ e u. WasCut (update_text n e u) (T c.args.err.now) (T c.update_files.new.err))) names cut.1))
+    (subst (λ n. OnUnreplaced (Left loss n (database_folder c.args.usr root)) c.in-Err.error) names
+    (subst (λ f. OnUnreplaced (Left loss shown f) c.in-Err.error) folder
+    (subst (λ l. OnUnreplaced (Left l shown c.as_str-2.result.now) c.in-Err.error) c.deref-4.ensures.value c.in-Err.ensures.unreplaced)))
+    (λ is. let cut = c.in-Err.ensures.cut_short (ap Err is) in (cut.0, subst (λ n. ForFolders c.deref-3.result.now (λ e u. WasCut (loss ++ update_text n e u) (T c.args.err.now) (T c.update_files.new.err))) names
+    (subst (λ l. ForFolders c.deref-3.result.now (λ e u. WasCut (l ++ update_text shown e u) (T c.args.err.now) (T c.update_files.new.err))) c.deref-4.ensures.value cut.1)))
     c.in-Err.ensures.untouched
 
 pub returns-clause-reason : goal.returns-clause-reason
@@ -137,3 +162,28 @@ returns-clause-reason g c = λ tells.
     let now = g.D.Store.failures c.update_files.new.store in
     update_reason (g.D.System.may_fail c.args.system.now) (IsUnwritable (database_folder c.args.usr c.args.root.now) seen before now) seen c.in-Err.error _ c.of_update.result c.of_update.ensures
     (subst (λ f. OnUnreplaced (λ _. IsUnwritable f seen before now) c.in-Err.error) (c.as_str-2.ensures.value ∙ c.in_ok-folder.ensures) (c.in-Err.ensures.unwritten tells))
+
+pub returns-in_err-loss-clause-refused : goal.returns-in_err-loss-clause-refused
+returns-in_err-loss-clause-refused g c = λ files selected tells.
+    let root = c.args.root.now in
+    let chosen = c.args.selection.now.chosen.items in
+    let texts = c.args.selection.now.texts.items in
+    let listed = map string_bytes c.args.selection.now.listed.items in
+    let read : AreReadOf root files listed c.in_ok-files.files.items =
+    are_read root files listed (map choice_of chosen) (map (λ t. t.items) texts) c.in_ok-files.files.items selected
+    (c.in_ok-files.ensures.choices ∙ ap (map choice_of) c.deref.ensures.value) (c.in_ok-files.ensures.bytes ∙ ap (map (λ t. t.items)) c.deref-2.ensures.value) in
+    let bare = bare_files c.in_ok-files.files.items (length c.as_slice.result.now) c.is_empty.result (ap length c.as_slice.ensures.value) c.is_empty.ensures
+    ∙ ap is_bare read.are.choices in
+    let F = files_by g.D.Store.seen g.D.System.may_fail g.D.Store.may_leave g.D.Store.failures in
+    let T = told_by g.E.Sink.taken g.E.Sink.failures in
+    given_error c.in_err-loss.field-0.0 (λ r. IsSelectedRefused c.args.root.now c.args.usr c.args.verbose files r (F c.args.system.now) (F c.args.system.now) (T c.args.err.now) (T c.args.err.now))
+    c.from_residual-in_err-loss.result c.from_residual-in_err-loss.ensures.1
+    (inr (inl record {
+      of_etc = read.of_etc;
+      of_usr = read.of_usr;
+      in_etc = read.in_etc;
+      in_usr = read.in_usr;
+      unseen = c.in_err-loss.ensures.refused (chosen_of read.of_etc read.of_usr) bare tells;
+      kept = record { same = λ p. refl; no_more = λ p v l. l };
+      untouched = refl;
+    }))

@@ -1,0 +1,23 @@
+use Rattle.std.proofs.Common.{sym, ◌∙◌}
+use Rattle.hwdb_spec.specs.Emptied.{IsLossOf, IsLossUnseen}
+use Rattle.hwdb_tool.proofs.EmptyingLemmas.{loss_bare, loss_none, unseen_bare}
+use Rattle.hwdb_tool.proofs.emptied.loss_if.Goals as goal
+use Rattle.hwdb_spec.specs.Lemmas.Calls.{each_error, each_value}
+
+pub returns-then-bare-clause-loss : goal.returns-then-bare-clause-loss
+returns-then-bare-clause-loss g c = λ chosen is tells.
+    let root = c.args.root.now in
+    let seen = g.D.Store.seen c.args.system.now in
+    each_value _ (λ text. IsLossOf chosen root c.args.usr seen text.items) c.loss_of_empty.result
+    (λ text loss. loss_bare chosen root c.args.usr seen text.items (sym c.if-bare.true ∙ is) loss) (c.loss_of_empty.ensures.loss tells)
+
+pub returns-then-bare-clause-refused : goal.returns-then-bare-clause-refused
+returns-then-bare-clause-refused g c = λ chosen is tells.
+    let root = c.args.root.now in
+    let seen = g.D.Store.seen c.args.system.now in
+    each_error _ (IsLossUnseen chosen root seen) c.loss_of_empty.result
+    (λ r unseen. unseen_bare chosen root seen r (sym c.if-bare.true ∙ is) unseen) (c.loss_of_empty.ensures.refused tells)
+
+pub returns-clause-loss : goal.returns-clause-loss
+returns-clause-loss g c = λ chosen is tells.
+    loss_none chosen c.args.root.now c.args.usr (g.D.Store.seen c.args.system.now) c.new.result.items (sym c.if-bare.false ∙ is) c.new.ensures.items

@@ -1,0 +1,203 @@
+//! What `update` says if there are no text files: which database that may assign something is replaced by an empty one, or hidden by it.
+ghost use Rattle.std.specs.Prelude.{◌≡◌, ◌≤◌, ◌++◌, List, Some, false, length, option_map, IfErr, IfOk, IfSome, OnOk};
+ghost use Rattle.hwdb_spec.specs.Emptied;
+ghost use Rattle.hwdb_spec.specs.Emptied.{IsLoss, IsLossOf, IsLossUnseen, IsLost, IsOneUnseen, line_if};
+ghost use Rattle.hwdb_spec.specs.Folders.{Choice};
+ghost use Rattle.hwdb_spec.specs.Refusals.{HasReason, IsUnreadAt};
+ghost use Rattle.hwdb_spec.specs.Status.{is_bare};
+ghost use Rattle.hwdb_spec.specs.Store as spec;
+ghost use Rattle.hwdb_spec.specs.System.{bytes_at};
+ghost use Rattle.hwdb_spec.specs.Texts.{max_file};
+ghost use Rattle.hwdb_inspect.specs.Views.{amount_shown};
+ghost use Rattle.hwdb_tool.specs.Emptying;
+
+use crate::commands::update_words;
+use crate::databases::{ETC_FOLDER, FoundDatabase, USR_FOLDER, found_in};
+use crate::hiding::database_path;
+use hwdb_fs::{Refusal, System};
+use hwdb_inspect::{Amount, amount_of};
+use hwdb_reader::law_one_tree;
+use std::alloc::{AllocError, Global};
+
+const EMPTIED: &str =
+    " becomes empty: there are no text files. Bring them back, and then run: ";
+
+const HIDES: &str = " is empty and hides ";
+
+const TO_USE: &str = ": there are no text files. To use that one, run: rm ";
+
+/// Whether this much is nothing, in a database.
+fn is_nothing(amount: Amount) -> bool
+    ensures { result ≡ Emptying.is_nothing (amount_shown amount) }
+{
+    match amount {
+        Amount::Counted { assignments, .. } => assignments == 0,
+        Amount::Uncounted { .. } => false,
+    }
+}
+
+/// Whether something is lost if these bytes are replaced or hidden.
+fn is_lost_of(alloc: Global, bytes: &[u8]) -> Result<bool, AllocError>
+    ensures { IfOk result (λ lost. IsLost (Some bytes.now) lost) }
+{
+    law_one_tree();
+    let amount = amount_of(alloc, bytes)?;
+    Ok(!is_nothing(amount))
+}
+
+/// The same of a database that was found, if there is one.
+fn is_lost_if(alloc: Global, found: &Option<FoundDatabase>) -> Result<bool, AllocError>
+    ensures { IfOk result (λ lost. IsLost (option_map (λ f. f.bytes.items) found.now) lost) }
+{
+    match found {
+        Some(found) => is_lost_of(alloc, found.bytes.as_slice()),
+        None => Ok(false),
+    }
+}
+
+/// Whether something is lost in the place of a database. What is there is read, and let go of.
+fn is_lost_in<D: System>(
+    alloc: Global,
+    root: &str,
+    folder: &str,
+    system: &D,
+) -> Result<bool, Refusal>
+    ensures lost { D.Store.tells → IfOk result (λ lost. IsLost (bytes_at
+        (D.Store.seen system.now) (spec.path_in (root.now ++ folder.now) spec.database_name)) lost) }
+    ensures within { D.Store.tells → OnOk result (IfSome (bytes_at (D.Store.seen system.now)
+        (spec.path_in (root.now ++ folder.now) spec.database_name)) (λ b. length b ≤ max_file)) }
+    ensures refused { D.Store.tells → IfErr result (IsUnreadAt (D.Store.seen system.now)
+        (spec.path_in (root.now ++ folder.now) spec.database_name)) }
+    ensures reason { IfErr result
+        (HasReason (D.System.may_fail system.now) ⊥ (D.Store.seen system.now)) }
+{
+    let found = found_in(alloc, root, folder, system)?;
+    let lost = is_lost_if(alloc, &found)?;
+    Ok(lost)
+}
+
+/// The line of a database that is replaced by an empty one.
+fn emptied_line(alloc: Global, root: &str, usr: bool) -> Result<Vec<u8>, AllocError>
+    ensures { IfOk result (λ line. line.items ≡ Emptied.emptied_line root.now usr) }
+{
+    let words = update_words(alloc, usr, root)?;
+    let mut line = database_path(alloc, root, usr)?.into_bytes();
+    line.extend_from_slice(EMPTIED.as_bytes())?;
+    line.extend_from_slice(&words)?;
+    line.push(b'\n')?;
+    Ok(line)
+}
+
+/// The line of a database of /usr/lib that an empty one hides.
+fn hidden_line(alloc: Global, root: &str) -> Result<Vec<u8>, AllocError>
+    ensures { IfOk result (λ line. line.items ≡ Emptied.hidden_line root.now) }
+{
+    let usr = database_path(alloc, root, true)?;
+    let etc = database_path(alloc, root, false)?;
+    let mut line = Vec::from_slice(alloc, etc.as_bytes())?;
+    line.extend_from_slice(HIDES.as_bytes())?;
+    line.extend_from_slice(usr.as_bytes())?;
+    line.extend_from_slice(TO_USE.as_bytes())?;
+    line.extend_from_slice(etc.as_bytes())?;
+    line.push(b'\n')?;
+    Ok(line)
+}
+
+/// The line of a database that is emptied, if it is to be said.
+fn emptied_if(alloc: Global, root: &str, usr: bool, lost: bool) -> Result<Vec<u8>, AllocError>
+    ensures { IfOk result
+        (λ text. text.items ≡ line_if lost (Emptied.emptied_line root.now usr)) }
+{
+    if lost {
+        emptied_line(alloc, root, usr)
+    } else {
+        Ok(Vec::new(alloc))
+    }
+}
+
+/// The same of one that is hidden.
+fn hidden_if(alloc: Global, root: &str, lost: bool) -> Result<Vec<u8>, AllocError>
+    ensures { IfOk result (λ text. text.items ≡ line_if lost (Emptied.hidden_line root.now)) }
+{
+    if lost {
+        hidden_line(alloc, root)
+    } else {
+        Ok(Vec::new(alloc))
+    }
+}
+
+/// The lines of an update of /etc's.
+fn loss_in_etc(
+    alloc: Global,
+    root: &str,
+    etc_lost: bool,
+    usr_lost: bool,
+) -> Result<Vec<u8>, AllocError>
+    ensures { IfOk result
+        (λ text. text.items ≡ Emptied.loss_text root.now false etc_lost usr_lost) }
+{
+    let mut text = emptied_if(alloc, root, false, etc_lost)?;
+    let hidden = hidden_if(alloc, root, usr_lost)?;
+    text.extend_from_slice(&hidden)?;
+    Ok(text)
+}
+
+/// The lines of what is lost, by whether /etc's and /usr/lib's are.
+fn loss_text(
+    alloc: Global,
+    root: &str,
+    usr: bool,
+    etc_lost: bool,
+    usr_lost: bool,
+) -> Result<Vec<u8>, AllocError>
+    ensures { IfOk result
+        (λ text. text.items ≡ Emptied.loss_text root.now usr etc_lost usr_lost) }
+{
+    if usr {
+        emptied_if(alloc, root, true, usr_lost)
+    } else {
+        loss_in_etc(alloc, root, etc_lost, usr_lost)
+    }
+}
+
+/// What is lost if the new database is empty. Both places are read, one after the other.
+fn loss_of_empty<D: System>(
+    alloc: Global,
+    root: &str,
+    usr: bool,
+    system: &D,
+) -> Result<Vec<u8>, Refusal>
+    ensures loss { D.Store.tells → IfOk result
+        (λ text. IsLoss root.now usr (D.Store.seen system.now) text.items) }
+    ensures refused { D.Store.tells
+        → IfErr result (IsOneUnseen root.now (D.Store.seen system.now)) }
+    ensures reason { IfErr result
+        (HasReason (D.System.may_fail system.now) ⊥ (D.Store.seen system.now)) }
+{
+    let etc_lost = is_lost_in(alloc, root, ETC_FOLDER, system)?;
+    let usr_lost = is_lost_in(alloc, root, USR_FOLDER, system)?;
+    let text = loss_text(alloc, root, usr, etc_lost, usr_lost)?;
+    Ok(text)
+}
+
+/// What is lost, if there are no text files; else nothing is read or said.
+pub(crate) fn loss_if<D: System>(
+    alloc: Global,
+    root: &str,
+    usr: bool,
+    bare: bool,
+    system: &D,
+) -> Result<Vec<u8>, Refusal>
+    ensures loss { (chosen : List Choice) → bare ≡ is_bare chosen → D.Store.tells → IfOk result
+        (λ text. IsLossOf chosen root.now usr (D.Store.seen system.now) text.items) }
+    ensures refused { (chosen : List Choice) → bare ≡ is_bare chosen → D.Store.tells
+        → IfErr result (IsLossUnseen chosen root.now (D.Store.seen system.now)) }
+    ensures reason { IfErr result
+        (HasReason (D.System.may_fail system.now) ⊥ (D.Store.seen system.now)) }
+{
+    if bare {
+        loss_of_empty(alloc, root, usr, system)
+    } else {
+        Ok(Vec::new(alloc))
+    }
+}
