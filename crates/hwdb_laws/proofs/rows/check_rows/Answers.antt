@@ -1,0 +1,18 @@
+use Rattle.hwdb_laws.proofs.ComputedCheckRows.{elsewhere_rows, fault_rows, hint_rows, json_rows, repeated_rows, replaced_rows, report_rows, tally_rows, told_rows, unpaired_rows, unread_rows, warned_rows}
+use Rattle.hwdb_laws.proofs.rows.check_rows.Goals as goal
+
+pub returns : goal.returns
+returns c = record {
+  told = told_rows;
+  elsewhere = elsewhere_rows;
+  unread = unread_rows;
+  unpaired = unpaired_rows;
+  hints = hint_rows;
+  repeated = repeated_rows;
+  replaced = replaced_rows;
+  warned = warned_rows;
+  reports = report_rows;
+  as_json = json_rows;
+  faults = fault_rows;
+  tally = tally_rows;
+}

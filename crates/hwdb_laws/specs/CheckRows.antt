@@ -1,0 +1,148 @@
+-- Worked rows of what `check` says: which warnings `--allow` leaves out, where properties are read (the heads of 60-keyboard.hwdb,
+-- 70-mouse.hwdb and 60-sensor.hwdb of systemd), which lines are repeated or replaced, where a warning is, and what is printed.
+use Rattle.std.specs.Prelude.{◌++◌, ◌∷◌, ◌≡◌, Bool, List, [], codes, false, map, true, ℕ}
+use Rattle.hwdb_spec.specs.Assignment.{Assignment}
+use Rattle.hwdb_spec.specs.Checks.{check_status, empty_tally, tally_line, tally_of_both}
+use Rattle.hwdb_spec.specs.Findings.{faults_text, warning_json_line}
+use Rattle.hwdb_spec.specs.Kinds.{is_told}
+use Rattle.hwdb_spec.specs.Lines.{Line, clean_line, lines}
+use Rattle.hwdb_spec.specs.Surroundings.{is_elsewhere, is_unpaired, is_unread, unpaired_hint, unread_hint}
+use Rattle.hwdb_spec.specs.Warnings.{repeated_lines, replacing, warning_report, warns}
+use Rattle.hwdb_spec.specs.declared.Tally.{Tally}
+use Rattle.hwdb_spec.specs.declared.WarningKind.{WarningKind}
+use Rattle.hwdb_spec.specs.declared.WarningKind.TheVariants.{ByteOrderMark, CarriageReturn, CutValue, EmptyRange, LeadingTab, Misused, OpenBracket, RepeatedMatch, Replaced, SpacedEquals, TooLongForUdev, Unpaired, Unread}
+use Rattle.hwdb_spec.specs.declared.vocabulary.Misuse.TheVariants.{NearName, UnknownKey}
+
+-- ---- kinds that are allowed
+
+-- a kind that is allowed isn't told, and each other one is
+abbrev pub ToldRows : Type 0
+ToldRows =
+    map (is_told (codes "unread" ∷ codes "near-name" ∷ [])) (Unread ∷ Unpaired ∷ Misused NearName ∷ Misused UnknownKey ∷ CutValue ∷ [])
+    ++ map (is_told []) (Unread ∷ Misused NearName ∷ [])
+    ≡ false ∷ true ∷ false ∷ true ∷ true ∷ true ∷ true ∷ []
+
+-- ---- where properties are read
+
+-- an assignment of a pattern
+abbrev pub given : (pattern key : List ℕ) → Assignment
+given pattern key = record { position = record { priority = 1; line = 2; pattern = pattern; key = key }; value = codes "x"; path = [] }
+
+-- Keys of a keyboard are read below `evdev:` alone. A mouse's resolution is read below `mouse:` and `evdev:`. A prefix that udev doesn't
+-- ask, a wildcard in the prefix and a name that isn't known tell nothing.
+abbrev pub ElsewhereRows : Type 0
+ElsewhereRows =
+    map is_elsewhere
+    (given (codes "evdev:input:b0003*") (codes "KEYBOARD_KEY_70039")
+    ∷ given (codes "mouse:usb:*") (codes "KEYBOARD_KEY_70039")
+    ∷ given (codes "mouse:usb:*") (codes "MOUSE_DPI")
+    ∷ given (codes "evdev:input:*") (codes "MOUSE_DPI")
+    ∷ given (codes "sensor:modalias:*") (codes "MOUSE_DPI")
+    ∷ given (codes "workshop:*") (codes "KEYBOARD_KEY_70039")
+    ∷ given (codes "mous?:*") (codes "KEYBOARD_KEY_70039")
+    ∷ given (codes "mouse:usb:*") (codes "WORKSHOP_LIGHT")
+    ∷ [])
+    ≡ false ∷ true ∷ false ∷ false ∷ true ∷ false ∷ false ∷ false ∷ []
+
+-- A property is unread if it is so with each pattern of its record, and a match line never is.
+abbrev pub UnreadRows : Type 0
+UnreadRows =
+    map (is_unread (codes "mouse:usb:*\nevdev:input:*\n KEYBOARD_KEY_70039=a\n\nmouse:usb:*\nsensor:*\n KEYBOARD_KEY_70039=a\n")) (1 ∷ 3 ∷ 5 ∷ 7 ∷ [])
+    ≡ false ∷ false ∷ false ∷ true ∷ []
+
+-- A wheel's count is read with its angle alone, which another record may give the same pattern.
+abbrev pub UnpairedRows : Type 0
+UnpairedRows =
+    map (λ file. is_unpaired file 2)
+    (codes "mouse:usb:*\n MOUSE_WHEEL_CLICK_COUNT=24\n"
+    ∷ codes "mouse:usb:*\n MOUSE_WHEEL_CLICK_COUNT=24\n MOUSE_WHEEL_CLICK_ANGLE=15\n"
+    ∷ codes "mouse:usb:*\n MOUSE_WHEEL_CLICK_COUNT=24\n\nmouse:usb:*\n MOUSE_WHEEL_CLICK_ANGLE=15\n"
+    ∷ codes "mouse:usb:*\n MOUSE_WHEEL_CLICK_COUNT=24\n\nmouse:bluetooth:*\n MOUSE_WHEEL_CLICK_ANGLE=15\n"
+    ∷ codes "mouse:usb:*\n MOUSE_WHEEL_CLICK_ANGLE=15\n"
+    ∷ [])
+    ≡ true ∷ false ∷ false ∷ true ∷ false ∷ []
+
+-- where a property is read, and what it is read with
+abbrev pub HintRows : Type 0
+HintRows =
+    (unread_hint (codes "KEYBOARD_KEY_70039") ≡ codes "it is read below these prefixes: evdev")
+    × (unpaired_hint (codes "MOUSE_WHEEL_CLICK_COUNT") ≡ codes "give its record these too: MOUSE_WHEEL_CLICK_ANGLE")
+
+-- ---- lines that are repeated or replaced
+
+-- A match line repeats one of its own record alone: not of a record before, nor after a property.
+abbrev pub RepeatedRows : Type 0
+RepeatedRows =
+    map repeated_lines (codes "a\nb\na\n A=1\n" ∷ codes "a\n A=1\n\na\n A=1\n" ∷ codes "a\na\na\n A=1\n" ∷ codes "a\n# c\na # c\n A=1\n" ∷ [])
+    ≡ (3 ∷ []) ∷ [] ∷ (2 ∷ 3 ∷ []) ∷ (3 ∷ []) ∷ []
+
+-- An assignment is replaced by a later one of its pattern and key, unless that gives the same value.
+abbrev pub ReplacedRows : Type 0
+ReplacedRows =
+    map (replacing (codes "a\n A=1\n B=1\n\na\n A=2\n B=1\n\nb\n A=3\n")) (2 ∷ 3 ∷ 6 ∷ 9 ∷ [])
+    ≡ (6 ∷ []) ∷ [] ∷ [] ∷ [] ∷ []
+
+-- ---- each warning of one line
+
+-- whether the lines of a file get a warning
+abbrev pub warned : WarningKind → (file : List ℕ) → List Bool
+warned kind file = map (λ l. warns file kind l (clean_line l)) (lines file)
+
+-- A tab before a match line; a bracket that is open, in a match line alone; a range whose ends are exchanged; a blank on either side of
+-- the `=`; a `#` right after a value; and a carriage return that isn't at the end.
+abbrev pub WarnedRows : Type 0
+WarnedRows =
+    (warned LeadingTab (codes "a\n\tA=1\n B=1\n") ≡ false ∷ true ∷ false ∷ [])
+    × (warned OpenBracket (codes "a[b\na[b]\n A=[\n") ≡ true ∷ false ∷ false ∷ [])
+    × (warned EmptyRange (codes "a[b-a]\na[a-b]\n A=[b-a]\n") ≡ true ∷ false ∷ false ∷ [])
+    × (warned SpacedEquals (codes "a =b\n A =1\n B= 1\n C=1 \n") ≡ false ∷ true ∷ true ∷ false ∷ [])
+    × (warned CutValue (codes "a#b\n A=1#c\n B=1 # c\n# D=1#\n") ≡ false ∷ true ∷ false ∷ false ∷ [])
+    × (warned CarriageReturn (codes "a\rb\na\r\n A=\r1\n") ≡ true ∷ false ∷ true ∷ [])
+
+-- ---- what is printed
+
+-- a line at number 3
+abbrev pub at_three : List ℕ → Line
+at_three text = record { number = 3; text = text }
+
+-- Each report has its place: of a replaced assignment after the blanks, of a carriage return and of a `#` at that byte, of a bracket at
+-- that bracket.
+abbrev pub ReportRows : Type 0
+ReportRows =
+    warning_report (codes "f") (at_three (codes "  A=1")) (Replaced 7)
+    ∷ warning_report (codes "f") (at_three (codes " A=1#c")) CutValue
+    ∷ warning_report (codes "f") (at_three (codes "ab[c")) OpenBracket
+    ∷ warning_report (codes "f") (at_three (codes " A =1")) SpacedEquals
+    ∷ warning_report (codes "f") (at_three (codes "\ta")) LeadingTab
+    ∷ []
+    ≡ codes "f:3: warning: an assignment that line 7 replaces\n      A=1\n      ^\n    hint: take one of the two away\n"
+    ∷ codes "f:3: warning: a # without a blank before it cuts the value\n     A=1#c\n        ^\n    hint: put a blank before a comment; a value can't hold a #\n"
+    ∷ codes "f:3: warning: a [ that is never closed stands for itself\n    ab[c\n      ^\n    hint: close it with a ], or write [[] for the byte\n"
+    ∷ codes "f:3: warning: a blank beside the first =\n     A =1\n       ^\n    hint: take it away: it belongs to the key or to the value\n"
+    ∷ codes "f:3: warning: a match line that begins with a tab\n    \\x09a\n    ^\n    hint: begin a property with a space\n"
+    ∷ []
+
+-- As JSON the column counts from 1.
+abbrev pub JsonRows : Type 0
+JsonRows =
+    warning_json_line (codes "f") (at_three (codes " A=1#c")) CutValue
+    ≡ codes "{\"path\":\"f\",\"line\":3,\"column\":5,\"kind\":\"cut-value\",\"text\":\"a # without a blank before it cuts the value\",\"hint\":\"put a blank before a comment; a value can't hold a #\"}\n"
+
+-- Faults come by line, with the words that `update` has for them.
+abbrev pub FaultRows : Type 0
+FaultRows =
+    faults_text false (codes "f") (codes " A=1\nb\n")
+    ≡ codes "f:1: property where a match is expected, ignored\n     A=1\n     ^\n    hint: put a match line above it, with no empty line between them\n"
+    ++ codes "f:2: record without properties, ignored\n    b\n    ^\n    hint: put a property below it, on a line that begins with a space, or take the match line away\n"
+
+-- two files, of which the second has a fault
+abbrev pub some_tally : Tally
+some_tally = tally_of_both (record { files = 1; assignments = 2; faults = 0; warnings = 1 }) (record { files = 1; assignments = 0; faults = 1; warnings = 0 })
+
+-- the last line counts, and the status is 1 for a fault, or with `--strict` for a warning
+abbrev pub TallyRows : Type 0
+TallyRows =
+    (tally_line some_tally ≡ codes "2 files, 2 assignments, 1 fault, 1 warning\n")
+    × (tally_line empty_tally ≡ codes "0 files, 0 assignments, 0 faults, 0 warnings\n")
+    × (map (check_status false) (empty_tally ∷ record { files = 1; assignments = 2; faults = 0; warnings = 1 } ∷ some_tally ∷ []) ≡ 0 ∷ 0 ∷ 1 ∷ [])
+    × (map (check_status true) (empty_tally ∷ record { files = 1; assignments = 2; faults = 0; warnings = 1 } ∷ some_tally ∷ []) ≡ 0 ∷ 1 ∷ 1 ∷ [])

@@ -1,0 +1,6 @@
+pub mod SysfsRows
+pub mod FormRows
+pub mod CheckRows
+pub mod ChangeRows
+pub mod WantedRows
+pub mod SaidRows

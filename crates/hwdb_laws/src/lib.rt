@@ -1,0 +1,23 @@
+//! Laws over definitions alone: rows of what they give when they are computed, with expected values from outside.
+//!
+//! A definition that computes can be turned together with its function, and no contract notices. A row does: its value is a standard's, or
+//! of udev's own log, of a manual page, or worked out by hand. Nothing names this crate, so that no other one waits for it.
+//!
+//! | File of `specs/` | Rows of |
+//! |---|---|
+//! | `SysfsRows` | what a file system answers of sysfs |
+//! | `FormRows` | the forms of strings that udev asks |
+//! | `CheckRows` | what `check` says |
+//! | `ChangeRows` | what `diff` says |
+//! | `WantedRows` | what `test` says |
+//! | `SaidRows` | what `verify`, `update --verbose`, `explain` and `near` say |
+//!
+//! `rows` shows them.
+#![tactic(auto)]
+
+mod rows;
+
+pub use rows::{
+    change_rows, check_rows, explain_rows, form_rows, near_rows, sysfs_rows, update_rows,
+    verify_rows, wanted_rows,
+};

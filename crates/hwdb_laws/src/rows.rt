@@ -1,0 +1,96 @@
+//! The rows. Each function does nothing: its contract is that the definitions give them.
+ghost use Rattle.hwdb_laws.specs.ChangeRows;
+ghost use Rattle.hwdb_laws.specs.CheckRows;
+ghost use Rattle.hwdb_laws.specs.FormRows;
+ghost use Rattle.hwdb_laws.specs.SaidRows;
+ghost use Rattle.hwdb_laws.specs.SysfsRows;
+ghost use Rattle.hwdb_laws.specs.WantedRows;
+
+/// What a file system answers of sysfs.
+pub fn sysfs_rows()
+    ensures nowhere { SysfsRows.NowhereRows }
+    ensures leading { SysfsRows.LeadRows }
+    ensures listed { SysfsRows.ListedRows }
+    ensures attributes { SysfsRows.AttributeRows }
+    ensures paths { SysfsRows.PathRows }
+    ensures untold { SysfsRows.UntoldRows }
+{}
+
+/// The forms of strings that udev asks.
+pub fn form_rows()
+    ensures usb { FormRows.UsbRows }
+    ensures mouse { FormRows.MouseRows }
+    ensures bus { FormRows.BusRows }
+    ensures evdev { FormRows.EvdevRows }
+    ensures name { FormRows.NameRows }
+    ensures named_machine { FormRows.NameMachineRows }
+    ensures machine { FormRows.MachineRows }
+    ensures dmi { FormRows.DmiRows }
+    ensures sensor { FormRows.SensorRows }
+    ensures sensor_machine { FormRows.SensorMachineRows }
+    ensures battery { FormRows.PartRows }
+    ensures camera { FormRows.CameraRows }
+    ensures tablet { FormRows.TabletRows }
+    ensures bluetooth { FormRows.BluetoothRows }
+    ensures acpi { FormRows.AcpiRows }
+    ensures pci { FormRows.PciRows }
+    ensures firewire { FormRows.FireWireRows }
+    ensures oui { FormRows.OuiRows }
+    ensures screen { FormRows.ScreenRows }
+{}
+
+/// What `check` says.
+pub fn check_rows()
+    ensures told { CheckRows.ToldRows }
+    ensures elsewhere { CheckRows.ElsewhereRows }
+    ensures unread { CheckRows.UnreadRows }
+    ensures unpaired { CheckRows.UnpairedRows }
+    ensures hints { CheckRows.HintRows }
+    ensures repeated { CheckRows.RepeatedRows }
+    ensures replaced { CheckRows.ReplacedRows }
+    ensures warned { CheckRows.WarnedRows }
+    ensures reports { CheckRows.ReportRows }
+    ensures as_json { CheckRows.JsonRows }
+    ensures faults { CheckRows.FaultRows }
+    ensures tally { CheckRows.TallyRows }
+{}
+
+/// What `diff` says.
+pub fn change_rows()
+    ensures place { ChangeRows.PlaceRows }
+    ensures joined { ChangeRows.JoinedRows }
+    ensures differences { ChangeRows.DifferenceRows }
+    ensures lines { ChangeRows.LineRows }
+    ensures device { ChangeRows.DeviceRows }
+    ensures files { ChangeRows.FileRows }
+{}
+
+/// What `test` says.
+pub fn wanted_rows()
+    ensures held { WantedRows.HeldRows }
+    ensures status { WantedRows.StatusRows }
+    ensures text { WantedRows.TestRows }
+{}
+
+/// What `verify` says.
+pub fn verify_rows()
+    ensures { SaidRows.SummaryRows }
+{}
+
+/// What `update --verbose` says.
+pub fn update_rows()
+    ensures progress { SaidRows.ProgressRows }
+    ensures faults { SaidRows.FaultRows }
+    ensures hiding { SaidRows.HidingRows }
+{}
+
+/// What `explain` says.
+pub fn explain_rows()
+    ensures { SaidRows.ExplainRows }
+{}
+
+/// What `near` says.
+pub fn near_rows()
+    ensures text { SaidRows.NearRows }
+    ensures as_json { SaidRows.NearJsonRows }
+{}
