@@ -163,6 +163,8 @@ fn left_out(subsystem: &[u8]) -> &'static [u8]
         b"left out: 90-iocost asks by what the disk itself answers\n"
     } else if same(subsystem, b"net") {
         b"left out: udev asks ethtool for the driver; this is the nearest parent's\n"
+    } else if same(subsystem, b"tpmrm") {
+        b"left out: 60-tpm2-id asks by what the TPM itself answers\n"
     } else {
         b""
     }

@@ -15,7 +15,7 @@
 //! | `holding` | all assignments of a database at once, their patterns in one text |
 //! | `records` | the records of a dump, and what a record says; `plain`: those that say it for sure |
 //! | `difference` | `diff`: what changed from one database to another, of all or for devices |
-//! | `summary` | how much is in a database |
+//! | `summary` | how much is in a database; `depths`: how deep it is alone |
 //! | `texts` | whether texts are one; `ordering`: texts in order, each once |
 //! | `freshness` | `status`: how a database is beside what the text files make; `alike`: whether two databases assign the same |
 //! | `amounts` | how much is in a database, as `status` says it; `inventory`: what is counted for it |
@@ -33,6 +33,7 @@ mod alike;
 mod amounts;
 mod counting;
 mod counts_text;
+mod depths;
 mod device_lines;
 mod difference;
 mod freshness;
@@ -59,6 +60,7 @@ mod verification;
 mod walk;
 
 pub use amounts::{Amount, amount_of};
+pub use depths::depth_of;
 pub use difference::{Changes, diff, diff_devices, stat, stat_devices};
 pub use freshness::{Standing, State, standing_of};
 pub use hwdb_spec::{DiffError, DumpError, VerifyError};

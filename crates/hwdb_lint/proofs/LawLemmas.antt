@@ -11,10 +11,10 @@ use Rattle.hwdb_spec.specs.Kinds.{warning_name}
 use Rattle.hwdb_spec.specs.Lines.{begins_with, byte, is_none, max_pattern, pieces}
 use Rattle.hwdb_spec.specs.Unmatched.{compare_hint, expected_after, judgement_of, runs_from}
 use Rattle.hwdb_spec.specs.declared.Judgement.TheVariants.{Dead, Fine, UnknownPrefix}
-use Rattle.hwdb_spec.specs.declared.WarningKind.TheVariants.{ByteOrderMark, CarriageReturn, CutValue, EmptyRange, LeadingTab, Misused, OpenBracket, RepeatedMatch, Replaced, SpacedEquals, TooLongForUdev, Unmatched, Unpaired, Unread}
+use Rattle.hwdb_spec.specs.declared.WarningKind.TheVariants.{ByteOrderMark, CarriageReturn, CutValue, EmptyRange, LeadingTab, MayBeTooDeep, Misused, OpenBracket, RepeatedMatch, Replaced, SpacedEquals, TooLongForUdev, Unmatched, Unpaired, Unread}
 use Rattle.hwdb_spec.specs.declared.WarningKind.{WarningKind}
 use Rattle.hwdb_spec.specs.declared.vocabulary.Misuse.TheVariants.{NearName, ScanCode, TwoDefaults, UnfitValue, UnknownKey, ZeroRow}
-use Rattle.hwdb_lint.specs.Laws.{KindsAreNamed, PatternsAreJudged, RunsAreAll, TooLongRows, UnmatchedRows, kind_number, kinds, run_bytes}
+use Rattle.hwdb_lint.specs.Laws.{KindsAreNamed, PatternsAreJudged, RunsAreAll, TooDeepRows, TooLongRows, UnmatchedRows, kind_number, kinds, run_bytes}
 
 -- ---- runs
 one_more : (n first : ℕ) → all_bytes_from (suc n) first ≡ all_bytes_from n first ++ (n + first) ∷ []
@@ -154,6 +154,7 @@ at (Unmatched UnknownPrefix) = (omega arith, refl)
 at (Unmatched (Dead place)) = (omega arith, refl)
 at (Unmatched Fine) = (omega arith, refl)
 at TooLongForUdev = (omega arith, refl)
+at MayBeTooDeep = (omega arith, refl)
 
 long : length names ≡ 21
 unfolding pieces
@@ -185,6 +186,17 @@ too_long_rows = record {
   question_mark = refl;
   bracket = refl;
   plain = refl;
+  property = refl;
+  left_out = refl;
+  place = refl;
+}
+
+pub too_deep_rows : TooDeepRows
+too_deep_rows = record {
+  most = refl;
+  more = refl;
+  wild = refl;
+  told_once = refl;
   property = refl;
   left_out = refl;
   place = refl;

@@ -248,7 +248,7 @@ module _ (file : List ℕ) (f : IsFlat file) (l : Line) where
                         not_replaced,
                         (
                           no_misuse (is_property clean) _ n,
-                          (f.unread l.number, (f.unpaired l.number, (p.judged, (p.short, tt)))),
+                          (f.unread l.number, (f.unpaired l.number, (p.judged, (p.short, (p.shallow, tt))))),
                         ),
                       ),
                     ),

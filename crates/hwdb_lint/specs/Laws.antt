@@ -5,9 +5,9 @@ use Rattle.hwdb_spec.specs.FormTable.{asked}
 use Rattle.hwdb_spec.specs.Kinds.{warning_name}
 use Rattle.hwdb_spec.specs.Lines.{begins_with, byte, is, is_none, max_pattern, pieces}
 use Rattle.hwdb_spec.specs.Unmatched.{compare_hint, is_unmatched, judgement_hint, judgement_of, judgement_place, judgement_text, place_hint, prefix_hint, runs, runs_hint}
-use Rattle.hwdb_spec.specs.Warnings.{is_too_long, warning_place}
+use Rattle.hwdb_spec.specs.Warnings.{is_too_long, may_be_too_deep, warning_place}
 use Rattle.hwdb_spec.specs.declared.Judgement.TheVariants.{Dead, Fine, UnknownPrefix}
-use Rattle.hwdb_spec.specs.declared.WarningKind.TheVariants.{ByteOrderMark, CarriageReturn, CutValue, EmptyRange, LeadingTab, Misused, OpenBracket, RepeatedMatch, Replaced, SpacedEquals, TooLongForUdev, Unmatched, Unpaired, Unread}
+use Rattle.hwdb_spec.specs.declared.WarningKind.TheVariants.{ByteOrderMark, CarriageReturn, CutValue, EmptyRange, LeadingTab, MayBeTooDeep, Misused, OpenBracket, RepeatedMatch, Replaced, SpacedEquals, TooLongForUdev, Unmatched, Unpaired, Unread}
 use Rattle.hwdb_spec.specs.declared.WarningKind.{WarningKind}
 use Rattle.hwdb_spec.specs.declared.vocabulary.Misuse.TheVariants.{NearName, ScanCode, TwoDefaults, UnfitValue, UnknownKey, ZeroRow}
 use Rattle.hwdb_spec.specs.declared.vocabulary.Misuse.{Misuse}
@@ -65,6 +65,20 @@ pub record TooLongRows : Type 0 where
   pub left_out : is_told_with (codes "usb:*") 4092 ≡ false
   pub place : warning_place TooLongForUdev (codes "usb:v*") (codes "usb:v*") ≡ 5
 
+-- whether a line is told as perhaps too deep that begins so and has so many bytes more
+abbrev pub is_deep_with : (begin : List ℕ) → (more : ℕ) → Bool
+is_deep_with begin more = may_be_too_deep (record { number = 1; text = begin ++ replicate more 97 })
+
+-- all bytes count, of a match line that isn't left out and isn't told as too long
+pub record TooDeepRows : Type 0 where
+  pub most : is_deep_with (codes "usb:") 2043 ≡ false
+  pub more : is_deep_with (codes "usb:") 2044 ≡ true
+  pub wild : is_deep_with (codes "usb:v*") 2042 ≡ true
+  pub told_once : is_deep_with (codes "usb:*") 2046 ≡ false
+  pub property : is_deep_with (codes " A=") 2046 ≡ false
+  pub left_out : is_deep_with (codes "usb:") 4093 ≡ false
+  pub place : warning_place MayBeTooDeep (codes "usb:") (codes "usb:") ≡ 2047
+
 -- ---- names
 -- the names of all kinds of warnings, as `--allow` takes them
 abbrev pub kinds : List (List ℕ)
@@ -96,9 +110,11 @@ kind_number Unpaired = 16
 kind_number (Unmatched UnknownPrefix) = 17
 kind_number (Unmatched (Dead place)) = 18
 kind_number TooLongForUdev = 19
+kind_number MayBeTooDeep = 19
 kind_number (Unmatched Fine) = 20
 
--- Each kind of warning has its own name among these, and each of them is the name of one kind.
+-- Each kind of warning has its own name among these, and each of them is the name of one kind. Both kinds of what udev can't take count
+-- as one.
 pub record KindsAreNamed : Type 0 where
   pub each : (kind : WarningKind) → (kind_number kind ≡ 20) ⊎ Contains kinds (warning_name kind)
   pub all : (some : List WarningKind) × (map warning_name some ≡ kinds)

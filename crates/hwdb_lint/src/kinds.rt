@@ -96,7 +96,7 @@ pub fn warning_name(kind: WarningKind) -> &'static str
         WarningKind::Unread => "unread",
         WarningKind::Unpaired => "unpaired",
         WarningKind::Unmatched(judgement) => judgement_name(judgement),
-        WarningKind::TooLongForUdev => "too-long-for-udev",
+        WarningKind::TooLongForUdev | WarningKind::MayBeTooDeep => "too-long-for-udev",
     }
 }
 

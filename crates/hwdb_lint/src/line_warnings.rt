@@ -249,6 +249,25 @@ pub fn is_too_long(clean: &[u8]) -> bool
     has_long_rest(clean)
 }
 
+/// How many bytes a match line may have so that no database of it is too deep for udev.
+pub const LONGEST_LINE: usize = 2047;
+
+/// Whether a database may be too deep for udev with a match line that is read, which isn't told as too long.
+pub fn may_be_too_deep(clean: &[u8]) -> bool
+    ensures { result ≡ Warnings.may_be_too_deep (line_of 0 clean.now) }
+{
+    if is_too_long(clean) {
+        return false;
+    }
+    if !is_match(clean) {
+        return false;
+    }
+    if clean.len() > LONGEST_MATCH {
+        return false;
+    }
+    clean.len() > LONGEST_LINE
+}
+
 /// Whether a later line replaces one, if that one's number or 0 is given.
 fn is_replaced(by: u64) -> bool
     ensures { result ≡ nat_lt 0 by }
@@ -277,6 +296,7 @@ pub fn is_warned(kind: WarningKind, line: &Read<'_>) -> bool
         WarningKind::Unpaired => line.unpaired,
         WarningKind::Unmatched(_) => is_unmatched(line.judgement),
         WarningKind::TooLongForUdev => is_too_long(line.clean),
+        WarningKind::MayBeTooDeep => may_be_too_deep(line.clean),
     }
 }
 
@@ -326,11 +346,14 @@ pub fn is_warned_at_all(line: &Read<'_>) -> bool
     if is_too_long(line.clean) {
         return true;
     }
+    if may_be_too_deep(line.clean) {
+        return true;
+    }
     false
 }
 
 /// The kinds of warnings that a line may get.
-pub fn kinds_of(line: &Read<'_>) -> [WarningKind; 14]
+pub fn kinds_of(line: &Read<'_>) -> [WarningKind; 15]
     requires { IsRead line.now }
     ensures { result ≡ Warnings.line_kinds line.now.bytes.now (clean_of line.now) }
 {
@@ -349,5 +372,6 @@ pub fn kinds_of(line: &Read<'_>) -> [WarningKind; 14]
         WarningKind::Unpaired,
         WarningKind::Unmatched(line.judgement),
         WarningKind::TooLongForUdev,
+        WarningKind::MayBeTooDeep,
     ]
 }

@@ -15,7 +15,7 @@ ghost use Rattle.hwdb_lint.specs.Plain.{AreSteady, IsPlainAssignment, IsPlainFil
 use crate::judgements::judgement_of;
 use crate::line_warnings::{
     begins_with_mark, begins_with_tab, has_return, holds_bracket, is_spaced, is_too_long,
-    is_unmatched,
+    is_unmatched, may_be_too_deep,
 };
 use crate::replacements::ascend;
 use hwdb_properties::is_common;
@@ -37,6 +37,9 @@ fn is_plain_pattern(alloc: Global, pattern: &[u8]) -> Result<bool, AllocError>
         return Ok(false);
     }
     if is_too_long(pattern) {
+        return Ok(false);
+    }
+    if may_be_too_deep(pattern) {
         return Ok(false);
     }
     let judgement = judgement_of(alloc, pattern)?;

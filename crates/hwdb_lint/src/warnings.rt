@@ -13,7 +13,9 @@ use crate::json_lines::{Finding, finding_line};
 use crate::judgements::{judgement_of, judgement_place, judgement_text, push_judgement_hint};
 use crate::kinds::{Telling, is_told, warning_name};
 use crate::known::{Known, known_of, nothing_known};
-use crate::line_warnings::{Read, closed, is_warned, is_warned_at_all, kinds_of, wild_place};
+use crate::line_warnings::{
+    LONGEST_LINE, Read, closed, is_warned, is_warned_at_all, kinds_of, wild_place,
+};
 use crate::misuses::{misuse_in, push_hint_of_misuse, push_unpaired_hint, push_unread_hint};
 use crate::plain_files::{is_plain, tame_after, tame_size};
 use hwdb_pattern::{open_place, range_place};
@@ -44,6 +46,9 @@ fn text_of(kind: WarningKind) -> &'static str
         WarningKind::Unmatched(judgement) => judgement_text(judgement),
         WarningKind::TooLongForUdev => {
             "udev takes at most 2046 bytes from the first *, ? or [ on"
+        }
+        WarningKind::MayBeTooDeep => {
+            "with other lines, more than 2047 bytes may be too deep for udev"
         }
     }
 }
@@ -76,6 +81,9 @@ fn hint_of(kind: WarningKind) -> &'static str
         WarningKind::RepeatedMatch | WarningKind::Replaced(_) => "take one of the two away",
         WarningKind::TooLongForUdev => {
             "shorten it: systemd 252 and 257 crash at it, and 262 finds nothing"
+        }
+        WarningKind::MayBeTooDeep => {
+            "shorten it: systemd 262 refuses a depth of more than 2048, which hwdb verify tells"
         }
         WarningKind::Misused(_)
         | WarningKind::Unread
@@ -144,6 +152,7 @@ fn warning_place(kind: WarningKind, line: &[u8], clean: &[u8]) -> usize
         WarningKind::Unread | WarningKind::Unpaired => indent_of(line),
         WarningKind::Unmatched(judgement) => judgement_place(judgement),
         WarningKind::TooLongForUdev => wild_place(clean),
+        WarningKind::MayBeTooDeep => LONGEST_LINE,
     }
 }
 

@@ -7,6 +7,7 @@
 //! | `colours` | texts in colour |
 //! | `json_values` | values of JSON, token by token |
 //! | `escapes` | JSON's text with DEL and U+0080 to U+009F escaped |
+//! | `words` | words of a shell, as commands that are told have them |
 //! | `laws` | what is proved of the definitions alone |
 #![tactic(auto)]
 
@@ -16,6 +17,7 @@ mod json_values;
 mod laws;
 mod shown;
 mod visible;
+mod words;
 
 pub use colours::{colours_are_taken_out, painted};
 pub use json_values::{ended, put_bytes, put_count, put_flag, put_member, put_number, put_text};
@@ -24,3 +26,4 @@ pub use shown::{push_byte, push_mark_line, push_shown, push_shown_line};
 pub use visible::{
     names_forge_no_line, push_name, push_visible, shown_has_no_control, write_visible,
 };
+pub use words::push_word;

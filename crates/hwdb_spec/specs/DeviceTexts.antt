@@ -133,11 +133,12 @@ abbrev pub subsystem_of : List Ancestor → List ℕ
 subsystem_of [] = []
 subsystem_of (own ∷ parents) = own.subsystem
 
--- what needs more than sysfs and is left out, by the device's subsystem (90-iocost.rules, 75-net-description.rules)
+-- what needs more than sysfs and is left out, by the device's subsystem (90-iocost.rules, 75-net-description.rules, 60-tpm2-id.rules of 262)
 abbrev pub left_out_text : (subsystem : List ℕ) → List ℕ
 left_out_text subsystem =
     if same subsystem (codes "block") then codes "left out: 90-iocost asks by what the disk itself answers\n"
-    else (if same subsystem (codes "net") then codes "left out: udev asks ethtool for the driver; this is the nearest parent's\n" else [])
+    else (if same subsystem (codes "net") then codes "left out: udev asks ethtool for the driver; this is the nearest parent's\n"
+    else (if same subsystem (codes "tpmrm") then codes "left out: 60-tpm2-id asks by what the TPM itself answers\n" else []))
 
 -- what is printed without options
 abbrev pub lookups_text : Device → List Found → List ℕ

@@ -9,6 +9,7 @@ use Rattle.hwdb_spec.specs.LoneFile.{lone}
 use Rattle.hwdb_spec.specs.Outputs.{Texts}
 use Rattle.hwdb_spec.specs.Progress.{listing, update_text}
 use Rattle.hwdb_spec.specs.Store.{Contents, LeftAtParts, Outcomes, Stored, database_file, database_name, path_in}
+use Rattle.hwdb_spec.specs.Summary.{depth}
 use Rattle.hwdb_spec.specs.System.{AreFilesIn, database_folder, etc_files, usr_files}
 use Rattle.hwdb_spec.specs.Texts.{faults_text_at, max_file, query_text, status_of}
 use Rattle.hwdb_spec.specs.Tree.{map_of_files}
@@ -22,7 +23,7 @@ pub record Updated (etc usr : List Source) (listed : Option (List (List ℕ))) (
   pub written : IsWritten (map_of_files etc usr) database
   pub compiled : IsCompiled etc usr database
   pub within : length database ≤ max_bytes
-  pub told : Appends err_before err_now (update_text listed etc usr)
+  pub told : Appends err_before err_now (update_text listed etc usr (depth compiled.0))
   pub stored : in_place database
   pub answer : status ≡ status_of strict (faults_of_files etc usr)
 

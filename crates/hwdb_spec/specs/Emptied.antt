@@ -2,7 +2,7 @@
 -- something, and how to get that back. Our choice.
 use Rattle.std.specs.Prelude.{◌++◌, ◌∷◌, ◌≡◌, ◌≤◌, ◌⊎◌, [], Bool, IfSome, List, None, Option, Some, codes, false, if◌then◌else◌, length, true, ℕ}
 use Rattle.hwdb_spec.specs.Asked.{database_path}
-use Rattle.hwdb_spec.specs.Commands.{update_words}
+use Rattle.hwdb_spec.specs.Commands.{removing_words, update_words}
 use Rattle.hwdb_spec.specs.Folders.{Choice}
 use Rattle.hwdb_spec.specs.Format.{IsDatabase}
 use Rattle.hwdb_spec.specs.Lines.{byte}
@@ -11,6 +11,7 @@ use Rattle.hwdb_spec.specs.Store.{Contents}
 use Rattle.hwdb_spec.specs.System.{bytes_at}
 use Rattle.hwdb_spec.specs.Texts.{max_file}
 use Rattle.hwdb_spec.specs.Tree.{Tree, members_under}
+use Rattle.hwdb_spec.specs.Visible.{shown_name}
 use Rattle.hwdb_spec.specs.declared.refusals.Refusal.{Refusal}
 
 -- the bytes are a database that assigns nothing
@@ -24,27 +25,29 @@ IsLost None lost = lost ≡ false
 IsLost (Some bytes) false = AssignNothing bytes
 IsLost (Some bytes) true = AssignNothing bytes → ⊥
 
--- the line of a database that is replaced by an empty one
-abbrev pub emptied_line : (root : List ℕ) (usr : Bool) → List ℕ
-emptied_line root usr =
-    database_path usr root
-    ++ (codes " becomes empty: there are no text files. Bring them back, and then run: " ++ (update_words usr root ++ byte "\n" ∷ []))
+-- what is said of a database that is replaced by an empty one
+abbrev pub emptied_words : (root : List ℕ) (usr : Bool) → List ℕ
+emptied_words root usr =
+    database_path usr root ++ (codes " becomes empty: there are no text files. Bring them back, and then run: " ++ update_words usr root)
 
--- the line of a database of /usr/lib that an empty one hides
-abbrev pub hidden_line : (root : List ℕ) → List ℕ
-hidden_line root =
+-- what is said of a database of /usr/lib that an empty one hides
+abbrev pub hidden_words : (root : List ℕ) → List ℕ
+hidden_words root =
     database_path false root
-    ++ (codes " is empty and hides " ++ (database_path true root
-    ++ (codes ": there are no text files. To use that one, run: rm " ++ (database_path false root ++ byte "\n" ∷ []))))
+    ++ (codes " is empty and hides " ++ (database_path true root ++ (codes ": there are no text files. To use that one, run: " ++ removing_words root)))
 
--- a line if it is to be said
-abbrev pub line_if : Bool → List ℕ → List ℕ
-line_if said line = if said then line else []
+-- what is said as a line, in which names are shown
+abbrev pub loss_line : (words : List ℕ) → List ℕ
+loss_line words = shown_name words ++ byte "\n" ∷ []
+
+-- the line if it is to be said
+abbrev pub line_if : Bool → (words : List ℕ) → List ℕ
+line_if said words = if said then loss_line words else []
 
 -- The lines of what is lost, by whether /etc's and /usr/lib's are: a new one of /etc hides that of /usr/lib.
 abbrev pub loss_text : (root : List ℕ) (usr etc_lost usr_lost : Bool) → List ℕ
-loss_text root true etc_lost usr_lost = line_if usr_lost (emptied_line root true)
-loss_text root false etc_lost usr_lost = line_if etc_lost (emptied_line root false) ++ line_if usr_lost (hidden_line root)
+loss_text root true etc_lost usr_lost = line_if usr_lost (emptied_words root true)
+loss_text root false etc_lost usr_lost = line_if etc_lost (emptied_words root false) ++ line_if usr_lost (hidden_words root)
 
 -- what is in the place of the database of a folder has no more bytes than a file may have, if something is there
 abbrev pub IsShort : (usr : Bool) (root : List ℕ) → Contents → Type 0

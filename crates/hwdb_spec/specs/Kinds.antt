@@ -7,7 +7,7 @@ use Rattle.hwdb_spec.specs.declared.FaultKind.TheVariants.{EmptyKey, LongMatch, 
 use Rattle.hwdb_spec.specs.declared.Judgement.{Judgement}
 use Rattle.hwdb_spec.specs.declared.Judgement.TheVariants.{Dead, Fine, UnknownPrefix}
 use Rattle.hwdb_spec.specs.declared.WarningKind.{WarningKind}
-use Rattle.hwdb_spec.specs.declared.WarningKind.TheVariants.{ByteOrderMark, CarriageReturn, CutValue, EmptyRange, LeadingTab, Misused, OpenBracket, RepeatedMatch, Replaced, SpacedEquals, TooLongForUdev, Unmatched, Unpaired, Unread}
+use Rattle.hwdb_spec.specs.declared.WarningKind.TheVariants.{ByteOrderMark, CarriageReturn, CutValue, EmptyRange, LeadingTab, MayBeTooDeep, Misused, OpenBracket, RepeatedMatch, Replaced, SpacedEquals, TooLongForUdev, Unmatched, Unpaired, Unread}
 use Rattle.hwdb_spec.specs.declared.vocabulary.Misuse.{Misuse}
 use Rattle.hwdb_spec.specs.declared.vocabulary.Misuse.TheVariants.{NearName, ScanCode, TwoDefaults, UnfitValue, UnknownKey, ZeroRow}
 
@@ -36,7 +36,7 @@ judgement_name Fine = []
 judgement_name UnknownPrefix = codes "unknown-prefix"
 judgement_name (Dead place) = codes "dead-pattern"
 
--- the name of a kind of warning
+-- the name of a kind of warning; both that tell what udev can't take have one name
 abbrev pub warning_name : WarningKind → List ℕ
 warning_name ByteOrderMark = codes "byte-order-mark"
 warning_name LeadingTab = codes "leading-tab"
@@ -52,6 +52,7 @@ warning_name Unread = codes "unread"
 warning_name Unpaired = codes "unpaired"
 warning_name (Unmatched told) = judgement_name told
 warning_name TooLongForUdev = codes "too-long-for-udev"
+warning_name MayBeTooDeep = codes "too-long-for-udev"
 
 -- whether a warning is told: its name isn't among those that are allowed
 abbrev pub is_told : (allowed : List (List ℕ)) → WarningKind → Bool

@@ -48,6 +48,7 @@ pub mod Given
 pub mod CheckedFiles
 pub mod LeftOut
 pub mod Asked
+pub mod Commands
 pub mod Library
 pub mod Blocks
 pub mod Hiding
@@ -96,7 +97,6 @@ pub mod Tested
 pub mod TestErrors
 pub mod DeviceErrors
 pub mod Readable
-pub mod Commands
 pub mod Emptied
 pub mod HidingTold
 pub mod Reasons

@@ -1,13 +1,14 @@
 -- What `update` says of its work. With `--verbose` it tells the text files that it takes, and which of them mask others.
 -- It tells how many assignments they have, and how many of these the database keeps. Then it warns of the match lines that udev
--- can't take. At the end come, always, the fault lines. Our choice.
-use Rattle.std.specs.Prelude.{Bool, true, false, ℕ, List, [], ◌∷◌, ◌++◌, ◌-◌, ◌^◌, Option, None, Some, if◌then◌else◌, codes, flat_map, length, map, min}
+-- can't take, and of a database that is too deep for udev. At the end come, always, the fault lines. Our choice.
+use Rattle.std.specs.Prelude.{Bool, true, false, ℕ, List, [], ◌∷◌, ◌++◌, ◌-◌, ◌^◌, Option, None, Some, if◌then◌else◌, codes, flat_map, length, map, min, nat_lt}
 use Rattle.std.specs.Fmt.{decimal}
 use Rattle.std.specs.FinMap as finite
 use Rattle.hwdb_spec.specs.Checks.{count_text}
 use Rattle.hwdb_spec.specs.Folders.{Choice, Source, all_assignments, chosen_of, contents, faults_of_files, lists, path_of}
 use Rattle.hwdb_spec.specs.Lines.{Line, byte, clean_line, is_dropped, lines}
 use Rattle.hwdb_spec.specs.Once.{once}
+use Rattle.hwdb_spec.specs.Summary.{deepest_for_udev}
 use Rattle.hwdb_spec.specs.Texts.{faults_text}
 use Rattle.hwdb_spec.specs.Tree.{map_of_files}
 use Rattle.hwdb_spec.specs.Visible.{shown_name}
@@ -44,18 +45,25 @@ too_long_lines read c = flat_map (too_long_line (path_of c)) (lines (read c))
 abbrev pub given_count : (etc usr : List Source) → ℕ
 given_count etc usr = within_64_bits (length (once (all_assignments etc usr)))
 
--- What `update --verbose` says before the fault lines. If the names of /usr/lib's files are given, it is a line for each chosen file
--- and how much they assign; what survives of that is kept. Then come the match lines that udev can't take. Else it is nothing.
-abbrev pub progress_text : (listed : Option (List (List ℕ))) (etc usr : List Source) → List ℕ
-progress_text None etc usr = []
-progress_text (Some listed) etc usr =
-    (flat_map (chosen_line listed) (chosen_of etc usr)
-    ++ kept_line (length (chosen_of etc usr)) (given_count etc usr) (finite.len (map_of_files etc usr)))
-    ++ flat_map (too_long_lines (contents etc usr)) (chosen_of etc usr)
+-- the warning of a database with so many nodes one below the other, if it is too deep for udev
+abbrev pub deep_line : (depth : ℕ) → List ℕ
+deep_line depth =
+    if nat_lt deepest_for_udev depth then codes "warning: the depth is " ++ (decimal depth ++ codes ": udev of systemd 262 refuses more than 2048\n") else []
 
--- what `update` says of the files of both folders
-abbrev pub update_text : (listed : Option (List (List ℕ))) (etc usr : List Source) → List ℕ
-update_text listed etc usr = progress_text listed etc usr ++ faults_text (faults_of_files etc usr)
+-- What `update --verbose` says before the fault lines. If the names of /usr/lib's files are given, it is a line for each chosen file
+-- and how much they assign; what survives of that is kept. Then come the match lines that udev can't take, and whether the database
+-- is too deep. Else it is nothing.
+abbrev pub progress_text : (listed : Option (List (List ℕ))) (etc usr : List Source) (depth : ℕ) → List ℕ
+progress_text None etc usr depth = []
+progress_text (Some listed) etc usr depth =
+    ((flat_map (chosen_line listed) (chosen_of etc usr)
+    ++ kept_line (length (chosen_of etc usr)) (given_count etc usr) (finite.len (map_of_files etc usr)))
+    ++ flat_map (too_long_lines (contents etc usr)) (chosen_of etc usr))
+    ++ deep_line depth
+
+-- what `update` says of the files of both folders, whose database has this depth
+abbrev pub update_text : (listed : Option (List (List ℕ))) (etc usr : List Source) (depth : ℕ) → List ℕ
+update_text listed etc usr depth = progress_text listed etc usr depth ++ faults_text (faults_of_files etc usr)
 
 -- names that are given if `verbose`
 abbrev pub given_where : (verbose : Bool) → List (List ℕ) → Option (List (List ℕ))

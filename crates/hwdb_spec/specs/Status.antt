@@ -5,7 +5,7 @@ use Rattle.json.specs.Json.{Json, null}
 use Rattle.hwdb_spec.specs.Asked.{database_path}
 use Rattle.hwdb_spec.specs.Assignment.{ascending}
 use Rattle.hwdb_spec.specs.Checks.{count_text}
-use Rattle.hwdb_spec.specs.Commands.{update_words}
+use Rattle.hwdb_spec.specs.Commands.{removing_words, update_words}
 use Rattle.hwdb_spec.specs.Differences.{Change, change_text, differences}
 use Rattle.hwdb_spec.specs.Folders.{AreAccepted, Choice, Source, chosen_of}
 use Rattle.hwdb_spec.specs.Format.{IsDatabase}
@@ -252,7 +252,7 @@ path_hidden root etc usr = None
 -- The command after which the asked database is fresh and hides none. If there are two it makes that of /usr/lib anew, of the text
 -- files of both folders, and removes the one that hides it.
 abbrev pub renewing_words : (root : List ℕ) (etc usr : Bool) → List ℕ
-renewing_words root true true = update_words true root ++ (codes " && rm " ++ database_path false root)
+renewing_words root true true = update_words true root ++ (codes " && " ++ removing_words root)
 renewing_words root false true = update_words true root
 renewing_words root etc false = update_words false root
 
@@ -269,7 +269,7 @@ hides_in_vain state hidden = assigns hidden
 -- Without text files an update would make an empty database. So none is told: only, if /etc's assigns nothing and hides one of
 -- /usr/lib that assigns something, how to remove it.
 abbrev pub unhiding_words : (root : List ℕ) → State → (hidden : Option Amount) → Option (List ℕ)
-unhiding_words root state hidden = if hides_in_vain state hidden then Some (codes "rm " ++ database_path false root) else None
+unhiding_words root state hidden = if hides_in_vain state hidden then Some (removing_words root) else None
 
 -- The command that is told, if there is one: none if the asked database is fresh and hides none.
 abbrev pub remedy_of : (root : List ℕ) (etc usr bare : Bool) → State → (hidden : Option Amount) → Option (List ℕ)

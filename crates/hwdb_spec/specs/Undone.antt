@@ -12,8 +12,11 @@ use Rattle.hwdb_spec.specs.Outputs.{CutShortOne, Texts, TookOne}
 use Rattle.hwdb_spec.specs.Progress.{listing, update_text}
 use Rattle.hwdb_spec.specs.Runs.{AreKept, Files, HasTaken, PrintedPart, Told, WasCut}
 use Rattle.hwdb_spec.specs.Store.{AreTaken, Contents, most_parts}
+use Rattle.hwdb_spec.specs.Summary.{depth}
 use Rattle.hwdb_spec.specs.System.{AreFilesIn, asked_database, bytes_at, database_folder, etc_files, usr_files}
 use Rattle.hwdb_spec.specs.Texts.{max_file}
+use Rattle.hwdb_spec.specs.Tree.{map_of_files}
+use Rattle.hwdb_spec.specs.Written.{IsCompiled, IsWritten}
 use Rattle.hwdb_spec.specs.declared.errors.Unreplaced.{Unreplaced}
 use Rattle.hwdb_spec.specs.Reading.{AreUnread}
 use Rattle.hwdb_spec.specs.Refusals.{IsOfDatabase, IsOver, IsUnread, IsUnreadAt, IsUnreadable}
@@ -128,6 +131,13 @@ pub record AreNotChecked (Are : List Source → Type 0) (refusal : Refusal) : Ty
 abbrev pub IsCheckRefused : (Unread : Refusal → Type 0) (Are : List Source → Type 0) → Refusal → Type 0
 IsCheckRefused Unread Are refusal = Unread refusal ⊎ AreNotChecked Are refusal
 
+-- what is said of the files, after what is lost, was cut
+pub record WasSayingCut (loss : List ℕ) (of_etc of_usr : List Source) (listed : Option (List (List ℕ))) (err_before err_now : Told) : Type 0 where
+  pub database : List ℕ
+  pub written : IsWritten (map_of_files of_etc of_usr) database
+  pub compiled : IsCompiled of_etc of_usr database
+  pub cut : WasCut (loss ++ update_text listed of_etc of_usr (depth compiled.0)) err_before err_now
+
 -- compiling the files fails, or what is said of them can't be written, after what is lost: no file changed
 pub record IsUncompiled (loss : List ℕ) (of_etc of_usr : List Source) (listed : Option (List (List ℕ))) (refusal : Refusal) (before now : Files) (err_before err_now : Told) : Type 0 where
   pub error : ToolError
@@ -135,7 +145,7 @@ pub record IsUncompiled (loss : List ℕ) (of_etc of_usr : List Source) (listed 
   pub refused : IsUpdateRefusal of_etc of_usr max_file error
   pub kept : AreKept before now
   pub untouched : error ≢ Write → err_now ≡ err_before
-  pub cut : error ≡ Write → WasCut (loss ++ update_text listed of_etc of_usr) err_before err_now
+  pub cut : error ≡ Write → WasSayingCut loss of_etc of_usr listed err_before err_now
 
 -- the database can't be replaced, after standard error took what is lost, and then what is said of the files
 pub record IsUnwritten (loss root : List ℕ) (usr : Bool) (of_etc of_usr : List Source) (listed : Option (List (List ℕ))) (refusal : Refusal) (before now : Files) (err_before err_now : Told) : Type 0 where

@@ -6,8 +6,9 @@ use Rattle.hwdb_spec.specs.Folders.{HaveManyLines, Source}
 use Rattle.hwdb_spec.specs.LoneFile.{lone}
 use Rattle.hwdb_spec.specs.Progress.{update_text}
 use Rattle.hwdb_spec.specs.Store.{Contents, Outcomes}
+use Rattle.hwdb_spec.specs.Summary.{depth}
 use Rattle.hwdb_spec.specs.Tree.{map_of_files}
-use Rattle.hwdb_spec.specs.Written.{IsTooLarge, IsWritten}
+use Rattle.hwdb_spec.specs.Written.{IsCompiled, IsTooLarge, IsWritten}
 use Rattle.hwdb_spec.specs.NotReplaced.{IsLeft, IsSeen}
 use Rattle.hwdb_spec.specs.declared.errors.Unreplaced.{Unreplaced}
 use Rattle.hwdb_spec.specs.declared.errors.ToolError.{ToolError}
@@ -23,7 +24,8 @@ OnUnreplaced P _ = Unit {0}
 pub record UpdateUndone (etc usr : List Source) (listed : Option (List (List ℕ))) (folder : List ℕ) (err_before err_now : Option (List ℕ)) (tells : Type 0) (old new : Contents) (before now : Outcomes) (u : Unreplaced) : Type 0 where
   pub database : List ℕ
   pub written : IsWritten (map_of_files etc usr) database
-  pub told : Appends err_before err_now (update_text listed etc usr)
+  pub compiled : IsCompiled etc usr database
+  pub told : Appends err_before err_now (update_text listed etc usr (depth compiled.0))
   pub seen : tells → IsSeen folder database old new u
   pub left : tells → IsLeft folder database old before now u
 

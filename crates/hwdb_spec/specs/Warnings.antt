@@ -6,6 +6,7 @@ use Rattle.std.specs.Option.{unwrap_or}
 use Rattle.hwdb_spec.specs.Lines.{Line, begins_with, byte, clean, clean_line, has, has_equals, has_key, is, is_dropped, is_indent, is_long, is_match, is_none, is_property, key, lines, value}
 use Rattle.hwdb_spec.specs.Assignment.{Assignment}
 use Rattle.hwdb_spec.specs.Records.{assignments}
+use Rattle.hwdb_spec.specs.Summary.{deepest_for_udev}
 use Rattle.hwdb_spec.specs.Folders.{same}
 use Rattle.hwdb_spec.specs.Forms.{is_wild}
 use Rattle.hwdb_spec.specs.Patterns.{is_reversed, range_place, tokens}
@@ -19,7 +20,7 @@ use Rattle.hwdb_spec.specs.Unmatched.{is_unmatched, judgement_hint, judgement_of
 use Rattle.hwdb_spec.specs.declared.WarningKind.{WarningKind}
 use Rattle.hwdb_spec.specs.declared.vocabulary.Misuse.{Misuse}
 use Rattle.hwdb_spec.specs.declared.vocabulary.Misuse.TheVariants.{NearName, ScanCode, TwoDefaults, UnfitValue, UnknownKey, ZeroRow}
-use Rattle.hwdb_spec.specs.declared.WarningKind.TheVariants.{ByteOrderMark, CarriageReturn, CutValue, EmptyRange, LeadingTab, Misused, OpenBracket, RepeatedMatch, Replaced, SpacedEquals, TooLongForUdev, Unmatched, Unpaired, Unread}
+use Rattle.hwdb_spec.specs.declared.WarningKind.TheVariants.{ByteOrderMark, CarriageReturn, CutValue, EmptyRange, LeadingTab, MayBeTooDeep, Misused, OpenBracket, RepeatedMatch, Replaced, SpacedEquals, TooLongForUdev, Unmatched, Unpaired, Unread}
 
 -- whether the key of a property ends with a space or a tab, or its value begins with one
 abbrev pub is_spaced : Line → Bool
@@ -41,6 +42,18 @@ wild_rest pattern = drop (position_or_len is_wild pattern) pattern
 -- this pattern, and 262's finds nothing for such a device.
 abbrev pub is_too_long : Line → Bool
 is_too_long l = if is_match l then (if is_long l then false else nat_lt longest_rest (length (wild_rest l.text))) else false
+
+-- How many bytes a match line may have so that no database of it and others is too deep for udev of systemd 262: a node for each
+-- byte is one below the other, and above them is the root (`depth`). Our choice.
+abbrev pub longest_line : ℕ
+longest_line = deepest_for_udev - 1
+
+-- Whether a database may be too deep with a match line that is read, by what other lines there are. One that is told as too long isn't
+-- told once more.
+abbrev pub may_be_too_deep : Line → Bool
+may_be_too_deep l =
+    if is_too_long l then false
+    else (if is_match l then (if is_long l then false else nat_lt longest_line (length l.text)) else false)
 
 -- the numbers of the match lines that repeat one of the match lines directly above, which have these texts
 unfoldable pub repeated_from : (above : List (List ℕ)) → List Line → List ℕ
@@ -97,7 +110,7 @@ misused l =
 -- key: a blank is beside its first `=`. Of a property with a `=`: a `#` cuts it, before which no blank is. It is a match line that
 -- is in its record already. Lines after it replace what it gives. What is known of properties doesn't fit it, or the patterns of
 -- its record don't, or the other properties that these are given. It is a pattern that matches no text that udev asks, or one that
--- udev can't take.
+-- udev can't take, or with which a database may be too deep.
 abbrev pub warns : (file : List ℕ) → WarningKind → (line clean : Line) → Bool
 warns file ByteOrderMark line l = starts_with nat_eq l.text (239 ∷ 187 ∷ 191 ∷ [])
 warns file LeadingTab line l = begins_with (byte "\t") l.text
@@ -114,6 +127,7 @@ warns file Unread line l = is_unread file l.number
 warns file Unpaired line l = is_unpaired file l.number
 warns file (Unmatched told) line l = is_unmatched (judgement_of l.text)
 warns file TooLongForUdev line l = is_too_long l
+warns file MayBeTooDeep line l = may_be_too_deep l
 
 -- The kinds of warnings that a line may get. That of a replaced one names the last line that replaces. That of a misused one says
 -- how, and that of a pattern what is said of it.
@@ -121,7 +135,7 @@ abbrev pub line_kinds : (file : List ℕ) → (clean : Line) → List WarningKin
 line_kinds file clean =
     ByteOrderMark ∷ LeadingTab ∷ CarriageReturn ∷ OpenBracket ∷ EmptyRange ∷ SpacedEquals ∷ CutValue ∷ RepeatedMatch
     ∷ Replaced (greatest (replacing file clean.number)) ∷ Misused (unwrap_or (misused clean) NearName) ∷ Unread ∷ Unpaired
-    ∷ Unmatched (judgement_of clean.text) ∷ TooLongForUdev ∷ []
+    ∷ Unmatched (judgement_of clean.text) ∷ TooLongForUdev ∷ MayBeTooDeep ∷ []
 
 -- whether a line gets a warning that is told
 abbrev pub gets : (allowed : List (List ℕ)) → (file : List ℕ) → (line clean : Line) → WarningKind → Bool
@@ -155,6 +169,7 @@ warning_text Unread = codes "a property that isn't read below its patterns"
 warning_text Unpaired = codes "a property that is read with others alone"
 warning_text (Unmatched told) = judgement_text told
 warning_text TooLongForUdev = codes "udev takes at most 2046 bytes from the first *, ? or [ on"
+warning_text MayBeTooDeep = codes "with other lines, more than 2047 bytes may be too deep for udev"
 
 -- after how many bytes of its line a warning is, of a line with this text and this clean text
 abbrev pub warning_place : WarningKind → (text clean : List ℕ) → ℕ
@@ -177,6 +192,7 @@ warning_place Unread text clean = prefix_len is_indent text
 warning_place Unpaired text clean = prefix_len is_indent text
 warning_place (Unmatched told) text clean = judgement_place told
 warning_place TooLongForUdev text clean = position_or_len is_wild clean
+warning_place MayBeTooDeep text clean = longest_line
 
 -- what to do about a warning
 abbrev pub warning_hint : WarningKind → (clean : Line) → List ℕ
@@ -194,6 +210,7 @@ warning_hint Unread clean = unread_hint (key clean)
 warning_hint Unpaired clean = unpaired_hint (key clean)
 warning_hint (Unmatched told) clean = judgement_hint told clean.text
 warning_hint TooLongForUdev clean = codes "shorten it: systemd 252 and 257 crash at it, and 262 finds nothing"
+warning_hint MayBeTooDeep clean = codes "shorten it: systemd 262 refuses a depth of more than 2048, which hwdb verify tells"
 
 -- the line of a warning: where it is, `: warning: `, what is unusual
 abbrev pub warning_line : (path : List ℕ) (number : ℕ) → WarningKind → List ℕ

@@ -55,6 +55,7 @@
 //! | `CheckedFiles` | which text files `check` reads, and what it prints |
 //! | `LeftOut` | text files that can't be read, and that an update leaves out |
 //! | `Asked` | the database that a command asks for, and what is printed of it |
+//! | `Commands` | commands that are told, and how their words are quoted for a shell |
 //! | `Library` | what the C library is told |
 //! | `Blocks` | blocks of a file that were read, and which files may have them |
 //! | `Hiding` | what `update --usr --verbose` says if /etc's database hides the new one |
@@ -104,7 +105,6 @@
 //! | `DeviceErrors` | what `device` asks sysfs, and its errors |
 //! | `Readable` | an update of the text files that can be read |
 //! | `Emptied` | if there are no text files: what `update` says of a database that it empties or hides, and which errors that gives |
-//! | `Commands` | the command that makes a database anew, as it is told |
 //! | `HidingTold` | an update, and before it the line on a database that hides the new one |
 //! | `Reasons` | what an error says of a file is so |
 //! | `CheckedReasons` | the same of `check` |
@@ -285,6 +285,8 @@ pub enum WarningKind {
     Unmatched(Judgement),
     /// It is a pattern that udev can't take.
     TooLongForUdev,
+    /// It is a match line with which a database may be too deep for udev.
+    MayBeTooDeep,
 }
 
 /// How many files were checked, and how much was found in them.

@@ -10,7 +10,7 @@ use Rattle.hwdb_spec.specs.Assignment.{Assignment}
 use Rattle.hwdb_spec.specs.Folders.{Source, Choice, FaultIn, all_assignments, chosen_of, contents, faults_of_files, file_assignments, file_faults, path_of}
 use Rattle.hwdb_spec.specs.Format.{IsDatabase}
 use Rattle.hwdb_spec.specs.Lines.{byte}
-use Rattle.hwdb_spec.specs.Progress.{chosen_line, kept_line, listing, progress_text, too_long_lines, update_text, within_64_bits}
+use Rattle.hwdb_spec.specs.Progress.{chosen_line, deep_line, kept_line, listing, progress_text, too_long_lines, update_text, within_64_bits}
 use Rattle.hwdb_spec.specs.Once.{once}
 use Rattle.hwdb_spec.specs.Store.{Contents, InPlace, IsKept, IsPartPath, Outcomes, Same, database_file, database_name, path_in}
 use Rattle.hwdb_spec.specs.System.{asked_database}
@@ -77,22 +77,23 @@ module _ (etc usr etc2 usr2 : List Source) (one : IsOneReading etc usr etc2 usr2
   unfolding names_in
   one_line c = ap (λ (b : Bool). shown_name (path_of c) ++ ((if (if c.from_etc then b else false) then codes " masks /usr/lib/udev/hwdb.d/" ++ shown_name c.name else []) ++ byte "\n" ∷ [])) (one.named c.name)
 
-  abbrev progress : (Choice → List ℕ) → List Choice → List Assignment → (Choice → List ℕ) → List ℕ
-  progress line chosen all read =
-      (flat_map line chosen ++ kept_line (length chosen) (within_64_bits (length (once all))) (finite.len (surviving all))) ++ flat_map (too_long_lines read) chosen
+  abbrev progress : ℕ → (Choice → List ℕ) → List Choice → List Assignment → (Choice → List ℕ) → List ℕ
+  progress deep line chosen all read =
+      ((flat_map line chosen ++ kept_line (length chosen) (within_64_bits (length (once all))) (finite.len (surviving all))) ++ flat_map (too_long_lines read) chosen) ++ deep_line deep
 
-  one_progress : (verbose : Bool) → progress_text (listing verbose usr) etc usr ≡ progress_text (listing verbose usr2) etc2 usr2
+  one_progress : (verbose : Bool) (deep : ℕ) → progress_text (listing verbose usr) etc usr deep ≡ progress_text (listing verbose usr2) etc2 usr2 deep
   unfolding names_in
-  one_progress false = refl
-  one_progress true =
-      ap (λ (line : Choice → List ℕ). progress line (chosen_of etc usr) (all_assignments etc usr) (contents etc usr)) (fun_ext one_line)
-      ∙ ap (λ (cs : List Choice). progress (chosen_line (names_in usr2)) cs (all_assignments etc usr) (contents etc usr)) one.chosen
-      ∙ ap (λ (all : List Assignment). progress (chosen_line (names_in usr2)) (chosen_of etc2 usr2) all (contents etc usr)) one_assignments
-      ∙ ap (λ (read : Choice → List ℕ). progress (chosen_line (names_in usr2)) (chosen_of etc2 usr2) (all_assignments etc2 usr2) read) held
+  one_progress false deep = refl
+  one_progress true deep =
+      ap (λ (line : Choice → List ℕ). progress deep line (chosen_of etc usr) (all_assignments etc usr) (contents etc usr)) (fun_ext one_line)
+      ∙ ap (λ (cs : List Choice). progress deep (chosen_line (names_in usr2)) cs (all_assignments etc usr) (contents etc usr)) one.chosen
+      ∙ ap (λ (all : List Assignment). progress deep (chosen_line (names_in usr2)) (chosen_of etc2 usr2) all (contents etc usr)) one_assignments
+      ∙ ap (λ (read : Choice → List ℕ). progress deep (chosen_line (names_in usr2)) (chosen_of etc2 usr2) (all_assignments etc2 usr2) read) held
 
-  pub one_said : (verbose : Bool) → update_text (listing verbose usr) etc usr ≡ update_text (listing verbose usr2) etc2 usr2
-  one_said verbose = ap (λ (t : List ℕ). t ++ faults_text (faults_of_files etc usr)) (one_progress verbose)
-      ∙ ap (λ (fs : List FaultIn). progress_text (listing verbose usr2) etc2 usr2 ++ faults_text fs) one_faults
+  pub one_said : (verbose : Bool) (deep deep2 : ℕ) → deep ≡ deep2 → update_text (listing verbose usr) etc usr deep ≡ update_text (listing verbose usr2) etc2 usr2 deep2
+  one_said verbose deep deep2 same = ap (λ (t : List ℕ). t ++ faults_text (faults_of_files etc usr)) (one_progress verbose deep)
+      ∙ ap (λ (fs : List FaultIn). progress_text (listing verbose usr2) etc2 usr2 deep ++ faults_text fs) one_faults
+      ∙ ap (λ (n : ℕ). update_text (listing verbose usr2) etc2 usr2 n) same
 
   pub one_status : (strict : Bool) → status_of strict (faults_of_files etc usr) ≡ status_of strict (faults_of_files etc2 usr2)
   one_status strict = ap (λ (fs : List FaultIn). status_of strict fs) one_faults

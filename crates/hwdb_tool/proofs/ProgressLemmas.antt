@@ -8,7 +8,8 @@ use Rattle.std.proofs.lemmas.List.Elements.{recursion_from_All}
 use Rattle.hwdb_spec.specs.Assignment.{Assignment}
 use Rattle.hwdb_spec.specs.Folders.{Choice, Source, chosen_of, contents}
 use Rattle.hwdb_spec.specs.Format.{IsDatabase}
-use Rattle.hwdb_spec.specs.Progress.{chosen_line, given_count, kept_line, progress_text, too_long_lines}
+use Rattle.hwdb_spec.specs.Progress.{chosen_line, deep_line, given_count, kept_line, progress_text, too_long_lines}
+use Rattle.hwdb_spec.specs.Summary.{depth}
 use Rattle.hwdb_spec.specs.Tree.{IsTree, Map, Tree, entry_of, map_of, map_of_files, members_under}
 use Rattle.hwdb_spec.specs.Written.{IsCompiled, IsDatabaseOf}
 use Rattle.hwdb_compile.specs.Views.{AreChosenOf}
@@ -60,16 +61,18 @@ long_is etc usr (f ∷ more) all =
     ap (λ (b : List ℕ). too_long_lines (λ _. b) (choice_in f) ++ flat_map long_of more) all.0
     ∙ ap (λ l. too_long_lines (contents etc usr) (choice_in f) ++ l) (long_is etc usr more all.1)
 
--- the lines of the chosen files, the one that counts, and the match lines that udev can't take
-pub progress_is : (listed : List (List ℕ)) (files : List ChosenFile) (etc usr : List Source) (bytes text : List ℕ) → AreChosenOf etc usr files → IsCompiled etc usr bytes
-    → ((m : Map) → IsDatabaseOf m bytes → text ≡ (flat_map (chosen_line listed) (map choice_in files) ++ kept_line (length files) (given_count etc usr) (finite.len m)) ++ flat_map long_of files)
-    → text ≡ progress_text (Some listed) etc usr
+-- the lines of the chosen files, the one that counts, the match lines that udev can't take, and how deep the database is
+pub progress_is : (listed : List (List ℕ)) (files : List ChosenFile) (etc usr : List Source) (bytes text : List ℕ) → AreChosenOf etc usr files → (made : IsCompiled etc usr bytes)
+    → ((m : Map) (t : Tree) → IsDatabaseOf m bytes → IsDatabase bytes t
+    → text ≡ ((flat_map (chosen_line listed) (map choice_in files) ++ kept_line (length files) (given_count etc usr) (finite.len m)) ++ flat_map long_of files) ++ deep_line (depth t))
+    → text ≡ progress_text (Some listed) etc usr (depth made.0)
 progress_is listed files etc usr bytes text of made told =
     let kept = finite.len (map_of_files etc usr) in
     let given = given_count etc usr in
     let long = flat_map long_of files in
-    told (map_of_files etc usr) made
-    ∙ ap (λ cs. (flat_map (chosen_line listed) cs ++ kept_line (length files) given kept) ++ long) of.choices
+    told (map_of_files etc usr) made.0 made made.1.0
+    ∙ ap (λ l. l ++ deep_line (depth made.0))
+    (ap (λ cs. (flat_map (chosen_line listed) cs ++ kept_line (length files) given kept) ++ long) of.choices
     ∙ ap (λ n. (flat_map (chosen_line listed) (chosen_of etc usr) ++ kept_line n given kept) ++ long) (sym (length-map files choice_in) ∙ ap length of.choices)
     ∙ ap (λ l. (flat_map (chosen_line listed) (chosen_of etc usr) ++ kept_line (length (chosen_of etc usr)) given kept) ++ l)
-    (long_is etc usr files (recursion_from_All _ files of.bytes) ∙ ap (flat_map (too_long_lines (contents etc usr))) of.choices)
+    (long_is etc usr files (recursion_from_All _ files of.bytes) ∙ ap (flat_map (too_long_lines (contents etc usr))) of.choices))

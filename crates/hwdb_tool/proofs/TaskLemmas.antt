@@ -19,6 +19,7 @@ use Rattle.std.proofs.lemmas.List.Elements.{All-head, All-tail}
 use Rattle.hwdb_spec.specs.Given.{IsContent, IsGiven, is_dash, is_input}
 use Rattle.hwdb_spec.specs.Hiding.{hiding_text}
 use Rattle.hwdb_spec.specs.Progress.{listing, update_text}
+use Rattle.hwdb_spec.specs.Summary.{depth}
 use Rattle.hwdb_spec.specs.Runs.{Files, Printed, Told, World}
 use Rattle.hwdb_spec.specs.Store.{Contents, InPlace, Outcomes, Same}
 use Rattle.hwdb_spec.specs.Program.{IsAnswerOf, IsTaskDone, streams}
@@ -364,12 +365,14 @@ module _ (tree : (bytes : List ℕ) (t u : Tree) → IsDatabase bytes t → IsDa
         let one : loss ≡ loss2 = one_loss_of (chosen_of a.of_etc a.of_usr) (chosen_of b.of_etc b.of_usr) root usr old loss loss2 reading.chosen losing.lost losing2.lost in
         let same = form (map_of_files a.of_etc a.of_usr) a.updated.database b.updated.database a.updated.written
         (subst (λ m. IsWritten m b.updated.database) (sym (one_map a.of_etc a.of_usr b.of_etc b.of_usr reading)) b.updated.written) in
+        let deep : depth a.updated.compiled.0 ≡ depth b.updated.compiled.0 =
+        ap depth (tree b.updated.database a.updated.compiled.0 b.updated.compiled.0 (subst (λ (bs : List ℕ). IsDatabase bs a.updated.compiled.0) same a.updated.compiled.1.0) b.updated.compiled.1.0) in
         record {
           one_status = a.updated.answer ∙ one_status a.of_etc a.of_usr b.of_etc b.of_usr reading strict ∙ sym b.updated.answer;
           one_files = one_place (database_folder usr root) a.updated.database b.updated.database old now.files now2.files left left2 same a.updated.stored b.updated.stored;
           one_err = one_taken_then err_before err_then err_then2 now.err.bytes now2.err.bytes (hiding_text usr verbose root old ++ loss)
-              (update_text (listing verbose a.of_usr) a.of_etc a.of_usr) (update_text (listing verbose b.of_usr) b.of_etc b.of_usr)
-              (one_said a.of_etc a.of_usr b.of_etc b.of_usr reading verbose) told
+              (update_text (listing verbose a.of_usr) a.of_etc a.of_usr (depth a.updated.compiled.0)) (update_text (listing verbose b.of_usr) b.of_etc b.of_usr (depth b.updated.compiled.0))
+              (one_said a.of_etc a.of_usr b.of_etc b.of_usr reading verbose (depth a.updated.compiled.0) (depth b.updated.compiled.0) deep) told
               (subst (λ (l : List ℕ). Appends (Some err_before) err_then2 (hiding_text usr verbose root old ++ l)) (sym one) told2) a.updated.told b.updated.told;
           one_out = same_out;
         }

@@ -1,10 +1,11 @@
 -- An update that is refused after its files were read.
 use Rattle.std.specs.Io.KnownBytes.{Appends}
 use Rattle.std.proofs.Common.{◌≡◌, ◌≢◌, ◌++◌, inl, inr, ap, subst, sym, refl, ℕ, Bool, List, Result, Ok, Err, IfErr}
-use Rattle.hwdb_spec.specs.Runs.{AreKept, Files, Told, WasCut}
+use Rattle.hwdb_spec.specs.Runs.{AreKept, Files, Told}
 use Rattle.hwdb_spec.specs.Emptied.{IsLossOf}
 use Rattle.hwdb_spec.specs.Folders.{chosen_of}
 use Rattle.hwdb_spec.specs.Store.{Contents}
+use Rattle.hwdb_spec.specs.Summary.{depth}
 use Rattle.hwdb_spec.specs.System.{database_folder}
 use Rattle.hwdb_spec.specs.Progress.{given_where, update_text}
 use Rattle.hwdb_spec.specs.Texts.{max_file}
@@ -17,7 +18,7 @@ use Rattle.hwdb_spec.specs.declared.errors.ToolError.TheVariants.{Read, Write, T
 use Rattle.hwdb_tool.specs.Emptying.{AfterLoss}
 use Rattle.hwdb_tool.specs.Internal.{AreReadOf}
 use Rattle.hwdb_spec.specs.Refusals.{HasReason, IsOfUpdate}
-use Rattle.hwdb_spec.specs.Undone.{IsSelectedRefused}
+use Rattle.hwdb_spec.specs.Undone.{IsSelectedRefused, WasSayingCut}
 use Rattle.hwdb_spec.specs.Asked.{database_path}
 use Rattle.hwdb_spec.specs.declared.refusals.Refusal.{Refusal}
 use Rattle.hwdb_spec.specs.declared.refusals.Refusal.TheVariants.{At, InWords, NoDatabase, Plain}
@@ -104,7 +105,7 @@ module _ {S W : Type 0} (store : S → Files) (told : W → Told) (old new : S) 
       → ForFolders files (λ e u. IsUpdateRefusal e u max_file error)
       → OnUnreplaced (λ u. AfterLoss loss files (λ before e r. ((told err_new).failures ≡ before.failures)
       × UpdateUndone e r (given_where verbose listed) (database_folder usr root) before.bytes (told err_new).bytes tells (store old).seen (store new).seen (store old).left (store new).left u) (told err_old)) error
-      → (error ≡ Write → (new ≡ old) × ForFolders files (λ e u. WasCut (loss ++ update_text (given_where verbose listed) e u) (told err_old) (told err_new)))
+      → (error ≡ Write → (new ≡ old) × ForFolders files (λ e u. WasSayingCut loss e u (given_where verbose listed) (told err_old) (told err_new)))
       → (error ≢ Write → ((u : Unreplaced) → error ≢ Replace u) → (err_new ≡ err_old) × (new ≡ old))
       → Refused refusal
   unfolding is_write is_replace
@@ -120,7 +121,7 @@ module _ {S W : Type 0} (store : S → Files) (told : W → Told) (old new : S) 
       is = is;
       err_then = undone.0;
       told = undone.1;
-      undone = record { database = un.database; written = un.written; told = subst (λ l. Appends undone.0.bytes (told err_new).bytes (update_text l read.of_etc read.of_usr)) (ap (given_where verbose) (sym read.named)) un.told; seen = λ _. un.seen t; left = λ _. un.left t };
+      undone = record { database = un.database; written = un.written; compiled = un.compiled; told = subst (λ l. Appends undone.0.bytes (told err_new).bytes (update_text l read.of_etc read.of_usr (depth un.compiled.0))) (ap (given_where verbose) (sym read.named)) un.told; seen = λ _. un.seen t; left = λ _. un.left t };
       unfailed = both.0;
     });
   })
@@ -137,7 +138,7 @@ module _ {S W : Type 0} (store : S → Files) (told : W → Told) (old new : S) 
       refused = refused read.of_etc read.of_usr read.are;
       kept = kept (cut refl).0;
       untouched = λ n. absurd (n refl);
-      cut = λ w. subst (λ l. WasCut (loss ++ update_text l read.of_etc read.of_usr) (told err_old) (told err_new)) (ap (given_where verbose) (sym read.named)) ((cut refl).1 read.of_etc read.of_usr read.are);
+      cut = λ w. subst (λ l. WasSayingCut loss read.of_etc read.of_usr l (told err_old) (told err_new)) (ap (given_where verbose) (sym read.named)) ((cut refl).1 read.of_etc read.of_usr read.are);
     };
   })
   update_refused t read loss lost Read refusal is refused undone cut same =

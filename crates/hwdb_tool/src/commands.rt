@@ -1,8 +1,11 @@
-//! The command that makes a database anew, as it is told.
-ghost use Rattle.std.specs.Prelude.{◌≡◌, ◌++◌, IfOk, OnOk};
+//! Commands that are told: the one that makes a database anew, and the one that removes it.
+ghost use Rattle.std.specs.Prelude.{◌≡◌, ◌++◌, IfOk, OnOk, string_bytes};
 ghost use Rattle.hwdb_spec.specs.Commands;
-ghost use Rattle.hwdb_spec.specs.Commands.{root_words};
+ghost use Rattle.hwdb_spec.specs.Commands.{no_option, root_words};
 
+use crate::hiding::database_path;
+use hwdb_show::push_word;
+use hwdb_text::begins_with;
 use std::alloc::{AllocError, Global};
 
 /// Adds a root as an option of the command, if one was given.
@@ -13,8 +16,7 @@ fn push_root(words: &mut Vec<u8>, root: &str) -> Result<(), AllocError>
         return Ok(());
     }
     words.extend_from_slice(b" --root=")?;
-    words.extend_from_slice(root.as_bytes())?;
-    Ok(())
+    push_word(words, root.as_bytes())
 }
 
 /// The command that makes the database of a folder anew.
@@ -26,5 +28,28 @@ pub(crate) fn update_words(alloc: Global, usr: bool, root: &str) -> Result<Vec<u
         words.extend_from_slice(b" --usr")?;
     }
     push_root(&mut words, root)?;
+    Ok(words)
+}
+
+/// A path that no command takes for an option.
+fn no_option(alloc: Global, path: &[u8]) -> Result<Vec<u8>, AllocError>
+    ensures { IfOk result (λ plain. plain.items ≡ no_option path.now) }
+{
+    let mut plain = Vec::new(alloc);
+    if begins_with(b'-', path) {
+        plain.extend_from_slice(b"./")?;
+    }
+    plain.extend_from_slice(path)?;
+    Ok(plain)
+}
+
+/// The command that removes the database of /etc.
+pub(crate) fn removing_words(alloc: Global, root: &str) -> Result<Vec<u8>, AllocError>
+    ensures { IfOk result (λ words. words.items ≡ Commands.removing_words root.now) }
+{
+    let path = database_path(alloc, root, false)?;
+    let removed = no_option(alloc, path.as_bytes())?;
+    let mut words = Vec::from_slice(alloc, b"rm ")?;
+    push_word(&mut words, &removed)?;
     Ok(words)
 }

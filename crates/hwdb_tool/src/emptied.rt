@@ -11,20 +11,20 @@ ghost use Rattle.hwdb_spec.specs.Texts.{max_file};
 ghost use Rattle.hwdb_inspect.specs.Views.{amount_shown};
 ghost use Rattle.hwdb_tool.specs.Emptying;
 
-use crate::commands::update_words;
+use crate::commands::{removing_words, update_words};
 use crate::databases::{ETC_FOLDER, FoundDatabase, USR_FOLDER, found_in};
 use crate::hiding::database_path;
 use hwdb_fs::{Refusal, System};
 use hwdb_inspect::{Amount, amount_of};
 use hwdb_reader::law_one_tree;
+use hwdb_show::push_name;
 use std::alloc::{AllocError, Global};
 
-const EMPTIED: &str =
-    " becomes empty: there are no text files. Bring them back, and then run: ";
+const EMPTIED: &str = " becomes empty: there are no text files. Bring them back, and then run: ";
 
 const HIDES: &str = " is empty and hides ";
 
-const TO_USE: &str = ": there are no text files. To use that one, run: rm ";
+const TO_USE: &str = ": there are no text files. To use that one, run: ";
 
 /// Whether this much is nothing, in a database.
 fn is_nothing(amount: Amount) -> bool
@@ -76,29 +76,37 @@ fn is_lost_in<D: System>(
     Ok(lost)
 }
 
-/// The line of a database that is replaced by an empty one.
-fn emptied_line(alloc: Global, root: &str, usr: bool) -> Result<Vec<u8>, AllocError>
-    ensures { IfOk result (λ line. line.items ≡ Emptied.emptied_line root.now usr) }
+/// What is said of a database that is replaced by an empty one.
+fn emptied_words(alloc: Global, root: &str, usr: bool) -> Result<Vec<u8>, AllocError>
+    ensures { IfOk result (λ words. words.items ≡ Emptied.emptied_words root.now usr) }
 {
-    let words = update_words(alloc, usr, root)?;
-    let mut line = database_path(alloc, root, usr)?.into_bytes();
-    line.extend_from_slice(EMPTIED.as_bytes())?;
-    line.extend_from_slice(&words)?;
-    line.push(b'\n')?;
-    Ok(line)
+    let command = update_words(alloc, usr, root)?;
+    let mut words = database_path(alloc, root, usr)?.into_bytes();
+    words.extend_from_slice(EMPTIED.as_bytes())?;
+    words.extend_from_slice(&command)?;
+    Ok(words)
 }
 
-/// The line of a database of /usr/lib that an empty one hides.
-fn hidden_line(alloc: Global, root: &str) -> Result<Vec<u8>, AllocError>
-    ensures { IfOk result (λ line. line.items ≡ Emptied.hidden_line root.now) }
+/// What is said of a database of /usr/lib that an empty one hides.
+fn hidden_words(alloc: Global, root: &str) -> Result<Vec<u8>, AllocError>
+    ensures { IfOk result (λ words. words.items ≡ Emptied.hidden_words root.now) }
 {
+    let command = removing_words(alloc, root)?;
     let usr = database_path(alloc, root, true)?;
-    let etc = database_path(alloc, root, false)?;
-    let mut line = Vec::from_slice(alloc, etc.as_bytes())?;
-    line.extend_from_slice(HIDES.as_bytes())?;
-    line.extend_from_slice(usr.as_bytes())?;
-    line.extend_from_slice(TO_USE.as_bytes())?;
-    line.extend_from_slice(etc.as_bytes())?;
+    let mut words = database_path(alloc, root, false)?.into_bytes();
+    words.extend_from_slice(HIDES.as_bytes())?;
+    words.extend_from_slice(usr.as_bytes())?;
+    words.extend_from_slice(TO_USE.as_bytes())?;
+    words.extend_from_slice(&command)?;
+    Ok(words)
+}
+
+/// What is said as a line, in which names are shown.
+fn loss_line(alloc: Global, words: &[u8]) -> Result<Vec<u8>, AllocError>
+    ensures { IfOk result (λ line. line.items ≡ Emptied.loss_line words.now) }
+{
+    let mut line = Vec::new(alloc);
+    push_name(&mut line, words)?;
     line.push(b'\n')?;
     Ok(line)
 }
@@ -106,10 +114,11 @@ fn hidden_line(alloc: Global, root: &str) -> Result<Vec<u8>, AllocError>
 /// The line of a database that is emptied, if it is to be said.
 fn emptied_if(alloc: Global, root: &str, usr: bool, lost: bool) -> Result<Vec<u8>, AllocError>
     ensures { IfOk result
-        (λ text. text.items ≡ line_if lost (Emptied.emptied_line root.now usr)) }
+        (λ text. text.items ≡ line_if lost (Emptied.emptied_words root.now usr)) }
 {
     if lost {
-        emptied_line(alloc, root, usr)
+        let words = emptied_words(alloc, root, usr)?;
+        loss_line(alloc, &words)
     } else {
         Ok(Vec::new(alloc))
     }
@@ -117,10 +126,11 @@ fn emptied_if(alloc: Global, root: &str, usr: bool, lost: bool) -> Result<Vec<u8
 
 /// The same of one that is hidden.
 fn hidden_if(alloc: Global, root: &str, lost: bool) -> Result<Vec<u8>, AllocError>
-    ensures { IfOk result (λ text. text.items ≡ line_if lost (Emptied.hidden_line root.now)) }
+    ensures { IfOk result (λ text. text.items ≡ line_if lost (Emptied.hidden_words root.now)) }
 {
     if lost {
-        hidden_line(alloc, root)
+        let words = hidden_words(alloc, root)?;
+        loss_line(alloc, &words)
     } else {
         Ok(Vec::new(alloc))
     }

@@ -5,8 +5,10 @@ ghost use Rattle.std.specs.FinMap as finite;
 ghost use Rattle.hwdb_spec.specs.Checks.{count_text};
 ghost use Rattle.hwdb_spec.specs.Folders.{path_of};
 ghost use Rattle.hwdb_spec.specs.Visible.{shown_name};
-ghost use Rattle.hwdb_spec.specs.Progress.{chosen_line, given_count, kept_line, masks, progress_text, too_long_lines};
-ghost use Rattle.hwdb_spec.specs.Tree.{Map};
+ghost use Rattle.hwdb_spec.specs.Progress.{chosen_line, deep_line, given_count, kept_line, masks, progress_text, too_long_lines};
+ghost use Rattle.hwdb_spec.specs.Format.{IsDatabase};
+ghost use Rattle.hwdb_spec.specs.Summary.{depth};
+ghost use Rattle.hwdb_spec.specs.Tree.{Map, Tree};
 ghost use Rattle.hwdb_spec.specs.Written.{IsCompiled, IsDatabaseOf};
 ghost use Rattle.hwdb_text.specs.Views.{choice_of};
 ghost use Rattle.hwdb_compile.specs.Views.{ForFolders};
@@ -15,7 +17,7 @@ ghost use Rattle.hwdb_fs.specs.Internal.{IsNameSet};
 
 use hwdb_compile::Compiled;
 use hwdb_fs::name_set;
-use hwdb_inspect::{assignments, members_are_the_map};
+use hwdb_inspect::{assignments, depth_of, members_are_the_map};
 use hwdb_lint::{push_count, push_too_long};
 use hwdb_near::count_given;
 use hwdb_reader::{check, law_ascending, law_one_tree};
@@ -139,6 +141,33 @@ fn kept(alloc: Global, database: &[u8]) -> Result<usize, AllocError>
     }
 }
 
+/// How deep a database is; 0 if the bytes are none.
+fn depth(alloc: Global, database: &[u8]) -> Result<usize, AllocError>
+    ensures { IfOk result (λ n. (t : Tree) → IsDatabase database.now t → n ≡ depth t) }
+{
+    law_one_tree();
+    match check(database) {
+        Ok(db) => depth_of(alloc, &db),
+        Err(_) => Ok(0),
+    }
+}
+
+/// How many nodes one below the other udev of systemd 262 enters, the root counted.
+const DEEPEST_FOR_UDEV: usize = 2048;
+
+/// Adds the warning of a database with this depth, if it is too deep for udev.
+fn push_deep_line(text: &mut Vec<u8>, depth: usize) -> Result<(), AllocError>
+    ensures { OnOk result (text.new.items ≡ text.old.items ++ deep_line depth) }
+{
+    if depth > DEEPEST_FOR_UDEV {
+        let mut number = Buffer::new();
+        text.extend_from_slice(b"warning: the depth is ")?;
+        text.extend_from_slice(number.format(depth).as_bytes())?;
+        text.extend_from_slice(b": udev of systemd 262 refuses more than 2048\n")?;
+    }
+    Ok(())
+}
+
 /// How many assignments the files have.
 fn given(alloc: Global, files: &[ChosenFile<'_>]) -> Result<usize, AllocError>
     ensures { IfOk result (λ n. ForFolders files.now (λ etc usr. n ≡ given_count etc usr)) }
@@ -178,30 +207,33 @@ fn push_all_too_long(
     Ok(())
 }
 
-/// A line for each chosen file, how much they assign, and the match lines that udev can't take.
+/// A line for each chosen file, how much they assign, the match lines that udev can't take, and whether the database is too deep.
 fn full_progress(
     alloc: Global,
     files: &[ChosenFile<'_>],
     listed: &[String],
     database: &[u8],
 ) -> Result<Vec<u8>, AllocError>
-    ensures { IfOk result (λ text. ForFolders files.now (λ etc usr. (m : Map)
-        → IsDatabaseOf m database.now → text.items
-        ≡ (flat_map (chosen_line (map string_bytes listed.now)) (map choice_in files.now)
+    ensures { IfOk result (λ text. ForFolders files.now (λ etc usr. (m : Map) (t : Tree)
+        → IsDatabaseOf m database.now → IsDatabase database.now t → text.items
+        ≡ ((flat_map (chosen_line (map string_bytes listed.now)) (map choice_in files.now)
         ++ kept_line (length files.now) (given_count etc usr) (finite.len m))
-        ++ flat_map (λ f. too_long_lines (λ _. bytes_in f) (choice_in f)) files.now)) }
+        ++ flat_map (λ f. too_long_lines (λ _. bytes_in f) (choice_in f)) files.now)
+        ++ deep_line (depth t))) }
 {
     let mut text = chosen_lines(alloc, files, listed)?;
     let given = given(alloc, files)?;
     let kept = kept(alloc, database)?;
     push_kept_line(&mut text, files.len(), given, kept)?;
     push_all_too_long(alloc, &mut text, files)?;
+    let depth = depth(alloc, database)?;
+    push_deep_line(&mut text, depth)?;
     Ok(text)
 }
 
 /// What is said of chosen files before their fault lines. If the names of /usr/lib's files are given, it is a line for
-/// each chosen file, how much they assign, and the match lines that udev can't take. Else it is nothing. It takes two passes over the
-/// files, and a walk over the database.
+/// each chosen file, how much they assign, the match lines that udev can't take, and whether the database is too deep. Else it is
+/// nothing. It takes two passes over the files, and two walks over the database.
 pub fn progress(
     alloc: Global,
     files: &[ChosenFile<'_>],
@@ -209,8 +241,8 @@ pub fn progress(
     compiled: &Compiled,
 ) -> Result<Vec<u8>, AllocError>
     ensures { IfOk result (λ text. ForFolders files.now (λ etc usr.
-        IsCompiled etc usr compiled.now.database.items → text.items
-        ≡ progress_text (option_map (λ l. map string_bytes l.now) listed.entry) etc usr)) }
+        (made : IsCompiled etc usr compiled.now.database.items) → text.items ≡ progress_text
+        (option_map (λ l. map string_bytes l.now) listed.entry) etc usr (depth made.0))) }
 {
     match listed {
         Some(names) => full_progress(alloc, files, names, &compiled.database),

@@ -26,7 +26,7 @@ ghost use Rattle.hwdb_spec.specs.declared.errors.ToolError.{ToolError};
 ghost use Rattle.hwdb_spec.specs.declared.refusals.Refusal.TheVariants.{Plain};
 
 use crate::answer::Answer;
-use crate::commands::update_words;
+use crate::commands::{removing_words, update_words};
 use crate::databases::{ETC_FOLDER, USR_FOLDER, found_in};
 use crate::hiding::database_path;
 use crate::progress::masks;
@@ -329,12 +329,12 @@ fn path_hidden(
 /// The command that makes the database of /usr/lib anew, and removes the one that hides it.
 fn update_and_remove(alloc: Global, root: &str) -> Result<Vec<u8>, AllocError>
     ensures { IfOk result (λ words. words.items ≡ Status.update_words true root.now
-        ++ (codes " && rm " ++ Asked.database_path false root.now)) }
+        ++ (codes " && " ++ Commands.removing_words root.now)) }
 {
-    let hiding = database_path(alloc, root, false)?;
+    let removing = removing_words(alloc, root)?;
     let mut words = update_words(alloc, true, root)?;
-    words.extend_from_slice(b" && rm ")?;
-    words.extend_from_slice(hiding.as_bytes())?;
+    words.extend_from_slice(b" && ")?;
+    words.extend_from_slice(&removing)?;
     Ok(words)
 }
 
@@ -368,17 +368,6 @@ fn hides_in_vain(state: &State, hidden: Option<Amount>) -> bool
         State::Stale { .. } => false,
         _ => assigns(hidden),
     }
-}
-
-/// The command that removes the database of /etc.
-fn removing_words(alloc: Global, root: &str) -> Result<Vec<u8>, AllocError>
-    ensures { IfOk result
-        (λ words. words.items ≡ codes "rm " ++ Asked.database_path false root.now) }
-{
-    let removed = database_path(alloc, root, false)?;
-    let mut words = Vec::from_slice(alloc, b"rm ")?;
-    words.extend_from_slice(removed.as_bytes())?;
-    Ok(words)
 }
 
 /// The command that is told if there are no text files: one that removes a database of /etc that hides another one in vain.

@@ -1,7 +1,7 @@
 //! `update`: the text files of both folders, compiled into the database of one.
 ghost use Rattle.std.specs.Prelude.{◌≡◌, ◌≢◌, ◌≤◌, ◌++◌, ℕ, List, length, map, option_map, string_bytes, All, IfOk, IfErr, IsErrOf};
 ghost use Rattle.hwdb_spec.specs.Flushing.{HandsOn};
-ghost use Rattle.hwdb_spec.specs.Progress.{given_where, update_text};
+ghost use Rattle.hwdb_spec.specs.Progress.{given_where};
 ghost use Rattle.hwdb_spec.specs.Store as spec;
 ghost use Rattle.hwdb_spec.specs.System as Folder;
 ghost use Rattle.hwdb_spec.specs.Texts.{max_file};
@@ -9,7 +9,7 @@ ghost use Rattle.hwdb_spec.specs.Folders.{Choice};
 ghost use Rattle.hwdb_text.specs.Views.{IsStorableChoice, choice_of};
 ghost use Rattle.hwdb_compile.specs.Views.{ForFolders};
 ghost use Rattle.hwdb_text.specs.Views.{choice_in};
-ghost use Rattle.hwdb_spec.specs.Runs.{WasCut, files_by, told_by};
+ghost use Rattle.hwdb_spec.specs.Runs.{files_by, told_by};
 ghost use Rattle.hwdb_spec.specs.UpdateErrors.{IsUpdateRefusal, OnUnreplaced, UpdateUndone};
 ghost use Rattle.hwdb_spec.specs.Done.{OldOrWritten, Updated, OldOrUpdated, OldOrUpdatedLess};
 ghost use Rattle.hwdb_spec.specs.LeftOutTold.{AreTold};
@@ -18,7 +18,7 @@ ghost use Rattle.hwdb_tool.specs.Emptying.{AfterLoss, IsUpdatedTold};
 ghost use Rattle.hwdb_tool.specs.Internal.{IsOfSelection};
 ghost use Rattle.hwdb_spec.specs.Readable.{IsUpdateRefused, IsUpdatedLess};
 ghost use Rattle.hwdb_spec.specs.LeftOut.{status_less};
-ghost use Rattle.hwdb_spec.specs.Undone.{IsSelectedRefused, IsUnwritable};
+ghost use Rattle.hwdb_spec.specs.Undone.{IsSelectedRefused, IsUnwritable, WasSayingCut};
 
 use crate::databases::database_folder;
 use crate::emptied::loss_if;
@@ -70,7 +70,7 @@ fn update_files<S: Store, E: Sink>(
         (S.failures store.old) (S.failures store.new))) }
     ensures cut_short { let names = option_map (λ l. map string_bytes l.now) listed.entry in
         IsErrOf result ToolError.Write → (store.new ≡ store.old) × ForFolders files.now
-        (λ etc usr. WasCut (loss.now ++ update_text names etc usr)
+        (λ etc usr. WasSayingCut loss.now etc usr names
         (told_by E.taken E.failures err.old) (told_by E.taken E.failures err.new)) }
     ensures untouched { IfErr result
         (λ e. e ≢ ToolError.Write → ((u : Unreplaced) → e ≢ ToolError.Replace u)

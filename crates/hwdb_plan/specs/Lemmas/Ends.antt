@@ -100,17 +100,17 @@ module _ (w : Reads) (etc usr : List Source) (most : ℕ) (strict : Bool) (folde
   abbrev Puts : Plan
   Puts = put_plan etc usr None most strict folder
 
-  pub put_does : (bytes : List ℕ) (faults : List FaultIn) → AreMadeOf etc usr most bytes → faults ≡ faults_of_files etc usr → (before now : World) (result : Result ℕ Refusal)
+  pub put_does : (bytes : List ℕ) (t : Tree) (faults : List FaultIn) → AreMadeOf etc usr most bytes → IsDatabase bytes t → faults ≡ faults_of_files etc usr → (before now : World) (result : Result ℕ Refusal)
       → ReplacesWith folder bytes (faults_text faults) (status_of strict faults) before.files now.files before.err now.err result ⊎ IsUnput before.files now.files before.err now.err result
       → now.out ≡ before.out → Does w Puts before now result
   unfolding Ends
-  put_does bytes faults made same before now result (inl replaces) quiet =
+  put_does bytes t faults made is same before now result (inl replaces) quiet =
       inl (
         Replaces folder bytes (faults_text (faults_of_files etc usr)) (status_of strict (faults_of_files etc usr)),
-        inl (bytes, made, refl),
+        inl (bytes, made, inl (t, is, refl)),
         (subst (λ (l : List FaultIn). ReplacesWith folder bytes (faults_text l) (status_of strict l) before.files now.files before.err now.err result) same replaces, quiet),
       )
-  put_does bytes faults made same before now result (inr unput) quiet =
+  put_does bytes t faults made is same before now result (inr unput) quiet =
       inr (unput.0, ap (λ (x : Told). outs x now.out) unput.1 ∙ ap (λ (x : Told). outs before.err x) quiet, unput.2)
 
   pub uncompiled_does : (e : CompileError) (r : Refusal) (before : World) → IsRefusal etc usr most e → r ≡ refusal.Plain (refusal_of_compile e) → Does w Puts before before (Err r)

@@ -39,7 +39,7 @@ returns c = λ e allowed.
                             sym c.requires.unpaired ∙ c.if-line-3.false,
                             (
                               ap (λ (t : List ℕ). is_unmatched (judgement_of t)) c.requires.clean ∙ ap is_unmatched (sym c.requires.judgement) ∙ sym c.is_unmatched.ensures ∙ c.if-is_unmatched.false,
-                              (sym c.is_too_long.ensures ∙ c.if-is_too_long.false, tt),
+                              (sym c.is_too_long.ensures ∙ c.if-is_too_long.false, (sym c.may_be_too_deep.ensures ∙ c.if-may_be_too_deep.false, tt)),
                             ),
                           ),
                         ),

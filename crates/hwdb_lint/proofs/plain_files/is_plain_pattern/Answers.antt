@@ -9,5 +9,6 @@ returns c = λ e. record {
   tab = sym c.begins_with_tab.ensures ∙ c.if-begins_with_tab.false;
   bracket = sym c.holds_bracket.ensures ∙ c.if-holds_bracket.false;
   short = sym c.is_too_long.ensures ∙ c.if-is_too_long.false;
+  shallow = sym c.may_be_too_deep.ensures ∙ c.if-may_be_too_deep.false;
   judged = ap is_unmatched (sym c.in_ok-judgement.ensures) ∙ sym c.is_unmatched.ensures ∙ false_if _ e;
 }

@@ -7,6 +7,7 @@ use Rattle.hwdb_spec.specs.Texts.{faults_text, status_of}
 use Rattle.hwdb_spec.specs.Done.{OldOrWritten}
 use Rattle.hwdb_spec.specs.Runs.{told_by}
 use Rattle.hwdb_spec.specs.Store.{OldOrNew}
+use Rattle.hwdb_spec.specs.Summary.{depth}
 use Rattle.hwdb_tool.proofs.EmptyingLemmas.{after_loss, placed_of, took_loss, took_rest}
 use Rattle.hwdb_tool.proofs.MomentLemmas.{leaves_more}
 use Rattle.hwdb_tool.proofs.UpdateLemmas.{unreplaced_of}
@@ -25,19 +26,24 @@ returns-clause-unreplaced g c =
       took_loss before loss,
       λ etc usr of.
           let faults = faults_text (map fault_of compiled.faults.items) in
-          let text : c.deref-2.result.now ++ faults ≡ loss ++ update_text names etc usr =
+          let made = c.in_ok-compiled.ensures.checked etc usr of in
+          let deep = depth made.0 in
+          let text : c.deref-2.result.now ++ faults ≡ loss ++ update_text names etc usr deep =
           ap (λ l. l ++ faults) (c.deref-2.ensures.value ∙ c.in_ok-extend_from_slice.ensures.items ∙ ap (λ l. l ++ c.deref.result.now) c.in_ok-said.ensures.items)
           ∙ append_assoc loss c.deref.result.now faults
           ∙ ap (λ l. loss ++ (l ++ faults))
-          (c.deref.ensures.value ∙ c.in_ok-told.ensures etc usr of (record { database = c.in_ok-compiled.ensures.checked etc usr of; given = c.in_ok-compiled.ensures.given etc usr of }))
-          ∙ ap (λ fs. loss ++ (progress_text names etc usr ++ faults_text fs)) (c.in_ok-compiled.ensures.faults etc usr of) in
-          (told.0.unfailed, record {
-            database = compiled.database.items;
-            written = c.in_ok-compiled.ensures.database etc usr of;
-            told = took_rest (g.E.Sink.taken c.args.err.now) (g.E.Sink.taken c.put_in_place.new.err) loss (update_text names etc usr) (subst taken text told.0.whole);
-            seen = seen;
-            left = left;
-          }),
+          (c.deref.ensures.value ∙ c.in_ok-told.ensures etc usr of made)
+          ∙ ap (λ fs. loss ++ (progress_text names etc usr deep ++ faults_text fs)) (c.in_ok-compiled.ensures.faults etc usr of) in (
+            told.0.unfailed,
+            record {
+              database = compiled.database.items;
+              written = c.in_ok-compiled.ensures.database etc usr of;
+              compiled = made;
+              told = took_rest (g.E.Sink.taken c.args.err.now) (g.E.Sink.taken c.put_in_place.new.err) loss (update_text names etc usr deep) (subst taken text told.0.whole);
+              seen = seen;
+              left = left;
+            },
+          ),
     ))
 
 pub returns-clause-cut_short : goal.returns-clause-cut_short
@@ -49,13 +55,20 @@ returns-clause-cut_short g c = λ w.
       cut.1,
       λ etc usr of.
           let faults = faults_text (map fault_of compiled.faults.items) in
-          let text : c.deref-2.result.now ++ faults ≡ loss ++ update_text names etc usr =
+          let made = c.in_ok-compiled.ensures.checked etc usr of in
+          let deep = depth made.0 in
+          let text : c.deref-2.result.now ++ faults ≡ loss ++ update_text names etc usr deep =
           ap (λ l. l ++ faults) (c.deref-2.ensures.value ∙ c.in_ok-extend_from_slice.ensures.items ∙ ap (λ l. l ++ c.deref.result.now) c.in_ok-said.ensures.items)
           ∙ append_assoc loss c.deref.result.now faults
           ∙ ap (λ l. loss ++ (l ++ faults))
-          (c.deref.ensures.value ∙ c.in_ok-told.ensures etc usr of (record { database = c.in_ok-compiled.ensures.checked etc usr of; given = c.in_ok-compiled.ensures.given etc usr of }))
-          ∙ ap (λ fs. loss ++ (progress_text names etc usr ++ faults_text fs)) (c.in_ok-compiled.ensures.faults etc usr of) in
-          subst (λ t. CutShort t (g.E.Sink.taken c.args.err.now) (g.E.Sink.taken c.put_in_place.new.err) (g.E.Sink.failures c.args.err.now) (g.E.Sink.failures c.put_in_place.new.err)) text cut.0,
+          (c.deref.ensures.value ∙ c.in_ok-told.ensures etc usr of made)
+          ∙ ap (λ fs. loss ++ (progress_text names etc usr deep ++ faults_text fs)) (c.in_ok-compiled.ensures.faults etc usr of) in
+          record {
+            database = compiled.database.items;
+            written = c.in_ok-compiled.ensures.database etc usr of;
+            compiled = made;
+            cut = subst (λ t. CutShort t (g.E.Sink.taken c.args.err.now) (g.E.Sink.taken c.put_in_place.new.err) (g.E.Sink.failures c.args.err.now) (g.E.Sink.failures c.put_in_place.new.err)) text cut.0;
+          },
     )
 
 pub returns-clause-any_moment : goal.returns-clause-any_moment
@@ -83,19 +96,21 @@ returns-clause-updated g c =
       took_loss before loss,
       λ etc usr of.
           let faults = faults_text (map fault_of compiled.faults.items) in
-          let text : c.deref-2.result.now ++ faults ≡ loss ++ update_text names etc usr =
+          let made = c.in_ok-compiled.ensures.checked etc usr of in
+          let deep = depth made.0 in
+          let text : c.deref-2.result.now ++ faults ≡ loss ++ update_text names etc usr deep =
           ap (λ l. l ++ faults) (c.deref-2.ensures.value ∙ c.in_ok-extend_from_slice.ensures.items ∙ ap (λ l. l ++ c.deref.result.now) c.in_ok-said.ensures.items)
           ∙ append_assoc loss c.deref.result.now faults
           ∙ ap (λ l. loss ++ (l ++ faults))
-          (c.deref.ensures.value ∙ c.in_ok-told.ensures etc usr of (record { database = c.in_ok-compiled.ensures.checked etc usr of; given = c.in_ok-compiled.ensures.given etc usr of }))
-          ∙ ap (λ fs. loss ++ (progress_text names etc usr ++ faults_text fs)) (c.in_ok-compiled.ensures.faults etc usr of) in
+          (c.deref.ensures.value ∙ c.in_ok-told.ensures etc usr of made)
+          ∙ ap (λ fs. loss ++ (progress_text names etc usr deep ++ faults_text fs)) (c.in_ok-compiled.ensures.faults etc usr of) in
           record {
             accepted = c.in_ok-compiled.ensures.accepted etc usr of;
             database = compiled.database.items;
             written = c.in_ok-compiled.ensures.database etc usr of;
-            compiled = c.in_ok-compiled.ensures.checked etc usr of;
+            compiled = made;
             within = c.in_ok-compiled.ensures.within;
-            told = took_rest (g.E.Sink.taken c.args.err.now) (g.E.Sink.taken c.put_in_place.new.err) loss (update_text names etc usr) (subst taken text told.whole);
+            told = took_rest (g.E.Sink.taken c.args.err.now) (g.E.Sink.taken c.put_in_place.new.err) loss (update_text names etc usr deep) (subst taken text told.whole);
             stored = placed;
             answer = answer ∙ ap (status_of c.args.strict) (c.in_ok-compiled.ensures.faults etc usr of);
           },

@@ -5,16 +5,17 @@ use Rattle.hwdb_text.specs.Views.{choice_in, choice_of}
 use Rattle.hwdb_compile.specs.Views.{ForFolders}
 use Rattle.hwdb_spec.specs.declared.errors.ToolError.TheVariants.{Memory}
 use Rattle.hwdb_spec.specs.Folders.{chosen_of}
-use Rattle.hwdb_spec.specs.Runs.{HasTaken, WasCut, files_by, told_by}
+use Rattle.hwdb_spec.specs.Runs.{HasTaken, files_by, told_by}
 use Rattle.hwdb_spec.specs.Status.{is_bare}
 use Rattle.hwdb_spec.specs.declared.errors.Unreplaced.{Unreplaced}
 use Rattle.hwdb_spec.specs.UpdateErrors.{OnUnreplaced, UpdateUndone}
 use Rattle.hwdb_spec.specs.Store.{InPlace, database_name, path_in}
+use Rattle.hwdb_spec.specs.Summary.{depth}
 use Rattle.hwdb_spec.specs.System.{database_folder}
 use Rattle.hwdb_tool.specs.Emptying.{AfterLoss}
 use Rattle.hwdb_tool.specs.Internal.{AreReadOf}
 use Rattle.hwdb_spec.specs.Refusals.{IsOfUpdate}
-use Rattle.hwdb_spec.specs.Undone.{IsSelectedRefused, IsUnwritable}
+use Rattle.hwdb_spec.specs.Undone.{IsSelectedRefused, IsUnwritable, WasSayingCut}
 use Rattle.hwdb_spec.specs.Asked.{database_path}
 use Rattle.hwdb_spec.specs.declared.refusals.Refusal.TheVariants.{Plain}
 use Rattle.hwdb_tool.proofs.FolderLemmas.{are_read}
@@ -79,7 +80,7 @@ returns-in-Ok-clause-updated g c = λ files selected tells.
           written = done.written;
           compiled = done.compiled;
           within = done.within;
-          told = subst (λ l. Appends after.0.bytes (g.E.Sink.taken c.update_files.new.err) (update_text l given.of_etc given.of_usr)) (names ∙ ap (given_where c.args.verbose) (sym given.named)) done.told;
+          told = subst (λ l. Appends after.0.bytes (g.E.Sink.taken c.update_files.new.err) (update_text l given.of_etc given.of_usr (depth done.compiled.0))) (names ∙ ap (given_where c.args.verbose) (sym given.named)) done.told;
           stored = subst (λ f. InPlace f done.database seen (g.D.Store.seen c.update_files.new.store) (g.D.Store.may_leave c.update_files.new.store)) folder (done.stored tells);
           answer = done.answer;
         };
@@ -151,8 +152,11 @@ returns-clause-refused g c = λ files selected tells.
     (subst (λ n. OnUnreplaced (Left loss n (database_folder c.args.usr root)) c.in-Err.error) names
     (subst (λ f. OnUnreplaced (Left loss shown f) c.in-Err.error) folder
     (subst (λ l. OnUnreplaced (Left l shown c.as_str-2.result.now) c.in-Err.error) c.deref-4.ensures.value c.in-Err.ensures.unreplaced)))
-    (λ is. let cut = c.in-Err.ensures.cut_short (ap Err is) in (cut.0, subst (λ n. ForFolders c.deref-3.result.now (λ e u. WasCut (loss ++ update_text n e u) (T c.args.err.now) (T c.update_files.new.err))) names
-    (subst (λ l. ForFolders c.deref-3.result.now (λ e u. WasCut (l ++ update_text shown e u) (T c.args.err.now) (T c.update_files.new.err))) c.deref-4.ensures.value cut.1)))
+    (λ is. let cut = c.in-Err.ensures.cut_short (ap Err is) in (
+      cut.0,
+      subst (λ n. ForFolders c.deref-3.result.now (λ e u. WasSayingCut loss e u n (T c.args.err.now) (T c.update_files.new.err))) names
+          (subst (λ l. ForFolders c.deref-3.result.now (λ e u. WasSayingCut l e u shown (T c.args.err.now) (T c.update_files.new.err))) c.deref-4.ensures.value cut.1),
+    ))
     c.in-Err.ensures.untouched
 
 pub returns-clause-reason : goal.returns-clause-reason
