@@ -41,7 +41,7 @@ device_rows = refl
 
 pub file_rows : FileRows
 unfolding pieces numbered trimmed first_section sections_from behind ascending put put_all assignment_cmp position_cmp first_of visible_after is_utf8 chars encode_utf8 digits encode_with
-file_rows = 
+file_rows =
     ap changes_text (differences_built
     (map entry_of (reverse (all_assignments [] (file_of (codes "1.hwdb") (codes "a*\n K=1\n L=1\n") ∷ []))))
     (map entry_of (reverse (all_assignments (file_of (codes "2.hwdb") (codes "a*\n K=2\n") ∷ []) (file_of (codes "1.hwdb") (codes "a*\n K=1\n") ∷ [])))))

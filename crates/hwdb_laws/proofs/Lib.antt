@@ -4,4 +4,6 @@ pub mod ComputedFormRows
 pub mod ComputedCheckRows
 pub mod ComputedChangeRows
 pub mod ComputedWantedRows
+pub mod ComputedStatusRows
+pub mod ComputedOverTextRows
 pub mod ComputedSaidRows

@@ -5,7 +5,7 @@ use Rattle.hwdb_spec.specs.Explanations.{explained, explanations_text}
 use Rattle.hwdb_spec.specs.Folders.{Source}
 use Rattle.hwdb_spec.specs.Hiding.{hiding_text}
 use Rattle.hwdb_spec.specs.Near.{PatternAt, near_json, near_text}
-use Rattle.hwdb_spec.specs.Progress.{update_text}
+use Rattle.hwdb_spec.specs.Progress.{deep_line, update_text}
 use Rattle.hwdb_spec.specs.Store.{Contents, database_file}
 use Rattle.hwdb_spec.specs.Summary.{Summary, depth_warning, summary_of, summary_text}
 use Rattle.hwdb_spec.specs.Tree.{Tree, Value}
@@ -48,13 +48,17 @@ of_usr = source (codes "2.hwdb") (codes "b\n B=1\n") ∷ source (codes "1.hwdb")
 -- twice in a record counts once. Faults come at the end.
 abbrev pub ProgressRows : Type 0
 ProgressRows =
-    update_text (Some (codes "2.hwdb" ∷ codes "1.hwdb" ∷ [])) of_etc of_usr
+    update_text (Some (codes "2.hwdb" ∷ codes "1.hwdb" ∷ [])) of_etc of_usr 3
     ≡ codes "/usr/lib/udev/hwdb.d/1.hwdb\n/etc/udev/hwdb.d/2.hwdb masks /usr/lib/udev/hwdb.d/2.hwdb\n2 files, 2 assignments, 1 kept\n"
     ++ codes "/usr/lib/udev/hwdb.d/1.hwdb:1: property where a match is expected, ignored\n"
 
 -- without `--verbose` the faults alone
 abbrev pub FaultRows : Type 0
-FaultRows = update_text None of_etc of_usr ≡ codes "/usr/lib/udev/hwdb.d/1.hwdb:1: property where a match is expected, ignored\n"
+FaultRows = update_text None of_etc of_usr 2049 ≡ codes "/usr/lib/udev/hwdb.d/1.hwdb:1: property where a match is expected, ignored\n"
+
+-- a depth that udev refuses is told, and one less isn't
+abbrev pub DeepRows : Type 0
+DeepRows = map deep_line (2048 ∷ 2049 ∷ []) ≡ [] ∷ codes "warning: the depth is 2049: udev of systemd 262 refuses more than 2048\n" ∷ []
 
 -- nothing is anywhere
 abbrev pub nothing : Contents

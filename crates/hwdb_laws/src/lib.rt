@@ -10,6 +10,8 @@
 //! | `CheckRows` | what `check` says |
 //! | `ChangeRows` | what `diff` says |
 //! | `WantedRows` | what `test` says |
+//! | `StatusRows` | what `status` says, and `update` without text files |
+//! | `OverTextRows` | which words don't fit `--text` |
 //! | `SaidRows` | what `verify`, `update --verbose`, `explain` and `near` say |
 //!
 //! `rows` shows them.
@@ -18,6 +20,6 @@
 mod rows;
 
 pub use rows::{
-    change_rows, check_rows, explain_rows, form_rows, near_rows, sysfs_rows, update_rows,
-    verify_rows, wanted_rows,
+    change_rows, check_rows, explain_rows, form_rows, near_rows, over_text_rows, status_rows,
+    sysfs_rows, update_rows, verify_rows, wanted_rows,
 };

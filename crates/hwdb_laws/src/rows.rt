@@ -2,7 +2,9 @@
 ghost use Rattle.hwdb_laws.specs.ChangeRows;
 ghost use Rattle.hwdb_laws.specs.CheckRows;
 ghost use Rattle.hwdb_laws.specs.FormRows;
+ghost use Rattle.hwdb_laws.specs.OverTextRows;
 ghost use Rattle.hwdb_laws.specs.SaidRows;
+ghost use Rattle.hwdb_laws.specs.StatusRows;
 ghost use Rattle.hwdb_laws.specs.SysfsRows;
 ghost use Rattle.hwdb_laws.specs.WantedRows;
 
@@ -81,6 +83,7 @@ pub fn verify_rows()
 pub fn update_rows()
     ensures progress { SaidRows.ProgressRows }
     ensures faults { SaidRows.FaultRows }
+    ensures deep { SaidRows.DeepRows }
     ensures hiding { SaidRows.HidingRows }
 {}
 
@@ -93,4 +96,29 @@ pub fn explain_rows()
 pub fn near_rows()
     ensures text { SaidRows.NearRows }
     ensures as_json { SaidRows.NearJsonRows }
+{}
+
+/// What `status` says, and `update` without text files.
+pub fn status_rows()
+    ensures words { StatusRows.WordRows }
+    ensures commands { StatusRows.CommandRows }
+    ensures asked { StatusRows.AskedRows }
+    ensures files { StatusRows.FileRows }
+    ensures bare { StatusRows.BareRows }
+    ensures remedy { StatusRows.RemedyRows }
+    ensures bare_remedy { StatusRows.BareRemedyRows }
+    ensures text { StatusRows.TextRows }
+    ensures as_json { StatusRows.JsonRows }
+    ensures status { StatusRows.StatusRows }
+    ensures loss { StatusRows.LossRows }
+{}
+
+/// Which words don't fit `--text`.
+pub fn over_text_rows()
+    ensures verify { OverTextRows.VerifyRows }
+    ensures dump { OverTextRows.DumpRows }
+    ensures fine { OverTextRows.FineRows }
+    ensures list { OverTextRows.ListRows }
+    ensures device { OverTextRows.DeviceRows }
+    ensures taken { OverTextRows.TakenRows }
 {}
