@@ -1,5 +1,5 @@
 -- What a tree in memory answers: the first row of a path says what it leads to.
-use Rattle.std.specs.Prelude.{ℕ, List, Bool, true, false, Option, Some, None, Result, Ok, Err, find, pos}
+use Rattle.std.specs.Prelude.{ℕ, List, Bool, true, false, Option, Some, None, Result, Ok, Err, find, if◌then◌else◌, length, nat_le, pos}
 use Rattle.hwdb_spec.specs.DeviceTree.{Node}
 use Rattle.hwdb_spec.specs.Folders.{same}
 use Rattle.hwdb_spec.specs.declared.causes.Cause.{Cause}
@@ -31,8 +31,12 @@ abbrev pub file_by : Thing → Result Bool Cause
 file_by (thing.File bytes) = Ok true
 file_by _ = Ok false
 
+-- the bytes of a file of a page at most
+abbrev pub page_if : List ℕ → Result (List ℕ) Cause
+page_if bytes = if nat_le (length bytes) 4096 then Ok bytes else Err Unknown
+
 abbrev pub page_by : Thing → Result (List ℕ) Cause
-page_by (thing.File bytes) = Ok bytes.items
+page_by (thing.File bytes) = page_if bytes.items
 page_by _ = Err Unknown
 
 abbrev pub listing_by : Thing → Result (List ℕ) Cause

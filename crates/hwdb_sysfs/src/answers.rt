@@ -1,5 +1,5 @@
 //! What is made of the answers of a file system: what can't be told is as if it weren't there, unless memory was refused.
-ghost use Rattle.std.specs.Prelude.{◌≡◌, ◌≢◌, None, Ok, IfOk, option_map};
+ghost use Rattle.std.specs.Prelude.{◌≡◌, ◌≢◌, ◌≤◌, None, Ok, IfOk, IfSome, length, option_map};
 ghost use Rattle.hwdb_spec.specs.declared.causes.Cause.TheVariants.{Memory};
 ghost use Rattle.hwdb_spec.specs.DeviceTree as tree;
 ghost use Rattle.hwdb_spec.specs.SysfsAnswers.{seen, told};
@@ -42,9 +42,10 @@ fn page_at<F: DeviceFiles>(
     place: &[u8],
     is_file: bool,
 ) -> Result<Option<Vec<u8>>, AllocError>
-    ensures { F.tells → (F.answers files.now).file place.now ≡ Ok is_file
-        → IfOk result (λ found. option_map (λ p. p.items) found
+    requires { F.tells → (F.answers files.now).file place.now ≡ Ok is_file }
+    ensures text { F.tells → IfOk result (λ found. option_map (λ p. p.items) found
         ≡ (seen (F.answers files.now)).text place.now) }
+    ensures short { IfOk result (λ found. IfSome found (λ p. length p.items ≤ 4096)) }
 {
     if !is_file {
         return Ok(None);
@@ -55,13 +56,14 @@ fn page_at<F: DeviceFiles>(
     }
 }
 
-/// The text of the small file at a place. Nothing but a regular file is opened: that might wait.
+/// The text of the small file at a place, a page at most. Nothing but a regular file is opened: that might wait.
 pub fn text_at<F: DeviceFiles>(
     alloc: Global,
     files: &F,
     place: &[u8],
 ) -> Result<Option<Vec<u8>>, AllocError>
-    ensures { F.tells → IfOk result (λ found. option_map (λ p. p.items) found
+    ensures short { IfOk result (λ found. IfSome found (λ p. length p.items ≤ 4096)) }
+    ensures text { F.tells → IfOk result (λ found. option_map (λ p. p.items) found
         ≡ (seen (F.answers files.now)).text place.now) }
 {
     match files.is_file(place) {

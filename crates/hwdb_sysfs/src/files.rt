@@ -1,5 +1,5 @@
 //! What a file system answers of devices, call by call, and nothing decided.
-ghost use Rattle.std.specs.Prelude.{ℕ, List, Option, Result, option_map};
+ghost use Rattle.std.specs.Prelude.{◌≡◌, ◌≤◌, ℕ, IfOk, List, Ok, Option, Result, length, option_map, true};
 ghost use Rattle.hwdb_spec.specs.SysfsAnswers.{Answers, IsTold};
 ghost use Rattle.hwdb_sysfs.specs.Views.{node_of};
 
@@ -38,9 +38,12 @@ pub trait DeviceFiles {
     fn is_file(&self, place: &[u8]) -> Result<bool, Cause>
         ensures { tells → IsTold (λ b. b) ((answers self.now).file place.now) result };
 
-    /// Reads a small file. One of more than 4,096 bytes is an error: an attribute of sysfs has a page at most.
+    /// Reads the small file at a place, which is a regular file. One of more than 4,096 bytes is an error: an attribute of sysfs has a
+    /// page at most.
     fn page_of(&self, alloc: Global, place: &[u8]) -> Result<Vec<u8>, Cause>
-        ensures { tells → IsTold (λ v. v.items) ((answers self.now).page place.now) result };
+        requires { tells → (answers self.now).file place.now ≡ Ok true }
+        ensures told { tells → IsTold (λ v. v.items) ((answers self.now).page place.now) result }
+        ensures short { IfOk result (λ v. length v.items ≤ 4096) };
 
     /// Lists a folder: each name with byte 0 after it.
     fn listing_of(&self, alloc: Global, place: &[u8]) -> Result<Vec<u8>, Cause>

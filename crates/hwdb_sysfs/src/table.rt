@@ -1,7 +1,7 @@
 //! A tree in memory that tells its answers, for laws and tests: what is at each path.
-ghost use Rattle.std.specs.Prelude.{◌≡◌, Ok, option_map};
+ghost use Rattle.std.specs.Prelude.{◌≡◌, ◌≤◌, IfOk, Ok, length, option_map};
 ghost use Rattle.hwdb_spec.specs.SysfsAnswers.{IsTold};
-ghost use Rattle.hwdb_sysfs.specs.Tables.{answers_of, row_at};
+ghost use Rattle.hwdb_sysfs.specs.Tables.{answers_of, page_if, row_at};
 
 use crate::files::{DeviceFiles, DeviceNode, NO_ENTRY};
 use hwdb_io::Cause;
@@ -62,6 +62,17 @@ fn copied(alloc: Global, bytes: &[u8]) -> Result<Vec<u8>, Cause>
     }
 }
 
+/// A copy of the bytes of a file of a page at most.
+fn copied_page(alloc: Global, bytes: &[u8]) -> Result<Vec<u8>, Cause>
+    ensures told { IsTold (λ v. v.items) (page_if bytes.now) result }
+    ensures short { IfOk result (λ v. length v.items ≤ 4096) }
+{
+    if bytes.len() > 4096 {
+        return Err(Cause::Unknown);
+    }
+    copied(alloc, bytes)
+}
+
 impl DeviceFiles for Table {
     ghost tells = { Unit {0} };
 
@@ -107,7 +118,7 @@ impl DeviceFiles for Table {
                     thing: Thing::File(bytes),
                     ..
                 },
-            ) => copied(alloc, bytes),
+            ) => copied_page(alloc, bytes),
             Some(_) => Err(Cause::Unknown),
             None => Err(Cause::System(NO_ENTRY)),
         }

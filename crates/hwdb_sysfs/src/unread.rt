@@ -76,8 +76,8 @@ fn unread_page<F: DeviceFiles>(
     files: &F,
     place: &[u8],
 ) -> Result<Option<UnreadPath>, AllocError>
-    ensures { F.tells → (F.answers files.now).file place.now ≡ Ok true
-        → IfOk result (IsUnread (F.answers files.now)
+    requires { F.tells → (F.answers files.now).file place.now ≡ Ok true }
+    ensures { F.tells → IfOk result (IsUnread (F.answers files.now)
         (tree.closed_at (seen (F.answers files.now)) place.now)) }
 {
     match files.page_of(alloc, place) {
