@@ -26,3 +26,4 @@ pub mod AlikeLemmas
 pub mod ChangeLemmas
 pub mod GiftLemmas
 pub mod ReportLemmas
+pub mod LongLemmas

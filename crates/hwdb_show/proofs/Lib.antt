@@ -3,3 +3,4 @@ pub mod ColourLemmas
 pub mod WindowLemmas
 pub mod VisibleLemmas
 pub mod EscapeLemmas
+pub mod WordLemmas

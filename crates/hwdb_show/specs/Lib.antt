@@ -3,3 +3,4 @@ pub mod Escapes
 pub mod Laws
 pub mod Rows
 pub mod Lemmas
+pub mod Shell

@@ -1,5 +1,6 @@
 //! Laws over the definitions alone. Each function does nothing: its contract is the law.
 ghost use Rattle.hwdb_show.specs.Laws.{FittingIsWhole, FrontIsShown, MarkIsAtEnd, MarkIsBelowByte, WindowRow};
+ghost use Rattle.hwdb_show.specs.Shell.{WordRows, WordsAreRead};
 
 /// The mark is below the byte of its place, wherever that is in a line.
 pub fn marks_are_below()
@@ -13,4 +14,11 @@ pub fn lines_are_shown()
     ensures whole { FittingIsWhole }
     ensures front { FrontIsShown }
     ensures row { WindowRow }
+{}
+
+/// A shell reads a word as the text that it was made of. Worked rows.
+#[tactic(auto, using(crate::proofs::WordLemmas::words_read, crate::proofs::WordLemmas::word_rows))]
+pub fn words_are_read()
+    ensures read { WordsAreRead }
+    ensures rows { WordRows }
 {}

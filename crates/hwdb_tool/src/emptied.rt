@@ -62,8 +62,9 @@ fn is_lost_in<D: System>(
     folder: &str,
     system: &D,
 ) -> Result<bool, Refusal>
-    ensures lost { D.Store.tells → IfOk result (λ lost. IsLost (bytes_at
-        (D.Store.seen system.now) (spec.path_in (root.now ++ folder.now) spec.database_name)) lost) }
+    ensures lost { D.Store.tells → IfOk result (λ lost. IsLost
+        (bytes_at (D.Store.seen system.now)
+        (spec.path_in (root.now ++ folder.now) spec.database_name)) lost) }
     ensures within { D.Store.tells → OnOk result (IfSome (bytes_at (D.Store.seen system.now)
         (spec.path_in (root.now ++ folder.now) spec.database_name)) (λ b. length b ≤ max_file)) }
     ensures refused { D.Store.tells → IfErr result (IsUnreadAt (D.Store.seen system.now)
