@@ -338,11 +338,13 @@ pub fn run<D: Machine, I: Source, O: Sink, E: Sink>(
             printed(status(alloc, root, *json, *quiet, system), out, err)
         }
         Task::Verify { database } => {
-            let answer = verify(alloc, root, text_of(database), system, input);
+            let given = text_of(database);
+            let answer = verify(alloc, root, given, system, input);
             printed(answer, out, err)
         }
         Task::Dump { database } => {
-            let answer = dump(alloc, root, text_of(database), system, input);
+            let given = text_of(database);
+            let answer = dump(alloc, root, given, system, input);
             printed(answer, out, err)
         }
     }
