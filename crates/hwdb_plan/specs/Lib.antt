@@ -2,6 +2,7 @@ pub mod Plans
 pub mod Ended
 pub mod Laws
 pub mod Asking
+pub mod Input
 pub mod Verify
 pub mod Dump
 pub mod Streams

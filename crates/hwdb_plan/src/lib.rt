@@ -9,6 +9,7 @@
 //! | `Ended` | what a run leaves whose plan ends so |
 //! | `Laws` | what is so of every plan |
 //! | `Asking` | the database that a command asks for, as the front of a plan |
+//! | `Input` | standard input, in place of a path that words give |
 //! | `Verify`, `Dump` | the plans of these commands |
 //! | `Streams` | that of `query -` and `explain -` |
 //! | `Put` | the end of `update`'s |

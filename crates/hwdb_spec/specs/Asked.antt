@@ -1,6 +1,6 @@
 -- The database that a command reads: that at a path, or the one below a root that is asked. And what `query`, `explain`, `list`,
 -- `verify` and `dump` print of it. `query` is systemd-hwdb(8)'s; the others are our choice.
-use Rattle.std.specs.Prelude.{◌++◌, ◌≡◌, ◌≤◌, ◌⊎◌, Bool, List, None, Option, Some, codes, false, if◌then◌else◌, length, true, ℕ}
+use Rattle.std.specs.Prelude.{◌++◌, ◌≡◌, ◌≤◌, ◌⊎◌, Bool, List, None, Option, Some, codes, false, length, true, ℕ}
 use Rattle.hwdb_spec.specs.Assignment.{Position}
 use Rattle.hwdb_spec.specs.Databases.{IsSayable, IsTextOf}
 use Rattle.hwdb_spec.specs.Dump.{dump_text}

@@ -101,6 +101,7 @@ pub mod Emptied
 pub mod HidingTold
 pub mod Reasons
 pub mod CheckedReasons
+pub mod GivenDatabases
 pub mod Replacements
 pub mod Sides
 pub mod ComparedDatabases

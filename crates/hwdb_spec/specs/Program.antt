@@ -6,6 +6,7 @@ use Rattle.clap.specs.Faults.{fault_of}
 use Rattle.hwdb_spec.specs.CommandLine.{hwdb_app}
 use Rattle.hwdb_spec.specs.Words.{AskFor, AskForText}
 use Rattle.hwdb_spec.specs.Given.{is_dash, any_dash, is_input}
+use Rattle.hwdb_spec.specs.GivenDatabases.{OfNamed, names_input}
 use Rattle.hwdb_spec.specs.Outputs.{Texts}
 use Rattle.hwdb_spec.specs.Runs.{AreKept, HasTaken, OnOut, Printed, Told, World}
 use Rattle.hwdb_spec.specs.Store.{Contents, InPlace, Outcomes}
@@ -67,9 +68,9 @@ IsAnswerOf (Test paths database json) root strict input files status texts =
 IsAnswerOf (Diff old_path new_path devices json stat) root strict input files status texts =
     OnOut (λ text. IsDiffed stat json (map string_bytes devices.items) (string_bytes old_path) (string_bytes new_path) input files text status) texts
 IsAnswerOf (Verify database) root strict input files status texts =
-    (status ≡ 0) × OnOut (IsPrinted (option_map string_bytes database) root IsSummary files) texts
+    (status ≡ 0) × OnOut (λ text. OfNamed (option_map string_bytes database) input files (λ given seen. IsPrinted given root IsSummary seen text)) texts
 IsAnswerOf (Dump database) root strict input files status texts =
-    (status ≡ 0) × OnOut (IsDumped (option_map string_bytes database) root files) texts
+    (status ≡ 0) × OnOut (λ text. OfNamed (option_map string_bytes database) input files (λ given seen. IsDumped given root seen text)) texts
 IsAnswerOf (Status json quiet) root strict input files status texts = OnOut (λ text. IsStatus root json quiet files text status) texts
 
 -- what `device` prints in this form, and its status
@@ -144,7 +145,9 @@ reads_input (Ask file device) = is_dash (string_bytes file)
 reads_input (Check files allowed json) = any_dash (map string_bytes files.items)
 reads_input (Near files device limit json) = any_dash (map string_bytes files.items)
 reads_input (Test files database json) = any_dash (map string_bytes files.items)
-reads_input (Diff old_path new_path devices json stat) = any_dash (map string_bytes devices.items)
+reads_input (Diff old_path new_path devices json stat) = any_dash (string_bytes old_path ∷ string_bytes new_path ∷ map string_bytes devices.items)
+reads_input (Verify database) = names_input (option_map string_bytes database)
+reads_input (Dump database) = names_input (option_map string_bytes database)
 reads_input _ = false
 
 -- the task is an update

@@ -1,6 +1,6 @@
 -- Which errors end a task, and when each comes. What it leaves: the files, standard output, and what standard error had taken
 -- before the error's line. Our choice.
-use Rattle.std.specs.Prelude.{◌≡◌, ◌≢◌, ◌⊎◌, ◌==◌, ℕ, Bool, true, false, not, is_some, length, List, [], ◌∷◌, Option, None, Some, map, option_map, string_bytes, codes}
+use Rattle.std.specs.Prelude.{◌≡◌, ◌≢◌, ◌⊎◌, ◌==◌, ℕ, Bool, true, false, not, length, List, [], ◌∷◌, Option, None, Some, map, option_map, string_bytes, codes}
 use Rattle.clap.specs.Faults.{fault_of}
 use Rattle.hwdb_spec.specs.CommandLine.{hwdb_app}
 use Rattle.hwdb_spec.specs.Words.{AskFor, AskForText, AreToldBy}
@@ -11,6 +11,7 @@ use Rattle.hwdb_spec.specs.declared.job.WordsFault.TheVariants as words_fault
 use Rattle.hwdb_spec.specs.declared.job.WordsFault.{WordsFault}
 use Rattle.hwdb_spec.specs.Failures.{IsOneLine}
 use Rattle.hwdb_spec.specs.Given.{is_dash, is_input}
+use Rattle.hwdb_spec.specs.GivenDatabases.{HasDatabaseReason, OfNamed}
 use Rattle.hwdb_spec.specs.DeviceAsked.{device_form}
 use Rattle.hwdb_spec.specs.Runs.{AreKept, Told, WasCut, World}
 use Rattle.hwdb_spec.specs.Store.{Contents}
@@ -35,7 +36,7 @@ use Rattle.hwdb_spec.specs.Reasons.{HasAskedReason, HasFilesReason, HasGivenReas
 use Rattle.hwdb_spec.specs.Refusals.{HasReason, IsAt, IsUnentered, Refused, refusal_line, refusal_text}
 use Rattle.hwdb_spec.specs.declared.refusals.Refusal.TheVariants.{Plain}
 use Rattle.hwdb_spec.specs.declared.refusals.Refusal.{Refusal}
-use Rattle.hwdb_spec.specs.Undone.{AreUncheckable, IsAskRefused, IsCheckRefused, IsListRefused, IsUnanswered, IsUnprinted, IsUnreadableIf, IsUnwritable}
+use Rattle.hwdb_spec.specs.Undone.{AreUncheckable, IsAskRefused, IsCheckRefused, IsListRefused, IsUnanswered, IsUnprinted, IsUnwritable}
 use Rattle.hwdb_spec.specs.HidingTold.{IsTellingUpdateRefused}
 
 -- why a task that prints a text can't make it, before it writes anything
@@ -47,8 +48,8 @@ Refuses (Near paths device limit json) root input files refusal = IsNearRefused 
 Refuses (Test paths database json) root input files refusal = IsTestRefused (map string_bytes paths.items) (option_map string_bytes database) root input files refusal
 Refuses (Diff old_path new_path devices json stat) root input files refusal =
     IsDiffRefused (map string_bytes devices.items) (string_bytes old_path) (string_bytes new_path) input files refusal
-Refuses (Verify database) root input files refusal = IsVerifyRefused (option_map string_bytes database) root files refusal
-Refuses (Dump database) root input files refusal = IsDumpRefused (option_map string_bytes database) root files refusal
+Refuses (Verify database) root input files refusal = OfNamed (option_map string_bytes database) input files (λ given seen. IsVerifyRefused given root seen refusal)
+Refuses (Dump database) root input files refusal = OfNamed (option_map string_bytes database) input files (λ given seen. IsDumpRefused given root seen refusal)
 Refuses (Status json quiet) root input files refusal = IsStatusRefused root files refusal
 Refuses task root input files refusal = IsUnanswered root files refusal
 
@@ -76,14 +77,7 @@ IsTaskRefused (Update verbose skip) root usr strict refusal before now =
     IsTellingUpdateRefused root usr verbose skip refusal before.files now.files before.err now.err × (now.out ≡ before.out)
 IsTaskRefused task root usr strict refusal before now = IsPrintingRefused task root strict refusal before now × AreKept before.files now.files
 
--- A database that the task asks for can't be read. Reading it may fail, or it is one that the words name, and nothing is
--- there.
-abbrev pub IsUnreadableFor : Task → (MayFail : (path : List ℕ) → Type 0) → Contents → (path : List ℕ) → Type 0
-IsUnreadableFor (Verify database) = IsUnreadableIf (is_some (option_map string_bytes database))
-IsUnreadableFor (Dump database) = IsUnreadableIf (is_some (option_map string_bytes database))
-IsUnreadableFor _ = IsUnreadableIf false
-
--- What the error of a task says of a path, or of standard input, is so. If the words name text files, `-` is standard input.
+-- What the error of a task says of a path, or of standard input, is so. If the words name files, `-` is standard input.
 abbrev pub IsTaskReason : Task → (root : List ℕ) (usr : Bool) (before now : World) → Refusal → Type 0
 IsTaskReason (Query devices json) root usr before now refusal =
     HasAskedReason (is_input (map string_bytes devices.items)) root before.files.fails before.files.seen before.input.bytes before.input.failures now.input.failures refusal
@@ -99,9 +93,12 @@ IsTaskReason (Test paths database json) root usr before now refusal =
     HasTestReason (map string_bytes paths.items) (option_map string_bytes database) root before.files.fails before.files.seen before.input.bytes before.input.failures now.input.failures refusal
 IsTaskReason (Diff old_path new_path devices json stat) root usr before now refusal =
     HasDiffReason (map string_bytes devices.items) (string_bytes old_path) (string_bytes new_path) before.files.fails before.files.seen before.input.bytes before.input.failures now.input.failures refusal
+IsTaskReason (Verify database) root usr before now refusal =
+    HasDatabaseReason (option_map string_bytes database) before.files.fails before.files.seen before.input.bytes before.input.failures now.input.failures refusal
+IsTaskReason (Dump database) root usr before now refusal =
+    HasDatabaseReason (option_map string_bytes database) before.files.fails before.files.seen before.input.bytes before.input.failures now.input.failures refusal
 IsTaskReason task root usr before now refusal =
-    HasReason (IsUnreadableFor task before.files.fails before.files.seen)
-    (IsUnwritable (database_folder usr root) before.files.seen before.files.failures now.files.failures) before.files.seen refusal
+    HasReason before.files.fails (IsUnwritable (database_folder usr root) before.files.seen before.files.failures now.files.failures) before.files.seen refusal
 
 -- a task ends with an error, and what that says is so
 abbrev pub IsNotDone : Task → (root : List ℕ) (usr strict : Bool) (before now : World) → Refusal → Type 0

@@ -89,9 +89,9 @@ pub enum Task {
     },
     /// Print what changed from one side to another: a database, a text file, a folder of text files or a root.
     Diff {
-        /// The path of the old side.
+        /// The path of the old side; `-` is standard input.
         old: String,
-        /// The path of the new one.
+        /// The path of the new one, in the same way.
         new: String,
         /// The paths of files that name devices; none if assignments are compared.
         devices: Vec<String>,
@@ -102,12 +102,12 @@ pub enum Task {
     },
     /// Say whether a file is a database that can be read, and how much is in it.
     Verify {
-        /// The database's path; none if that of `/etc/udev` or `/usr/lib/udev` is meant.
+        /// The database's path, or `-` for standard input; none if that of `/etc/udev` or `/usr/lib/udev` is meant.
         database: Option<String>,
     },
     /// Print a database as a text file.
     Dump {
-        /// The database's path; none if that of `/etc/udev` or `/usr/lib/udev` is meant.
+        /// The database's path, or `-` for standard input; none if that of `/etc/udev` or `/usr/lib/udev` is meant.
         database: Option<String>,
     },
     /// Say whether the database that is asked is what the text files make.

@@ -108,6 +108,7 @@
 //! | `HidingTold` | an update, and before it the line on a database that hides the new one |
 //! | `Reasons` | what an error says of a file is so |
 //! | `CheckedReasons` | the same of `check` |
+//! | `GivenDatabases` | the databases that words name to `verify`, `dump` and `diff`: `-` is standard input |
 //! | `Replacements` | what `explain --text` says that no database can: what was replaced, and what is masked |
 //! | `Sides` | what a path of `diff` means: a database, a text file, a folder or a root; and the errors of that |
 //! | `ComparedDatabases` | what `diff` compares, and its errors, with their paths |

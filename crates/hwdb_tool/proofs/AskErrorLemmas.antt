@@ -84,7 +84,7 @@ module _ (file : List ℕ) (input : Option (List ℕ)) (files : Contents) where
     from_input NoDatabase u reason of = absurd u
     from_input (InWords text) u reason of = absurd u
 
-    unread_from : (b : Bool) → IsUnreadGiven b file files r → HasGivenReason b fails files input n m r → IsUnreadFrom b file input files r
+    pub unread_from : (b : Bool) → IsUnreadGiven b file files r → HasGivenReason b fails files input n m r → IsUnreadFrom b file input files r
     unread_from true unread reason = from_input r unread reason of
     unread_from false unread reason = unread_given fails ⊥ files file never r unread (plain_reason fails ⊥ files input n m false r refl reason) of
 
@@ -113,11 +113,11 @@ module _ (file told : List ℕ) (files : Contents) where
   one_content true x y one two = one ∙ sym two
   one_content false x y one two = one_inside (bytes_at files file) x y one two
 
-  content_or_unread : (b : Bool) (bytes : List ℕ) (r : Refusal) → IsContent b file (Some told) files bytes → length bytes ≤ max_file → IsUnreadFrom b file (Some told) files r → ⊥
+  pub content_or_unread : (b : Bool) (bytes : List ℕ) (r : Refusal) → IsContent b file (Some told) files bytes → length bytes ≤ max_file → IsUnreadFrom b file (Some told) files r → ⊥
   content_or_unread true bytes r held within unread = let long = unread.1 in omega (arith, long, within, ap length held)
   content_or_unread false bytes r held within unread = held_or_unread files file bytes r held within unread
 
-  unread_unread : (b : Bool) (r r2 : Refusal) → IsUnreadFrom b file (Some told) files r → IsUnreadFrom b file (Some told) files r2 → IsOneError r r2
+  pub unread_unread : (b : Bool) (r r2 : Refusal) → IsUnreadFrom b file (Some told) files r → IsUnreadFrom b file (Some told) files r2 → IsOneError r r2
   unread_unread true r r2 one two = over_over TooLong TooLong (codes "standard input") (codes "standard input") r r2 one.0 two.0 refl refl
   unread_unread false r r2 one two = unread_one files file r r2 one two
 

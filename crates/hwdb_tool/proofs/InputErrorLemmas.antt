@@ -3,7 +3,7 @@ use Rattle.std.proofs.Common.{◌≡◌, ◌<◌, ◌⊎◌, ◌∙◌, ◌++◌
 use Rattle.std.proofs.lemmas.List.{reverse-append}
 use Rattle.std.proofs.lemmas.List.Elements.{Contains-append_right}
 use Rattle.std.specs.Prelude.{Contains, codes, option_map}
-use Rattle.hwdb_spec.specs.declared.job.Task.TheVariants.{Ask, Check, Diff, Explain, Near, Query, Test}
+use Rattle.hwdb_spec.specs.declared.job.Task.TheVariants.{Ask, Check, Diff, Dump, Explain, Near, Query, Test, Verify}
 use Rattle.hwdb_spec.specs.Asked.{IsAskedPath}
 use Rattle.hwdb_spec.specs.CheckedFiles.{StandFor, folder_of}
 use Rattle.hwdb_spec.specs.Failures.{HasFailed}
@@ -14,7 +14,8 @@ use Rattle.hwdb_spec.specs.Store.{Contents, Outcomes, database_name, path_in}
 use Rattle.hwdb_spec.specs.System.{database_folder, etc_files, usr_files}
 use Rattle.hwdb_spec.specs.Texts.{max_file}
 use Rattle.hwdb_spec.specs.declared.DbFault.{DbFault}
-use Rattle.hwdb_spec.specs.ComparedDatabases.{HasDiffReason, IsOfDiff, IsPairRefused}
+use Rattle.hwdb_spec.specs.ComparedDatabases.{HasDiffReason, IsGivenSideRefused, IsOfDiff, IsPairRefused}
+use Rattle.hwdb_spec.specs.GivenDatabases.{twice_text}
 use Rattle.hwdb_spec.specs.declared.errors.DiffError.{DiffError}
 use Rattle.hwdb_spec.specs.declared.errors.DiffError.TheVariants as differing
 use Rattle.hwdb_spec.specs.declared.errors.ToolError.{ToolError}
@@ -31,7 +32,7 @@ use Rattle.hwdb_tool.specs.OneRefusal.{InputIsLong, InputIsRead, IsInNamed, IsOf
 use Rattle.hwdb_tool.proofs.SideErrorLemmas.{stand_below}
 use Rattle.hwdb_spec.specs.NamedDatabases.{IsUnnamed}
 use Rattle.hwdb_spec.specs.TestErrors.{AreUntried, HasTestReason}
-use Rattle.hwdb_spec.specs.Undone.{IsUnfound}
+use Rattle.hwdb_spec.specs.Undone.{IsUnfound, told_path}
 use Rattle.hwdb_spec.specs.Reasons.{HasAskedReason, HasFilesReason, HasGivenReason, IsFirstGiven, IsGivenTooLong, IsGivenUnreadable, IsOfFiles}
 
 not_false : (b : Bool) → not b ≡ false → b ≡ true
@@ -278,8 +279,8 @@ module _ (given : List (List ℕ)) (path : Option (List ℕ)) (root : List ℕ) 
 -- ---- the files and the sides of `diff`
 module _ (old_path new_path : List ℕ) (files : Contents) (e : ToolError) (words : List ℕ) (kind : IsUnreadKind e) where
   uncompared_path : (x : DiffError) (r : Refusal) → IsOfDiff x old_path new_path r → IsOver e words r → ⊥
-  uncompared_path (differing.Old fault) r is over = faulty_path files e words kind fault old_path r is over
-  uncompared_path (differing.New fault) r is over = faulty_path files e words kind fault new_path r is over
+  uncompared_path (differing.Old fault) r is over = faulty_path files e words kind fault (told_path old_path) r is over
+  uncompared_path (differing.New fault) r is over = faulty_path files e words kind fault (told_path new_path) r is over
   uncompared_path differing.Memory r is over = over_plain e Memory words r is over
 
   first_path : (paths : List (List ℕ)) (r : Refusal) → IsOfFiles paths files r → IsOver e words r → Contains paths words
@@ -373,24 +374,40 @@ module _ (old_path new_path : List ℕ) (files : Contents) (e : ToolError) (word
         no_path NoDatabase in_words over = over
         no_path (At x at cause) in_words over = in_words
 
-    pair_path : (r : Refusal) → IsPairRefused Lists Reads old_path new_path files r → IsOver e words r → IsOfSide old_path words ⊎ IsOfSide new_path words
-    pair_path r (inl old) over = inl (side_path old_path r old over)
-    pair_path r (inr (inl new)) over = inr (side_path new_path r new.2 over)
-    pair_path r (inr (inr not)) over = absurd (uncompared_path not.error r not.is over)
+    -- a side that words name: it is read by its path, or it is standard input
+    given_path : (Told : Refusal → Type 0) (b : Bool) (path : List ℕ) (r : Refusal) → IsGivenSideRefused Lists Reads Told b path files r → IsOver e words r → Told r ⊎ IsOfSide path words
+    given_path Told true path r un over = inl un.1
+    given_path Told false path r un over = inr (side_path path r un over)
+
+    pair_path : (Told : Refusal → Type 0) (input : Option (List ℕ)) (r : Refusal) → IsPairRefused Lists Reads Told old_path new_path input files r → IsOver e words r
+        → Told r ⊎ (IsOfSide old_path words ⊎ IsOfSide new_path words)
+    pair_path Told input r (inl old) over = ⊎_elim (λ told. inl told) (λ side. inr (inl side)) (given_path Told (is_dash old_path) old_path r old over)
+    pair_path Told input r (inr (inl new)) over = ⊎_elim (λ told. inl told) (λ side. inr (inr side)) (given_path Told (is_dash new_path) new_path r new.2 over)
+    pair_path Told input r (inr (inr not)) over = absurd (uncompared_path not.error r not.is over)
+
+over_words : (e : ToolError) (path text : List ℕ) (r : Refusal) → IsInWords text r → IsOver e path r → ⊥
+over_words e path text (InWords said) is over = over
+over_words e path text (Plain x) is over = over
+over_words e path text NoDatabase is over = over
+over_words e path text (At x at cause) is over = is
 
 module _ (given : List (List ℕ)) (old_path new_path : List ℕ) (fails : List ℕ → Type 0) (files : Contents) (input : Option (List ℕ)) (n m : ℕ) where
   diffed_read : (r : Refusal) → IsOver Read (codes "standard input") r → HasDiffReason given old_path new_path fails files input n m r → HasFailed n m ⊎ IsOfDiffed given old_path new_path (codes "standard input")
   diffed_read r over (inl write) = absurd (over_plain Read Write (codes "standard input") r write over)
-  diffed_read r over (inr (inl file)) = ⊎_elim (λ failed. inl failed) (λ among. inr (inl among)) (paths_read fails files input n m given r over file.1)
-  diffed_read r over (inr (inr pair)) =
-      inr (inr (pair_path old_path new_path files Read (codes "standard input") (inl refl) (HasReason fails ⊥ files) (HasReason (IsUnreadable fails files) ⊥ files) r pair.2 over))
+  diffed_read r over (inr (inl twice)) = absurd (over_words Read (codes "standard input") twice_text r twice.1 over)
+  diffed_read r over (inr (inr (inl file))) = ⊎_elim (λ failed. inl failed) (λ among. inr (inl among)) (paths_read fails files input n m given r over file.1)
+  diffed_read r over (inr (inr (inr pair))) =
+      ⊎_elim (λ has. inl (file_failed fails files input n m true r refl over has)) (λ side. inr (inr side))
+      (pair_path old_path new_path files Read (codes "standard input") (inl refl) (HasReason fails ⊥ files) (HasReason (IsUnreadable fails files) ⊥ files) (HasGivenReason true fails files input n m) input r pair.2 over)
 
   diffed_long : (r : Refusal) → IsOver TooLong (codes "standard input") r → HasDiffReason given old_path new_path fails files input n m r
       → IsInputLong fails files input n m ⊎ IsOfDiffed given old_path new_path (codes "standard input")
   diffed_long r over (inl write) = absurd (over_plain TooLong Write (codes "standard input") r write over)
-  diffed_long r over (inr (inl file)) = ⊎_elim (λ long. inl long) (λ among. inr (inl among)) (paths_long fails files input n m given r over file.1)
-  diffed_long r over (inr (inr pair)) =
-      inr (inr (pair_path old_path new_path files TooLong (codes "standard input") (inr refl) (HasReason fails ⊥ files) (HasReason (IsUnreadable fails files) ⊥ files) r pair.2 over))
+  diffed_long r over (inr (inl twice)) = absurd (over_words TooLong (codes "standard input") twice_text r twice.1 over)
+  diffed_long r over (inr (inr (inl file))) = ⊎_elim (λ long. inl long) (λ among. inr (inl among)) (paths_long fails files input n m given r over file.1)
+  diffed_long r over (inr (inr (inr pair))) =
+      ⊎_elim (λ has. inl (file_long fails files input n m true r refl over has)) (λ side. inr (inr side))
+      (pair_path old_path new_path files TooLong (codes "standard input") (inr refl) (HasReason fails ⊥ files) (HasReason (IsUnreadable fails files) ⊥ files) (HasGivenReason true fails files input n m) input r pair.2 over)
 
 module _ (fails fails_now : List ℕ → Type 0) (left left_now : Outcomes) where
   pub input_is_read : InputIsRead fails fails_now left left_now
@@ -408,6 +425,10 @@ module _ (fails fails_now : List ℕ → Type 0) (left left_now : Outcomes) wher
       inl (asked_read root fails before.files before.input.bytes before.input.failures now.input.failures (is_dash (string_bytes device)) r over not.1)
   input_is_read (Diff old new devices json stat) root usr strict r before now dash over not =
       diffed_read (map string_bytes devices.items) (string_bytes old) (string_bytes new) fails before.files before.input.bytes before.input.failures now.input.failures r over not.1
+  input_is_read (Verify (Some path)) root usr strict r before now dash over not =
+      inl (file_failed fails before.files before.input.bytes before.input.failures now.input.failures (is_dash (string_bytes path)) r dash over not.1)
+  input_is_read (Dump (Some path)) root usr strict r before now dash over not =
+      inl (file_failed fails before.files before.input.bytes before.input.failures now.input.failures (is_dash (string_bytes path)) r dash over not.1)
   input_is_read task root usr strict r before now dash over not = absurd cc
 
   pub input_is_long : InputIsLong fails fails_now left left_now
@@ -421,6 +442,12 @@ module _ (fails fails_now : List ℕ → Type 0) (left left_now : Outcomes) wher
       tested_long (map string_bytes paths.items) (option_map string_bytes database) root fails before.files before.input.bytes before.input.failures now.input.failures r over not.1
   input_is_long (Diff old new devices json stat) root usr strict r before now kind dash over not =
       diffed_long (map string_bytes devices.items) (string_bytes old) (string_bytes new) fails before.files before.input.bytes before.input.failures now.input.failures r over not.1
+  input_is_long (Verify (Some path)) root usr strict r before now kind dash over not =
+      inl (file_long fails before.files before.input.bytes before.input.failures now.input.failures (is_dash (string_bytes path)) r dash over not.1)
+  input_is_long (Verify None) root usr strict r before now kind dash over not = absurd cc
+  input_is_long (Dump (Some path)) root usr strict r before now kind dash over not =
+      inl (file_long fails before.files before.input.bytes before.input.failures now.input.failures (is_dash (string_bytes path)) r dash over not.1)
+  input_is_long (Dump None) root usr strict r before now kind dash over not = absurd cc
   input_is_long task root usr strict r before now kind dash over not = absurd kind
 
   pub line_is_long : LineIsLong fails fails_now left left_now

@@ -28,7 +28,8 @@ use Rattle.hwdb_tool.specs.OneRefusal.{IsCovered, IsOfReading, IsOfWhatIsRead, I
 use Rattle.hwdb_spec.specs.Program.{IsTaskDone, root_of}
 use Rattle.hwdb_spec.specs.TaskRefusals.{IsNotDone, refused_status}
 use Rattle.hwdb_spec.specs.Undone.{IsUnwritable}
-use Rattle.hwdb_tool.proofs.DatabaseErrorLemmas.{OneHeader, OneTree, Undumped, Unlisted, Unverified}
+use Rattle.hwdb_tool.proofs.DatabaseErrorLemmas.{OneHeader, OneTree, Unlisted}
+use Rattle.hwdb_tool.proofs.NamedErrorLemmas.{NoDump, NoVerify}
 use Rattle.hwdb_tool.proofs.AskErrorLemmas.{OneForm, Unasked}
 use Rattle.hwdb_tool.proofs.ComparedErrorLemmas.{Undiffed}
 use Rattle.hwdb_tool.proofs.JobLemmas.{apart, both_words, cut_last, is_named, one_value, one_values, same_root, word_of}
@@ -95,8 +96,8 @@ module _ (name : Text) (inner : List Row) where
         subst (λ (p : List ℕ). Undiffed (map string_bytes devices1.items) p (string_bytes new1) input files r) (one_value (first_of (codes "OLD") inner) _ _ u.4 t.4)
         (subst (λ (p : List ℕ). Undiffed (map string_bytes devices1.items) (string_bytes old2) p input files r) (one_value (first_of (codes "NEW") inner) _ _ u.5 t.5)
         (subst (λ (ds : List (List ℕ)). Undiffed ds (string_bytes old2) (string_bytes new2) input files r) (u.3 ∙ sym t.3) is))
-    same_why (Verify database1) (Verify database2) t u is = subst (λ (d : Option (List ℕ)). Unverified header fails U root files d r) (u.1 ∙ sym t.1) is
-    same_why (Dump database1) (Dump database2) t u is = subst (λ (d : Option (List ℕ)). Undumped header fails U root files d r) (u.1 ∙ sym t.1) is
+    same_why (Verify database1) (Verify database2) t u is = subst (λ (d : Option (List ℕ)). NoVerify header fails U root files d input r) (u.1 ∙ sym t.1) is
+    same_why (Dump database1) (Dump database2) t u is = subst (λ (d : Option (List ℕ)). NoDump header fails U root files d input r) (u.1 ∙ sym t.1) is
     same_why (Status json1 false) (Status json2 false) t u is = is
     same_why (Status json1 true) (Status json2 true) t u is = is
     same_why (Status json1 true) (Update v2 k2) t u is = both_words t.1 u.1

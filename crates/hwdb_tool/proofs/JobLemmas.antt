@@ -25,6 +25,7 @@ use Rattle.hwdb_spec.specs.Store.{Contents, Outcomes}
 use Rattle.hwdb_spec.specs.CheckedFiles.{AreCheckedFiles, IsChecked}
 use Rattle.hwdb_spec.specs.Asked.{IsAnswered, IsListFrom, IsDumped, IsPrinted}
 use Rattle.hwdb_spec.specs.ComparedDatabases.{IsDiffed}
+use Rattle.hwdb_spec.specs.GivenDatabases.{OfNamed}
 use Rattle.hwdb_spec.specs.Done.{IsAsked}
 use Rattle.hwdb_spec.specs.Status.{IsMade, IsStatus}
 use Rattle.hwdb_spec.specs.Databases.{IsSummary}
@@ -176,9 +177,9 @@ module _ (name : Text) (inner : List Row) (root : List ℕ) (usr strict : Bool) 
       (subst (λ (s : Bool). Prints (OnOut (λ text. IsDiffed s json1 (map string_bytes devices2.items) (string_bytes old2) (string_bytes new2) input old text status))) (u.2 ∙ sym t.2)
       (subst (λ (j : Bool). Prints (OnOut (λ text. IsDiffed stat2 j (map string_bytes devices2.items) (string_bytes old2) (string_bytes new2) input old text status))) (u.1 ∙ sym t.1) done))))
   same_task (Verify database1) (Verify database2) t u done =
-      subst (λ (d : Option (List ℕ)). Quietly (IsPrinted d root IsSummary old)) (u.1 ∙ sym t.1) done
+      subst (λ (d : Option (List ℕ)). Quietly (λ text. OfNamed d input old (λ g fs. IsPrinted g root IsSummary fs text))) (u.1 ∙ sym t.1) done
   same_task (Dump database1) (Dump database2) t u done =
-      subst (λ (d : Option (List ℕ)). Quietly (IsDumped d root old)) (u.1 ∙ sym t.1) done
+      subst (λ (d : Option (List ℕ)). Quietly (λ text. OfNamed d input old (λ g fs. IsDumped g root fs text))) (u.1 ∙ sym t.1) done
   same_task (Status json1 false) (Status json2 false) t u done =
       subst (λ (j : Bool). Prints (OnOut (λ text. IsStatus root j false old text status))) (u.1 ∙ sym t.1) done
   same_task (Status json1 true) (Status json2 true) t u done =

@@ -108,8 +108,8 @@ module _ (root : List ℕ) (usr strict : Bool) (seen : Contents) (fails : List �
   reason_alike r (Test files database json) takes has = has
   reason_alike r (ListHits after limit device json) takes has = unwritten_for _ _ _ seen (unwritable_alike _) r has
   reason_alike r (Device path strings json pattern) takes has = unwritten_for _ _ _ seen (unwritable_alike _) r has
-  reason_alike r (Verify database) takes has = unwritten_for _ _ _ seen (unwritable_alike _) r has
-  reason_alike r (Dump database) takes has = unwritten_for _ _ _ seen (unwritable_alike _) r has
+  reason_alike r (Verify database) takes has = has
+  reason_alike r (Dump database) takes has = has
   reason_alike r task takes has = absurd (true≢false (sym takes))
 
   pub not_done_alike : (r : Refusal) (task : Task) → takes_text task ≡ true → IsNotDone task root usr strict Before Now r → IsNotDone task root usr strict Before2 Now2 r

@@ -5,9 +5,10 @@ use Rattle.std.specs.Io.KnownBytes.{Appends}
 use Rattle.std.specs.Prelude.{Contains, option_map}
 use Rattle.hwdb_spec.specs.declared.job.Task.{Task}
 use Rattle.hwdb_spec.specs.declared.job.Task.TheVariants.{Ask, Check, Device, Diff, Dump, Explain, List as ListHits, Near, Query, Status, Test, Update, Verify}
-use Rattle.hwdb_spec.specs.Asked.{IsAnswered, database_path}
+use Rattle.hwdb_spec.specs.Asked.{IsAnswered, IsDumped, IsPrinted, database_path}
 use Rattle.hwdb_spec.specs.CheckedFiles.{AreCheckedFiles, AreChosenFiles, AreNamedFiles, StandFor, folder_of}
-use Rattle.hwdb_spec.specs.Databases.{IsTextOf}
+use Rattle.hwdb_spec.specs.Databases.{IsSummary, IsTextOf}
+use Rattle.hwdb_spec.specs.GivenDatabases.{OfNamed}
 use Rattle.hwdb_spec.specs.Done.{IsAsked}
 use Rattle.hwdb_spec.specs.Failures.{HasFailed}
 use Rattle.hwdb_spec.specs.Folders.{Choice, Source}
@@ -43,7 +44,9 @@ use Rattle.hwdb_spec.specs.Reasons.{HasFilesReason}
 use Rattle.hwdb_spec.specs.CheckedReasons.{HasCheckedReason, HasNamedReason}
 use Rattle.hwdb_spec.specs.Undone.{AreUncheckable, IsAskRefused, IsCheckRefused, IsUnanswered, IsUnprinted, IsUnwritable}
 use Rattle.hwdb_tool.proofs.FolderErrorLemmas.{FullOrStand, IsFolderFull, named_end}
-use Rattle.hwdb_tool.proofs.DatabaseErrorLemmas.{OneHeader, OneTree, Unanswered, Undumped, Unlisted, Unverified, answer_answer, answer_done, dump_done, dump_dump, list_done, list_list, unanswered, undumped, unlisted, unverified, verify_done, verify_verify}
+use Rattle.hwdb_tool.proofs.DatabaseErrorLemmas.{OneHeader, OneTree, Unanswered, Undumped, Unlisted, Unverified, answer_answer, answer_done, dump_done, dump_dump, list_done, list_list, unanswered, unlisted, verify_done, verify_verify}
+use Rattle.hwdb_tool.proofs.NamedErrorLemmas.{NoDump, NoVerify, no_dump, no_verify}
+use Rattle.hwdb_tool.proofs.NamedInputLemmas.{both_named}
 use Rattle.hwdb_tool.proofs.AskErrorLemmas.{OneForm, Unasked, ask_ask, ask_done, unasked_file}
 use Rattle.hwdb_tool.proofs.RefusalLemmas.{NeverNamed}
 use Rattle.hwdb_tool.proofs.ComparedErrorLemmas.{Undiffed, diff_diff, diff_done, undiffed}
@@ -168,8 +171,8 @@ module _ (header : OneHeader) (tree : OneTree) where
   Why fails U input files (Explain device json) root r = Unanswered header fails U root files r
   Why fails U input files (ListHits after limit device json) root r = Unlisted header fails U root files (option_map string_bytes after) r
   Why fails U input files (Diff old new devices json stat) root r = Undiffed (map string_bytes devices.items) (string_bytes old) (string_bytes new) input files r
-  Why fails U input files (Verify database) root r = Unverified header fails U root files (option_map string_bytes database) r
-  Why fails U input files (Dump database) root r = Undumped header fails U root files (option_map string_bytes database) r
+  Why fails U input files (Verify database) root r = NoVerify header fails U root files (option_map string_bytes database) input r
+  Why fails U input files (Dump database) root r = NoDump header fails U root files (option_map string_bytes database) input r
   Why fails U input files (Ask file device) root r = Unasked (string_bytes file) input files r
   Why fails U input files (Check paths allowed json) root r = Unchecked (map string_bytes paths.items) input files root r
   Why fails U input files (Near paths device limit json) root r = Uncompared (map string_bytes paths.items) input files root r
@@ -216,15 +219,19 @@ module _ (header : OneHeader) (tree : OneTree) where
     why (Diff old new devices json stat) kind never named not =
         let given = map string_bytes devices.items in
         let found = unprinted (IsDiffRefused given (string_bytes old) (string_bytes new) before.input.bytes before.files) (MayPrint (Diff old new devices json stat) root strict before.input.bytes before.files) r before.err now.err before.out now.out of not.0.0 in (
-          undiffed given (string_bytes old) (string_bytes new) before.files fails never before.input.bytes before.input.failures now.input.failures whole r named not.1 of,
+          undiffed given (string_bytes old) (string_bytes new) before.files fails never before.input.bytes before.input.failures now.input.failures whole r named found.0 not.1 of,
           left_then found.1 not.0.1.same,
         )
     why (Verify database) kind never named not =
-        let found = unprinted (IsVerifyRefused (option_map string_bytes database) root before.files) (MayPrint (Verify database) root strict before.input.bytes before.files) r before.err now.err before.out now.out of not.0.0 in
-        (unverified header fails Unwritable root before.files (option_map string_bytes database) (never_named fails root before.files (option_map string_bytes database) never) r found.0 not.1 of, left_then found.1 not.0.1.same)
+        let given = option_map string_bytes database in
+        let input = before.input.bytes in
+        let found = unprinted (λ x. OfNamed given input before.files (λ g fs. IsVerifyRefused g root fs x)) (MayPrint (Verify database) root strict input before.files) r before.err now.err before.out now.out of not.0.0 in
+        (no_verify header fails Unwritable root before.files before.input.failures now.input.failures whole r of given input (never_named fails root before.files given never) found.0 not.1, left_then found.1 not.0.1.same)
     why (Dump database) kind never named not =
-        let found = unprinted (IsDumpRefused (option_map string_bytes database) root before.files) (MayPrint (Dump database) root strict before.input.bytes before.files) r before.err now.err before.out now.out of not.0.0 in
-        (undumped header fails Unwritable root before.files (option_map string_bytes database) (never_named fails root before.files (option_map string_bytes database) never) r found.0 not.1 of, left_then found.1 not.0.1.same)
+        let given = option_map string_bytes database in
+        let input = before.input.bytes in
+        let found = unprinted (λ x. OfNamed given input before.files (λ g fs. IsDumpRefused g root fs x)) (MayPrint (Dump database) root strict input before.files) r before.err now.err before.out now.out of not.0.0 in
+        (no_dump header fails Unwritable root before.files before.input.failures now.input.failures whole r of given input (never_named fails root before.files given never) found.0 not.1, left_then found.1 not.0.1.same)
     why (Ask file device) kind never named not =
         let found = unprinted (IsAskRefused (string_bytes file) before.input.bytes before.files) (MayPrint (Ask file device) root strict before.input.bytes before.files) r before.err now.err before.out now.out of not.0.0 in (
           unasked_file (string_bytes file) before.input.bytes before.files fails before.input.failures now.input.failures (never (string_bytes file) refl) whole r of found.0 not.1,
@@ -262,8 +269,12 @@ module _ (header : OneHeader) (tree : OneTree) where
     one_why fails fails2 U U2 files root r r2 (ListHits after limit device json) kind one two = list_list header fails U root files (option_map string_bytes after) r r2 one two
     one_why fails fails2 U U2 files root r r2 (Diff old new devices json stat) kind one two =
         diff_diff (map string_bytes devices.items) (string_bytes old) (string_bytes new) files header choice reading form stand.0 stand.1 told r r2 one two
-    one_why fails fails2 U U2 files root r r2 (Verify database) kind one two = verify_verify header fails U root files (option_map string_bytes database) r r2 one two
-    one_why fails fails2 U U2 files root r r2 (Dump database) kind one two = dump_dump header fails U root files tree (option_map string_bytes database) r r2 one two
+    one_why fails fails2 U U2 files root r r2 (Verify database) kind one two =
+        both_named (option_map string_bytes database) told files (λ g fs. Unverified header fails U root fs g r) (λ g fs. Unverified header fails U root fs g r2) (IsOneError r r2)
+        (λ g fs x y. verify_verify header fails U root fs g r r2 x y) one two
+    one_why fails fails2 U U2 files root r r2 (Dump database) kind one two =
+        both_named (option_map string_bytes database) told files (λ g fs. Undumped header fails U root fs g r) (λ g fs. Undumped header fails U root fs g r2) (IsOneError r r2)
+        (λ g fs x y. dump_dump header fails U root fs tree g r r2 x y) one two
     one_why fails fails2 U U2 files root r r2 (Ask file device) kind one two = ask_ask (string_bytes file) told files r r2 one two
     one_why fails fails2 U U2 files root r r2 (Check paths allowed json) kind one two = check_check choice stand root files told (map string_bytes paths.items) r r2 one two
     one_why fails fails2 U U2 files root r r2 (Near paths device limit json) kind one two = near_near root files told (map string_bytes paths.items) r r2 one two
@@ -318,8 +329,18 @@ module _ (header : OneHeader) (tree : OneTree) where
         let given = map string_bytes devices.items in
         diff_done given (string_bytes old) (string_bytes new) before.files.seen header choice reading form stand.0 stand.1 told stat json done.0.texts.out status r
         (subst (λ (i : Option (List ℕ)). IsDiffed stat json given (string_bytes old) (string_bytes new) i before.files.seen done.0.texts.out status) tells done.0.are.1) not
-    not_both_ends (Verify database) kind done not = verify_done header fails2 U root before.files.seen (option_map string_bytes database) done.0.texts.out r done.0.are.1.1 not
-    not_both_ends (Dump database) kind done not = dump_done header fails2 U root before.files.seen tree (option_map string_bytes database) done.0.texts.out r done.0.are.1.1 not
+    not_both_ends (Verify database) kind done not =
+        let given = option_map string_bytes database in
+        let files = before.files.seen in
+        let text = done.0.texts.out in
+        both_named given told files (λ g fs. IsPrinted g root IsSummary fs text) (λ g fs. Unverified header fails2 U root fs g r) ⊥ (λ g fs x y. verify_done header fails2 U root fs g text r x y)
+        (subst (λ (i : Option (List ℕ)). OfNamed given i files (λ g fs. IsPrinted g root IsSummary fs text)) tells done.0.are.1.1) not
+    not_both_ends (Dump database) kind done not =
+        let given = option_map string_bytes database in
+        let files = before.files.seen in
+        let text = done.0.texts.out in
+        both_named given told files (λ g fs. IsDumped g root fs text) (λ g fs. Undumped header fails2 U root fs g r) ⊥ (λ g fs x y. dump_done header fails2 U root fs tree g text r x y)
+        (subst (λ (i : Option (List ℕ)). OfNamed given i files (λ g fs. IsDumped g root fs text)) tells done.0.are.1.1) not
     not_both_ends (Ask file device) kind done not =
         ask_done (string_bytes file) told before.files.seen form (string_bytes device) done.0.texts r
         (subst (λ (i : Option (List ℕ)). IsAsked (string_bytes file) (string_bytes device) i before.files.seen done.0.texts) tells done.0.are.1) not

@@ -42,13 +42,15 @@ use Rattle.hwdb_spec.specs.declared.devices.DeviceForm.{DeviceForm}
 use Rattle.hwdb_spec.specs.DeviceErrors.{asked_names}
 use Rattle.hwdb_spec.specs.Near.{PatternAt}
 use Rattle.hwdb_spec.specs.NearAsked.{IsNear, database_patterns, near_form, near_limit, patterns_from}
-use Rattle.hwdb_spec.specs.Asked.{IsAnswered, IsFrom, IsListFrom, list_form, named_database}
+use Rattle.hwdb_spec.specs.Asked.{IsAnswered, IsDumped, IsFrom, IsListFrom, IsPrinted, list_form, named_database}
+use Rattle.hwdb_spec.specs.Sides.{IsSide}
 use Rattle.hwdb_spec.specs.LeftOut.{AreLeftOut, IsLeftOut, without, status_less}
 use Rattle.hwdb_spec.specs.LeftOutTold.{AreTold}
 use Rattle.hwdb_spec.specs.Readable.{IsUpdatedLess}
 use Rattle.hwdb_spec.specs.Queries.{AreAnsweredFrom, IfNamed}
 use Rattle.hwdb_spec.specs.LoneFile.{lone}
 use Rattle.hwdb_tool.specs.OneOutcome.{AnswersAreOne, IsFunction, IsOneAnswer, IsOneInput, IsOneOutcome, LeavesNothingOut, Scene, scene_of, ListingsGiveOneChoice, ListingsGiveOneReading}
+use Rattle.hwdb_tool.proofs.NamedInputLemmas.{both_given, both_named}
 use Rattle.hwdb_tool.proofs.SideLemmas.{OneSideFiles, one_side}
 use Rattle.hwdb_tool.proofs.EmptyingLemmas.{one_loss_of}
 use Rattle.hwdb_tool.proofs.StatusLemmas.{one_status_text}
@@ -264,16 +266,18 @@ module _ (tree : (bytes : List ℕ) (t u : Tree) → IsDatabase bytes t → IsDa
         one_out = tried_alike (λ (xs : List Source) (t : Tree). test_text json xs t) a.0 b.0 a.2.is.tree b.2.is.tree texts.out texts2.out same here a.2.is.is b.2.is.is;
       }
   one_answer_of (Diff old_path new_path devices json stat) = λ root strict input files status status2 texts texts2 one two.
-      let first = one.1 in
-      let second = two.1 in
+      let first = one.1.1 in
+      let second = two.1.1 in
       let same : first.0 ≡ second.0 = one_given_sources input files first.0 second.0 (first.1.named ∙ sym second.1.named) first.1.held second.1.held in
       let a = first.2 in
       let b = second.2 in
       let said : List Source → Tree → Tree → List ℕ = λ xs t u. comparison_form stat json (devices_named xs) t u in
       let changed : List Source → Tree → Tree → Bool = λ xs t u. has_changed (devices_named xs) t u in
       let same_files : OneSideFiles = λ path fs xs ys x y. sources (path ∷ []) [] [] fs xs ys x y in
-      let olds = one_side form one_choice one_reading same_files (string_bytes old_path) files b.old a.old b.held.of_old a.held.of_old in
-      let news = one_side form one_choice one_reading same_files (string_bytes new_path) files b.new a.new b.held.of_new a.held.of_new in
+      let olds = both_given (is_dash (string_bytes old_path)) (string_bytes old_path) input files (λ p fs. IsSide p fs b.old) (λ p fs. IsSide p fs a.old) (b.old ≡ a.old)
+      (λ p fs x y. one_side form one_choice one_reading same_files p fs b.old a.old x y) b.held.of_old a.held.of_old in
+      let news = both_given (is_dash (string_bytes new_path)) (string_bytes new_path) input files (λ p fs. IsSide p fs b.new) (λ p fs. IsSide p fs a.new) (b.new ≡ a.new)
+      (λ p fs x y. one_side form one_choice one_reading same_files p fs b.new a.new x y) b.held.of_new a.held.of_new in
       let x = a.is in
       let y = subst (λ (bs : List ℕ). IsDiffText (said second.0) a.old bs texts2.out) news (subst (λ (bs : List ℕ). IsDiffText (said second.0) bs b.new texts2.out) olds b.is) in
       let v = a.differs in
@@ -288,23 +292,20 @@ module _ (tree : (bytes : List ℕ) (t u : Tree) → IsDatabase bytes t → IsDa
             ∙ ap (λ (t : Tree). said second.0 t x.new_tree) (tree a.old x.old_tree y.old_tree x.old_database y.old_database)
             ∙ ap (λ (t : Tree). said second.0 y.old_tree t) (tree a.new x.new_tree y.new_tree x.new_database y.new_database) ∙ sym y.is;
       }
-  one_answer_of (Verify database) = λ root strict input files status status2 texts texts2 one two.
-      let a = one.1.1 in
-      let b = two.1.1 in
-      let y = subst (λ (bs : List ℕ). IsSummary bs texts2.out) (one_held (named_database (option_map string_bytes database) root files) b.bytes a.bytes b.named a.named) b.is in
-      record {
-        one_status = one.0 ∙ sym two.0;
-        one_err = one.1.0 ∙ sym two.1.0;
-        one_out = one_text tree _ a.bytes a.bytes texts.out texts2.out refl a.is y;
-      }
-  one_answer_of (Dump database) = λ root strict input files status status2 texts texts2 one two.
-      let a = one.1.1 in
-      let b = two.1.1 in
-      record {
-        one_status = one.0 ∙ sym two.0;
-        one_err = one.1.0 ∙ sym two.1.0;
-        one_out = one_text tree dump_text a.bytes b.bytes texts.out texts2.out (one_held (named_database (option_map string_bytes database) root files) a.bytes b.bytes a.named b.named) a.is b.is;
-      }
+  one_answer_of (Verify database) = λ root strict input files status status2 texts texts2 one two. record {
+    one_status = one.0 ∙ sym two.0;
+    one_err = one.1.0 ∙ sym two.1.0;
+    one_out = both_named (option_map string_bytes database) input files (λ g fs. IsPrinted g root IsSummary fs texts.out) (λ g fs. IsPrinted g root IsSummary fs texts2.out) (texts.out ≡ texts2.out)
+        (λ g fs a b.
+        let y = subst (λ (bs : List ℕ). IsSummary bs texts2.out) (one_held (named_database g root fs) b.bytes a.bytes b.named a.named) b.is in
+        one_text tree _ a.bytes a.bytes texts.out texts2.out refl a.is y) one.1.1 two.1.1;
+  }
+  one_answer_of (Dump database) = λ root strict input files status status2 texts texts2 one two. record {
+    one_status = one.0 ∙ sym two.0;
+    one_err = one.1.0 ∙ sym two.1.0;
+    one_out = both_named (option_map string_bytes database) input files (λ g fs. IsDumped g root fs texts.out) (λ g fs. IsDumped g root fs texts2.out) (texts.out ≡ texts2.out)
+        (λ g fs a b. one_text tree dump_text a.bytes b.bytes texts.out texts2.out (one_held (named_database g root fs) a.bytes b.bytes a.named b.named) a.is b.is) one.1.1 two.1.1;
+  }
   one_answer_of (Status json quiet) = λ root strict input files status status2 texts texts2 one two.
       let same = one_status_text tree form one_reading root json quiet files texts.out texts2.out status status2 one.1 two.1 in
       record { one_status = same.1; one_err = one.0 ∙ sym two.0; one_out = same.0 }

@@ -1,5 +1,5 @@
 -- What the steps of a task hold.
-use Rattle.std.specs.Prelude.{◌≡◌, ℕ, Bool, true, false, List, Option, Some, map, string_bytes}
+use Rattle.std.specs.Prelude.{◌≡◌, ℕ, Bool, true, false, List, None, Option, Some, codes, map, string_bytes}
 use Rattle.hwdb_spec.specs.Given.{is_dash}
 use Rattle.hwdb_spec.specs.Folders.{Source}
 use Rattle.hwdb_spec.specs.Explanations.{explain_text}
@@ -14,6 +14,12 @@ use Rattle.hwdb_spec.specs.Program.{IsTaskDone, root_of}
 use Rattle.hwdb_spec.specs.Runs.{World}
 use Rattle.hwdb_spec.specs.Selected.{AreSelected}
 use Rattle.hwdb_spec.specs.TaskRefusals.{IsNotDone}
+use Rattle.hwdb_spec.specs.Told.{Stop, unread_stop}
+use Rattle.hwdb_spec.specs.Told.Stop.{Over, Plain}
+use Rattle.hwdb_spec.specs.declared.causes.Cause.{Cause}
+use Rattle.hwdb_spec.specs.declared.errors.ToolError.{ToolError}
+use Rattle.hwdb_spec.specs.declared.errors.ToolError.TheVariants.{Read, TooLong}
+use Rattle.hwdb_spec.specs.declared.unread.Unread.TheVariants.{Failed}
 use Rattle.hwdb_spec.specs.declared.job.Job.{Job}
 use Rattle.hwdb_spec.specs.declared.refusals.Refusal.{Refusal}
 use Rattle.hwdb_fs.specs.declared.folders.Selection.{Selection}
@@ -64,3 +70,9 @@ pub record IsAskedFile (root : List ℕ) (contents : Contents) (path : List ℕ)
   pub bytes : List ℕ
   pub there : bytes_at contents path ≡ Some bytes
   pub asked : asked_database root contents ≡ Some bytes
+
+-- why standard input isn't read, by the error of the call and its cause
+abbrev pub input_stop : ToolError → Option Cause → Stop
+input_stop Read cause = unread_stop (codes "standard input") (Failed cause)
+input_stop TooLong cause = Over TooLong (codes "standard input") None
+input_stop error cause = Plain error

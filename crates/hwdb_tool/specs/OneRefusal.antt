@@ -227,14 +227,16 @@ NamesFile (Test files database json) contents path = Contains (map string_bytes 
 NamesFile (Diff old new devices json stat) contents path = IsOfDiffed (map string_bytes devices.items) (string_bytes old) (string_bytes new) path
 NamesFile task contents path = ⊥
 
--- the task reads text files that its words name
-abbrev pub ReadsTexts : Task → Type 0
-ReadsTexts (Ask file device) = Unit {0}
-ReadsTexts (Check files allowed json) = Unit {0}
-ReadsTexts (Near files device limit json) = Unit {0}
-ReadsTexts (Test files database json) = Unit {0}
-ReadsTexts (Diff old new devices json stat) = Unit {0}
-ReadsTexts task = ⊥
+-- the task reads files as a whole that its words name: text files, files of devices or databases
+abbrev pub ReadsFiles : Task → Type 0
+ReadsFiles (Ask file device) = Unit {0}
+ReadsFiles (Check files allowed json) = Unit {0}
+ReadsFiles (Near files device limit json) = Unit {0}
+ReadsFiles (Test files database json) = Unit {0}
+ReadsFiles (Diff old new devices json stat) = Unit {0}
+ReadsFiles (Verify database) = Unit {0}
+ReadsFiles (Dump database) = Unit {0}
+ReadsFiles task = ⊥
 
 -- If a task reads standard input, it says that this can't be read only if a call of it failed. A text file may have that name, too.
 abbrev pub InputIsRead : (fails fails_now : (path : List ℕ) → Type 0) (left left_now : Outcomes) → Type 0
@@ -243,10 +245,10 @@ InputIsRead fails fails_now left left_now = (task : Task) (root : List ℕ) (usr
     → IsNotDone task root usr strict (scene_of fails left before) (scene_of fails_now left_now now) refusal
     → HasFailed before.input.failures now.input.failures ⊎ NamesFile task before.files (codes "standard input")
 
--- And a task that reads text files says that this is too long only if it has too many bytes and tells them.
+-- And a task that reads files as a whole says that this is too long only if it has too many bytes and tells them.
 abbrev pub InputIsLong : (fails fails_now : (path : List ℕ) → Type 0) (left left_now : Outcomes) → Type 0
 InputIsLong fails fails_now left left_now = (task : Task) (root : List ℕ) (usr strict : Bool) (refusal : Refusal) (before now : Scene)
-    → ReadsTexts task → reads_input task ≡ true → IsOver TooLong (codes "standard input") refusal
+    → ReadsFiles task → reads_input task ≡ true → IsOver TooLong (codes "standard input") refusal
     → IsNotDone task root usr strict (scene_of fails left before) (scene_of fails_now left_now now) refusal
     → IfSome before.input.bytes (λ told. max_file < length told) ⊎ NamesFile task before.files (codes "standard input")
 

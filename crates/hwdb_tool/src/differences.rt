@@ -1,20 +1,23 @@
 //! `diff`: two sides that are read and compared, in all that they assign, or in what the devices of files get.
-ghost use Rattle.std.specs.Prelude.{◌≡◌, ◌≤◌, ◌++◌, None, Some, false, flat_map, if◌then◌else◌, map, string_bytes, IfOk, IfErr, OnOk};
+ghost use Rattle.std.specs.Prelude.{◌≡◌, ◌≤◌, ◌++◌, ◌∷◌, None, Some, false, flat_map, if◌then◌else◌, map, string_bytes, IfOk, IfErr, OnOk};
 ghost use Rattle.hwdb_lint.specs.Checks.{source_of};
 ghost use Rattle.hwdb_spec.specs.Comparisons.{comparison_form, devices_named, has_changed};
 ghost use Rattle.hwdb_spec.specs.Databases.{IsDiffText, IsDifferent};
 ghost use Rattle.hwdb_spec.specs.DiffErrors.{IsDiffRefusal};
 ghost use Rattle.hwdb_spec.specs.Folders as folders;
-ghost use Rattle.hwdb_spec.specs.Given.{any_dash};
+ghost use Rattle.hwdb_spec.specs.Given.{any_dash, is_dash};
+ghost use Rattle.hwdb_spec.specs.GivenDatabases.{names_twice, twice_text};
+ghost use Rattle.hwdb_spec.specs.Refusals.{IsInWords};
+ghost use Rattle.hwdb_spec.specs.Undone.{told_path};
 ghost use Rattle.hwdb_spec.specs.Runs.{OnOut};
 ghost use Rattle.hwdb_spec.specs.ComparedDatabases.{HasDiffReason, IsCompared, IsDiffed, IsDiffRefused, IsOfDiff};
 ghost use Rattle.hwdb_spec.specs.Texts.{devices_of};
-ghost use Rattle.hwdb_tool.specs.SideSteps.{IsPairError};
+ghost use Rattle.hwdb_tool.specs.SideSteps.{IsOneDash, IsPairError};
 ghost use Rattle.hwdb_tool.specs.Views.{texts_in};
 
 use crate::answer::Answer;
 use crate::checks::{read_given, with_paths};
-use crate::given::input_text;
+use crate::given::{INPUT, any_dash, input_text, is_dash};
 use crate::sides::side;
 use hwdb_fs::{Refusal, TextsBelow};
 use hwdb_inspect::{Changes, DiffError, diff_devices, stat, stat_devices};
@@ -24,11 +27,17 @@ use hwdb_print::ToolError;
 use hwdb_text::Lines;
 use std::alloc::{AllocError, Global};
 
+/// What is said if standard input would be read twice.
+const TWICE: &str =
+    "only one of OLD, NEW and --devices FILE may be -: standard input is read once";
+
 /// What changed from the side at one path to that at another, as text or JSON. For the devices of the given files, a line each, it is
 /// what changed in what each of them gets; without a file it is each pattern and key for which the two differ. `-` is what `input` has
-/// left. If `stat` it is how many assignments came, went and changed. The status is 1 if something changed, else 0.
+/// left, of a file or of one side. If `stat` it is how many assignments came, went and changed. The status is 1 if something changed,
+/// else 0.
 ///
 /// All files of devices are read first, in their order, and then the old side and the new one: the error is the first that comes so.
+/// Before them it is an error if both sides are `-`, or one of them and a file.
 pub fn diff<D: TextsBelow, I: Source>(
     alloc: Global,
     old_path: &str,
@@ -44,19 +53,41 @@ pub fn diff<D: TextsBelow, I: Source>(
         (D.Store.seen system.now) text a.status) (texts_in a)) }
     ensures refused { D.Store.tells → IfErr result (IsDiffRefused (map string_bytes given.now)
         old_path.now new_path.now (I.left input.old) (D.Store.seen system.now)) }
-    ensures unread { any_dash (map string_bytes given.now) ≡ false → input.new ≡ input.old }
+    ensures unread { any_dash (old_path.now ∷ new_path.now ∷ map string_bytes given.now) ≡ false
+        → input.new ≡ input.old }
     ensures reason { D.Store.tells → IfErr result (HasDiffReason (map string_bytes given.now)
         old_path.now new_path.now (D.System.may_fail system.now) (D.Store.seen system.now)
         (I.left input.old) (I.failures input.old) (I.failures input.new)) }
 {
+    if names_twice(given, old_path, new_path) {
+        return Err(refused_twice(alloc));
+    }
     let text = input_text(alloc, given, input)?;
     let texts = read_given(alloc, given, given, &text, system)?;
     let files = with_paths(alloc, given, &texts)?;
-    compared(alloc, old_path, new_path, stat, json, &files, system)
+    compared(alloc, old_path, new_path, stat, json, &files, system, input)
+}
+
+/// Whether standard input would be read twice: as both sides, or as one of them and a file of devices.
+fn names_twice(given: &[String], old_path: &str, new_path: &str) -> bool
+    ensures { result ≡ names_twice (map string_bytes given.now) old_path.now new_path.now }
+{
+    let (of_old, of_new) = (is_dash(old_path), is_dash(new_path));
+    (of_old && of_new) || ((of_old || of_new) && any_dash(given))
+}
+
+/// The error of that.
+fn refused_twice(alloc: Global) -> Refusal
+    ensures { IsInWords twice_text result }
+{
+    match Vec::from_slice(alloc, TWICE.as_bytes()) {
+        Ok(text) => Refusal::InWords(text),
+        Err(refused) => Refusal::from(refused),
+    }
 }
 
 /// The same of files that were read.
-fn compared<D: TextsBelow>(
+fn compared<D: TextsBelow, I: Source>(
     alloc: Global,
     old_path: &str,
     new_path: &str,
@@ -64,16 +95,22 @@ fn compared<D: TextsBelow>(
     json: bool,
     files: &[TextFile<'_>],
     system: &D,
+    input: &mut I,
 ) -> Result<Answer, Refusal>
-    ensures compared { D.Store.tells → IfOk result (λ a. OnOut (λ text. IsCompared
+    ensures compared { D.Store.tells → IsOneDash old_path.now new_path.now
+        → IfOk result (λ a. OnOut (λ text. IsCompared
         (comparison_form stat json (devices_named (map source_of files.now)))
-        (has_changed (devices_named (map source_of files.now)))
-        old_path.now new_path.now (D.Store.seen system.now) text a.status) (texts_in a)) }
-    ensures refused { D.Store.tells → IfErr result (IsPairError
-        (D.System.may_fail system.now) (D.Store.seen system.now) old_path.now new_path.now) }
+        (has_changed (devices_named (map source_of files.now))) old_path.now new_path.now
+        (I.left input.old) (D.Store.seen system.now) text a.status) (texts_in a)) }
+    ensures refused { D.Store.tells → IsOneDash old_path.now new_path.now
+        → IfErr result (IsPairError (D.System.may_fail system.now) (D.Store.seen system.now)
+        (I.left input.old) (I.failures input.old) (I.failures input.new)
+        old_path.now new_path.now) }
+    ensures unread { is_dash old_path.now ≡ false → is_dash new_path.now ≡ false
+        → input.new ≡ input.old }
 {
-    let old = side(alloc, old_path, system)?;
-    let new = side(alloc, new_path, system)?;
+    let old = side(alloc, old_path, system, input)?;
+    let new = side(alloc, new_path, system, input)?;
     match changes_of(alloc, stat, json, files, &old, &new) {
         Ok(changes) => Ok(Answer::new(alloc, changes.text, status_of(changes.differ))),
         Err(error) => Err(refusal_of(alloc, error, old_path, new_path)),
@@ -178,26 +215,25 @@ fn status_of(differ: bool) -> u8
     if differ { 1 } else { 0 }
 }
 
+/// How errors call the side at a path.
+fn told_path(path: &str) -> &str
+    ensures { result.now ≡ told_path path.now }
+{
+    if is_dash(path) { INPUT } else { path }
+}
+
 /// The error if the databases of these sides can't be compared.
 fn refusal_of(alloc: Global, error: DiffError, old_path: &str, new_path: &str) -> Refusal
     ensures { IsOfDiff error old_path.now new_path.now result }
 {
     match error {
         DiffError::Old(fault) => {
-            Refusal::at(
-                alloc,
-                ToolError::BadDatabase(fault),
-                old_path.as_bytes(),
-                None,
-            )
+            let path = told_path(old_path).as_bytes();
+            Refusal::at(alloc, ToolError::BadDatabase(fault), path, None)
         }
         DiffError::New(fault) => {
-            Refusal::at(
-                alloc,
-                ToolError::BadDatabase(fault),
-                new_path.as_bytes(),
-                None,
-            )
+            let path = told_path(new_path).as_bytes();
+            Refusal::at(alloc, ToolError::BadDatabase(fault), path, None)
         }
         DiffError::Memory => Refusal::from(ToolError::Memory),
     }

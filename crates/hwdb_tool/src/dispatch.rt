@@ -338,10 +338,14 @@ pub fn run<D: Machine, I: Source, O: Sink, E: Sink>(
             printed(status(alloc, root, *json, *quiet, system), out, err)
         }
         Task::Verify { database } => {
-            printed(verify(alloc, root, text_of(database), system), out, err)
+            let given = text_of(database);
+            let answer = verify(alloc, root, given, system, input);
+            printed(answer, out, err)
         }
         Task::Dump { database } => {
-            printed(dump(alloc, root, text_of(database), system), out, err)
+            let given = text_of(database);
+            let answer = dump(alloc, root, given, system, input);
+            printed(answer, out, err)
         }
     }
 }

@@ -1,30 +1,93 @@
 //! `dump`: a database that is read and printed as a text file.
-ghost use Rattle.std.specs.Prelude.{◌≡◌, is_some, option_map, IfOk, IfErr};
+ghost use Rattle.std.specs.Prelude.{◌≡◌, ℕ, [], false, true, List, Some, is_some, option_map, IfOk, IfErr};
+ghost use Rattle.hwdb_spec.specs.Databases.{IsSayable, IsTextOf};
+ghost use Rattle.hwdb_spec.specs.Dump.{dump_text};
+ghost use Rattle.hwdb_spec.specs.DumpErrors.{IsDumpRefusal};
 ghost use Rattle.hwdb_spec.specs.Refusals.{HasReason, IsInWords};
+ghost use Rattle.hwdb_spec.specs.GivenDatabases.{HasDatabaseReason, OfGiven, OfNamed, names_input};
+ghost use Rattle.hwdb_spec.specs.Reasons.{HasGivenReason};
 ghost use Rattle.hwdb_spec.specs.NamedDatabases.{IsDumpRefused, IsOfDump};
 ghost use Rattle.hwdb_tool.specs.Views.{end_of, texts_in};
-ghost use Rattle.hwdb_spec.specs.Told.{IsStop};
+ghost use Rattle.hwdb_spec.specs.Store.{Contents};
+ghost use Rattle.hwdb_spec.specs.Told.{IsStop, Reads};
 ghost use Rattle.hwdb_spec.specs.Told.Stop.{Says};
-ghost use Rattle.hwdb_plan.specs.Dump.{dump_plan, dump_stop};
+ghost use Rattle.hwdb_plan.specs.Dump.{dump_plan, dump_stop, text_form};
+ghost use Rattle.hwdb_plan.specs.Input.{OverInput, OverNamed};
 ghost use Rattle.hwdb_plan.specs.Plans.{Follows};
 ghost use Rattle.hwdb_spec.specs.Asked.{IsDumped, unsayable_text};
 ghost use Rattle.hwdb_spec.specs.Runs.{OnOut};
 ghost use Rattle.hwdb_spec.specs.Undone.{IsUnreadableIf};
+ghost use Rattle.hwdb_spec.specs.declared.errors.DumpError.{DumpError};
 
 use crate::answer::Answer;
 use crate::databases::named;
+use crate::given::{INPUT, names_input, read_input};
 use hwdb_fs::{Refusal, System};
 use hwdb_inspect::DumpError;
+use hwdb_io::Source;
 use hwdb_lint::push_shown;
 use hwdb_print::ToolError;
 use hwdb_reader::law_one_tree;
 use hwdb_show::push_name;
 use std::alloc::{AllocError, Global};
 
-/// The database at the path, or if none is given the one that is asked, as a text file. Refuses bytes that are no
-/// database, and one with an assignment that no text file can say.
+/// The database at the path, or if none is given the one that is asked, as a text file. `-` is what `input` has left. Refuses bytes
+/// that are no database, and one with an assignment that no text file can say.
+pub fn dump<D: System, I: Source>(
+    alloc: Global,
+    root: &str,
+    given: Option<&str>,
+    system: &D,
+    input: &mut I,
+) -> Result<Answer, Refusal>
+    ensures status { IfOk result (λ a. a.status ≡ 0) }
+    ensures follows { D.Store.tells → OverNamed (option_map (λ t. t.now) given.entry)
+        (I.left input.old) (I.failures input.old) (I.failures input.new)
+        (D.System.reads system.now)
+        (λ given reads. Follows end_of reads (dump_plan given root.now) result) }
+    ensures unread { names_input (option_map (λ t. t.now) given.entry) ≡ false
+        → input.new ≡ input.old }
+    ensures dumped { D.Store.tells → IfOk result (λ a. OnOut
+        (λ text. OfNamed (option_map (λ t. t.now) given.entry) (I.left input.old)
+        (D.Store.seen system.now) (λ given seen. IsDumped given root.now seen text))
+        (texts_in a)) }
+    ensures refused { D.Store.tells → IfErr result
+        (λ r. OfNamed (option_map (λ t. t.now) given.entry) (I.left input.old)
+        (D.Store.seen system.now) (λ given seen. IsDumpRefused given root.now seen r)) }
+    ensures reason { IfErr result (HasDatabaseReason (option_map (λ t. t.now) given.entry)
+        (D.System.may_fail system.now) (D.Store.seen system.now)
+        (I.left input.old) (I.failures input.old) (I.failures input.new)) }
+{
+    if names_input(given) {
+        dump_input(alloc, input)
+    } else {
+        dump_stored(alloc, root, given, system)
+    }
+}
+
+/// The same of what `input` has left.
+fn dump_input<I: Source>(alloc: Global, input: &mut I) -> Result<Answer, Refusal>
+    ensures status { IfOk result (λ a. a.status ≡ 0) }
+    ensures follows { (root : List ℕ) (reads : Reads) → OverInput
+        (I.left input.old) (I.failures input.old) (I.failures input.new) reads
+        (λ path reads. Follows end_of reads (dump_plan (Some path) root) result) }
+    ensures dumped { (root : List ℕ) (seen : Contents) → IfOk result (λ a. OnOut
+        (λ text. OfGiven true [] (I.left input.old) seen
+        (λ path seen. IsDumped (Some path) root seen text)) (texts_in a)) }
+    ensures refused { (root : List ℕ) (seen : Contents) → IfErr result
+        (λ r. OfGiven true [] (I.left input.old) seen
+        (λ path seen. IsDumpRefused (Some path) root seen r)) }
+    ensures reason { (fails : (path : List ℕ) → Type 0) (seen : Contents) → IfErr result
+        (HasGivenReason true fails seen
+        (I.left input.old) (I.failures input.old) (I.failures input.new)) }
+{
+    let bytes = read_input(alloc, input)?;
+    texted(alloc, INPUT.as_bytes(), &bytes)
+}
+
+/// The same of the database at the path, or if none is given of the one that is asked.
 #[tactic(auto, using(hwdb_plan::specs::Lemmas::Steps::stopped))]
-pub fn dump<D: System>(
+fn dump_stored<D: System>(
     alloc: Global,
     root: &str,
     given: Option<&str>,
@@ -43,11 +106,23 @@ pub fn dump<D: System>(
         (IsUnreadableIf (is_some (option_map (λ t. t.now) given.entry))
         (D.System.may_fail system.now) (D.Store.seen system.now)) ⊥ (D.Store.seen system.now)) }
 {
-    law_one_tree();
     let found = named(alloc, root, given, system)?;
-    match hwdb_inspect::dump(alloc, &found.bytes) {
+    texted(alloc, found.path.as_bytes(), &found.bytes)
+}
+
+/// The same of the bytes at a path.
+fn texted(alloc: Global, path: &[u8], bytes: &[u8]) -> Result<Answer, Refusal>
+    ensures status { IfOk result (λ a. a.status ≡ 0) }
+    ensures follows { (reads : Reads) → Follows end_of reads (text_form path.now bytes.now) result }
+    ensures texted { IfOk result (λ a. OnOut (IsTextOf dump_text bytes.now) (texts_in a)) }
+    ensures sayable { IfOk result (λ _. IsSayable bytes.now) }
+    ensures refused { IfErr result (λ r. (error : DumpError)
+        × IsOfDump error path.now r × IsDumpRefusal bytes.now error) }
+{
+    law_one_tree();
+    match hwdb_inspect::dump(alloc, bytes) {
         Ok(text) => Ok(Answer::new(alloc, text, 0)),
-        Err(error) => Err(refusal_of(alloc, error, found.path.as_bytes())),
+        Err(error) => Err(refusal_of(alloc, error, path)),
     }
 }
 

@@ -1,9 +1,14 @@
 //! The files that words name: `-` is standard input, which is read once.
-ghost use Rattle.std.specs.Prelude.{◌≡◌, ◌≤◌, ◌⊎◌, Some, true, false, codes, map, string_bytes, length, IfOk, IfErr, IfSome};
+ghost use Rattle.std.specs.Prelude.{◌≡◌, ◌≤◌, ◌⊎◌, ℕ, List, Result, Some, true, false, codes, map, option_map, string_bytes, length, IfOk, IfErr, IfSome};
 ghost use Rattle.hwdb_spec.specs.Given.{IsGiven, is_dash, any_dash};
 ghost use Rattle.hwdb_spec.specs.System.{bytes_at};
-ghost use Rattle.hwdb_spec.specs.Refusals.{HasReason, IsUnread, IsUnreadAt, IsUnreadable};
-ghost use Rattle.hwdb_tool.specs.Internal.{bytes_given};
+ghost use Rattle.hwdb_spec.specs.GivenDatabases.{names_input};
+ghost use Rattle.hwdb_spec.specs.Refusals.{HasReason, IsAt, IsUnread, IsUnreadAt, IsUnreadable};
+ghost use Rattle.hwdb_spec.specs.Told.{IsReadTo, IsStop, unread_stop};
+ghost use Rattle.hwdb_spec.specs.declared.unread.Unread.{Unread};
+ghost use Rattle.hwdb_spec.specs.declared.unread.Unread.TheVariants.{Failed};
+ghost use Rattle.hwdb_plan.specs.Input.{IsInputTold};
+ghost use Rattle.hwdb_tool.specs.Internal.{bytes_given, input_stop};
 ghost use Rattle.hwdb_spec.specs.Queries.{IsOfWholeInput, IsWholeInputUnread};
 ghost use Rattle.hwdb_spec.specs.Reasons.{HasGivenReason};
 ghost use Rattle.hwdb_spec.specs.Texts.{max_file};
@@ -15,6 +20,9 @@ use hwdb_io::{Cause, MAX_BYTES, Source, read_all};
 use hwdb_print::ToolError;
 use std::alloc::Global;
 
+/// How errors call standard input.
+pub const INPUT: &str = "standard input";
+
 /// Whether a word stands for standard input.
 pub fn is_dash(path: &str) -> bool
     ensures { result ≡ is_dash path.now }
@@ -22,8 +30,18 @@ pub fn is_dash(path: &str) -> bool
     path == "-"
 }
 
+/// Whether the path of a database, if one is given, does.
+pub fn names_input(given: Option<&str>) -> bool
+    ensures { result ≡ names_input (option_map (λ t. t.now) given.entry) }
+{
+    match given {
+        Some(path) => is_dash(path),
+        None => false,
+    }
+}
+
 /// Whether one of the paths does.
-fn any_dash(given: &[String]) -> bool
+pub fn any_dash(given: &[String]) -> bool
     ensures { result ≡ any_dash (map string_bytes given.now) }
 {
     for path in given {
@@ -36,17 +54,32 @@ fn any_dash(given: &[String]) -> bool
 
 /// What is refused where standard input can't be read.
 fn refusal_of(alloc: Global, error: ToolError, cause: Option<Cause>) -> Refusal
-    ensures { IsOfWholeInput error result }
+    ensures is { IsOfWholeInput error result }
+    ensures stops { IsStop (input_stop error cause.entry) result }
 {
     match error {
-        ToolError::Read => Refusal::at(alloc, error, b"standard input", cause),
-        ToolError::TooLong => Refusal::at(alloc, error, b"standard input", None),
+        ToolError::Read => read_refusal(alloc, cause),
+        ToolError::TooLong => Refusal::of_cause(alloc, error, INPUT.as_bytes(), None),
         error => Refusal::from(error),
     }
 }
 
+/// The same of a call of it that failed.
+fn read_refusal(alloc: Global, cause: Option<Cause>) -> Refusal
+    ensures is { IsAt ToolError.Read (codes "standard input") result }
+    ensures stops { IsStop (unread_stop (codes "standard input") (Failed cause.entry)) result }
+{
+    match cause {
+        Some(Cause::Memory) => Refusal::from(ToolError::Memory),
+        cause => Refusal::of_cause(alloc, ToolError::Read, INPUT.as_bytes(), cause),
+    }
+}
+
 /// All that standard input has left.
-fn read_input<I: Source>(alloc: Global, input: &mut I) -> Result<Vec<u8>, Refusal>
+pub fn read_input<I: Source>(alloc: Global, input: &mut I) -> Result<Vec<u8>, Refusal>
+    ensures told { (answer : Result (List ℕ) Unread) × IsInputTold
+        (I.left input.old) (I.failures input.old) (I.failures input.new) answer
+        × IsReadTo (λ v. v.items) answer (codes "standard input") result }
     ensures whole { IfOk result
         (λ text. IfSome (I.left input.old) (λ told. text.items ≡ told)) }
     ensures within { IfOk result (λ text. length text.items ≤ max_file) }

@@ -4,7 +4,8 @@ ghost use Rattle.hwdb_compile.specs.Views as compiled;
 ghost use Rattle.hwdb_compile.specs.Views.{sources};
 ghost use Rattle.hwdb_lint.specs.Checks.{source_of};
 ghost use Rattle.hwdb_spec.specs.CheckedFiles.{StandFor, folder_of, is_file};
-ghost use Rattle.hwdb_spec.specs.Folders.{Source};
+ghost use Rattle.hwdb_spec.specs.ComparedDatabases.{IsSideGiven};
+ghost use Rattle.hwdb_spec.specs.Folders as folders;
 ghost use Rattle.hwdb_spec.specs.Given.{is_dash};
 ghost use Rattle.hwdb_spec.specs.Lines.{has};
 ghost use Rattle.hwdb_spec.specs.Refusals.{HasReason, IsInWords, IsUnreadAt, IsUnreadable};
@@ -19,16 +20,16 @@ ghost use Rattle.hwdb_spec.specs.declared.errors.ToolError.{ToolError};
 ghost use Rattle.hwdb_spec.specs.declared.refusals.Refusal.TheVariants.{Plain};
 ghost use Rattle.hwdb_text.specs.Views.{IsStorableChoice, choice_of};
 ghost use Rattle.hwdb_tool.specs.Internal.{IsOfSelection};
-ghost use Rattle.hwdb_tool.specs.SideSteps.{AreTextsError, IsFolderOf, IsSideError};
+ghost use Rattle.hwdb_tool.specs.SideSteps.{AreTextsError, IsFolderOf, IsGivenSideError, IsSideError};
 ghost use Rattle.hwdb_tool.specs.Statuses.{AreMadeOf};
 
 use crate::checks::{read_given, with_paths};
-use crate::given::is_dash;
+use crate::given::{is_dash, read_input};
 use crate::given_folders::{alone, files_in, folder_of};
 use crate::statuses::compiled;
 use hwdb_compile::{SourceFile, compile};
 use hwdb_fs::{Refusal, Selection, System, TextsBelow, with_texts};
-use hwdb_io::MAX_BYTES;
+use hwdb_io::{MAX_BYTES, Source};
 use hwdb_lint::TextFile;
 use hwdb_print::ToolError;
 use hwdb_show::push_name;
@@ -267,7 +268,7 @@ fn root_bytes(alloc: Global, selection: &Selection) -> Result<Vec<u8>, Refusal>
     requires storable { All IsStorableChoice (map choice_of selection.now.chosen.items) }
     ensures made { (root : List ℕ) (contents : Contents)
         → IsOfSelection root contents selection.now
-        → IfOk result (λ bytes. (of_etc of_usr : List Source)
+        → IfOk result (λ bytes. (of_etc of_usr : List folders.Source)
         × IsMade root contents of_etc of_usr bytes.items) }
     ensures refused { (root : List ℕ) (contents : Contents)
         → IsOfSelection root contents selection.now
@@ -323,17 +324,24 @@ fn plain_side<D: TextsBelow>(alloc: Global, path: &str, system: &D) -> Result<Ve
 }
 
 /// The bytes of a side of `diff`: those of a database, or those that `update` would write of a text file, of the text files of a
-/// folder, or of those of a root. A file is a text file if its name is one of a text file; the file `-` is a database.
+/// folder, or of those of a root. A file is a text file if its name is one of a text file. `-` is the database that `input` has left.
 ///
 /// Errors are, in this order: a folder can't be listed, a file can't be read, and text files can't be compiled.
-pub fn side<D: TextsBelow>(alloc: Global, path: &str, system: &D) -> Result<Vec<u8>, Refusal>
-    ensures side { D.Store.tells
-        → IfOk result (λ bytes. IsSide path.now (D.Store.seen system.now) bytes.items) }
-    ensures refused { D.Store.tells → IfErr result
-        (IsSideError (D.System.may_fail system.now) (D.Store.seen system.now) path.now) }
+pub fn side<D: TextsBelow, I: Source>(
+    alloc: Global,
+    path: &str,
+    system: &D,
+    input: &mut I,
+) -> Result<Vec<u8>, Refusal>
+    ensures side { D.Store.tells → IfOk result (λ bytes. IsSideGiven path.now
+        (I.left input.old) (D.Store.seen system.now) bytes.items) }
+    ensures refused { D.Store.tells → IfErr result (IsGivenSideError
+        (D.System.may_fail system.now) (D.Store.seen system.now)
+        (I.left input.old) (I.failures input.old) (I.failures input.new) path.now) }
+    ensures unread { is_dash path.now ≡ false → input.new ≡ input.old }
 {
     if is_dash(path) {
-        file_at(alloc, path, system)
+        read_input(alloc, input)
     } else {
         plain_side(alloc, path, system)
     }

@@ -1,7 +1,10 @@
 use Rattle.std.proofs.Common.{◌≡◌, ◌⊎◌, ap, inl, inr, ⊎_elim, refl, string_bytes, subst, sym, ◌==◌, length, map, not, IfOk, IfErr}
 use Rattle.std.specs.Prelude.{option_map}
-use Rattle.hwdb_spec.specs.declared.job.Task.TheVariants.{Ask, Check, Device, Diff, Near, Status, Test, Update}
-use Rattle.hwdb_spec.specs.Asked.{IsAnswered, IsListFrom}
+use Rattle.hwdb_spec.specs.declared.job.Task.TheVariants.{Ask, Check, Device, Diff, Dump, Near, Status, Test, Update, Verify}
+use Rattle.hwdb_spec.specs.Asked.{IsAnswered, IsDumped, IsListFrom, IsPrinted}
+use Rattle.hwdb_spec.specs.Databases.{IsSummary}
+use Rattle.hwdb_spec.specs.GivenDatabases.{HasDatabaseReason, OfNamed}
+use Rattle.hwdb_spec.specs.NamedDatabases.{IsDumpRefused, IsVerifyRefused}
 use Rattle.hwdb_spec.specs.CheckedFiles.{AreCheckedFiles, IsChecked}
 use Rattle.hwdb_spec.specs.Done.{IsAsked, IsLeftByUpdateLess, OldOrUpdatedLess}
 use Rattle.hwdb_spec.specs.Given.{is_dash}
@@ -26,6 +29,7 @@ use Rattle.hwdb_tool.specs.Views.{texts_in}
 use Rattle.hwdb_tool.proofs.MomentLemmas.{leaves_more}
 use Rattle.hwdb_tool.proofs.ErrorLemmas.{both_errors, both_values}
 use Rattle.hwdb_tool.proofs.GivenLemmas.{checked_write, write_reason}
+use Rattle.hwdb_tool.proofs.NamedInputLemmas.{write_named}
 use Rattle.hwdb_tool.proofs.PrintingLemmas.{any_reason, listed_done, printed_done, printed_refused, refused_or_printed}
 use Rattle.hwdb_tool.proofs.dispatch.run.Goals as goal
 use Rattle.hwdb_spec.specs.Lemmas.Calls.{each_error, each_value}
@@ -318,6 +322,132 @@ returns-in-Test-clause-refused g c = λ tells.
     (subst (λ d. IfErr answer (HasTestReason given d root fails seen input n m)) of_path
     (subst (λ l. IfErr answer (HasTestReason (map string_bytes l) database root fails seen input n m)) items (c.test-answer.ensures.reason tells))))
     (inl refl) c.printed-in-Test.ensures.refused))
+
+pub returns-in-Verify-clause-done : goal.returns-in-Verify-clause-done
+returns-in-Verify-clause-done g c = λ tells.
+    let job = c.args.job.now in
+    let F = files_by g.D.Store.seen g.D.System.may_fail g.D.Store.may_leave g.D.Store.failures in
+    let V = sight_by g.D.DeviceFiles.answers in
+    let I = told_by g.I.Source.left g.I.Source.failures in
+    let O = told_by g.O.Sink.taken g.O.Sink.failures in
+    let E = told_by g.E.Sink.taken g.E.Sink.failures in
+    let seen = g.D.Store.seen c.args.system.now in
+    let before : World = record { files = F c.args.system.now; input = I c.args.input.now; out = O c.args.out.now; err = E c.args.err.now; devices = V c.args.system.now } in
+    let now : World = record { files = F c.args.system.now; input = I c.verify-answer.new.input; out = O c.printed-in-Verify.new.out; err = E c.printed-in-Verify.new.err; devices = V c.args.system.now } in
+    let fails = before.files.fails in
+    let input = before.input.bytes in
+    let n = before.input.failures in
+    let m = now.input.failures in
+    let task = Verify c.in-Verify.database in
+    let root = c.root_of-root.result.now in
+    let of_root = c.root_of-root.ensures in
+    let given = option_map string_bytes c.in-Verify.database in
+    let path = option_map (λ t. t.now) c.text_of-given.result in
+    let of_given = c.text_of-given.ensures in
+    let answer = c.verify-answer.result in
+    let is = both_values _ _ (λ a. (a.status ≡ 0) × OnOut (λ text. OfNamed given input seen (λ g f. IsPrinted g (root_of job) IsSummary f text)) (texts_in a)) answer (λ a zero p. (zero, p)) c.verify-answer.ensures.status
+    (subst (λ r. IfOk answer (λ a. OnOut (λ text. OfNamed given input seen (λ g f. IsPrinted g r IsSummary f text)) (texts_in a))) of_root
+    (subst (λ d. IfOk answer (λ a. OnOut (λ text. OfNamed d input seen (λ g f. IsPrinted g root IsSummary f text)) (texts_in a))) of_given (c.verify-answer.ensures.verified tells))) in
+    subst (λ t. IfOk c.printed-in-Verify.result (λ s. IsTaskDone t (root_of job) job.usr job.strict s before now)) (sym c.in-Verify.is)
+    (each_value _ (λ s. IsTaskDone task (root_of job) job.usr job.strict s before now) c.printed-in-Verify.result (λ s done. (done, tt, record { same = λ p. refl; no_more = λ p v l. l }))
+    (printed_done answer c.printed-in-Verify.result (λ s t. IsAnswerOf task (root_of job) job.strict input seen s t) before.err now.err before.out now.out is c.printed-in-Verify.ensures.done))
+
+pub returns-in-Verify-clause-refused : goal.returns-in-Verify-clause-refused
+returns-in-Verify-clause-refused g c = λ tells.
+    let job = c.args.job.now in
+    let F = files_by g.D.Store.seen g.D.System.may_fail g.D.Store.may_leave g.D.Store.failures in
+    let V = sight_by g.D.DeviceFiles.answers in
+    let I = told_by g.I.Source.left g.I.Source.failures in
+    let O = told_by g.O.Sink.taken g.O.Sink.failures in
+    let E = told_by g.E.Sink.taken g.E.Sink.failures in
+    let seen = g.D.Store.seen c.args.system.now in
+    let before : World = record { files = F c.args.system.now; input = I c.args.input.now; out = O c.args.out.now; err = E c.args.err.now; devices = V c.args.system.now } in
+    let now : World = record { files = F c.args.system.now; input = I c.verify-answer.new.input; out = O c.printed-in-Verify.new.out; err = E c.printed-in-Verify.new.err; devices = V c.args.system.now } in
+    let fails = before.files.fails in
+    let input = before.input.bytes in
+    let n = before.input.failures in
+    let m = now.input.failures in
+    let task = Verify c.in-Verify.database in
+    let root = c.root_of-root.result.now in
+    let of_root = c.root_of-root.ensures in
+    let given = option_map string_bytes c.in-Verify.database in
+    let path = option_map (λ t. t.now) c.text_of-given.result in
+    let of_given = c.text_of-given.ensures in
+    let answer = c.verify-answer.result in
+    let is = both_values _ _ (λ a. (a.status ≡ 0) × OnOut (λ text. OfNamed given input seen (λ g f. IsPrinted g (root_of job) IsSummary f text)) (texts_in a)) answer (λ a zero p. (zero, p)) c.verify-answer.ensures.status
+    (subst (λ r. IfOk answer (λ a. OnOut (λ text. OfNamed given input seen (λ g f. IsPrinted g r IsSummary f text)) (texts_in a))) of_root
+    (subst (λ d. IfOk answer (λ a. OnOut (λ text. OfNamed d input seen (λ g f. IsPrinted g root IsSummary f text)) (texts_in a))) of_given (c.verify-answer.ensures.verified tells))) in
+    subst (λ t. IfErr c.printed-in-Verify.result (IsNotDone t (root_of job) job.usr job.strict before now)) (sym c.in-Verify.is)
+    (each_error _ (IsNotDone task (root_of job) job.usr job.strict before now) c.printed-in-Verify.result (λ r both. ((both.0, record { same = λ p. refl; no_more = λ p v l. l }), both.1))
+    (printed_refused answer c.printed-in-Verify.result (Refuses task (root_of job) input seen) (IsTaskReason task (root_of job) job.usr before now)
+    (λ s t. IsAnswerOf task (root_of job) job.strict input seen s t) before.err now.err before.out now.out
+    (subst (λ r. IfErr answer (λ e. OfNamed given input seen (λ g f. IsVerifyRefused g r f e))) of_root
+    (subst (λ d. IfErr answer (λ e. OfNamed d input seen (λ g f. IsVerifyRefused g root f e))) of_given (c.verify-answer.ensures.refused tells)))
+    is (subst (λ d. IfErr answer (HasDatabaseReason d fails seen input n m)) of_given c.verify-answer.ensures.reason)
+    (write_named given fails seen input n m) c.printed-in-Verify.ensures.refused))
+
+pub returns-in-Dump-clause-done : goal.returns-in-Dump-clause-done
+returns-in-Dump-clause-done g c = λ tells.
+    let job = c.args.job.now in
+    let F = files_by g.D.Store.seen g.D.System.may_fail g.D.Store.may_leave g.D.Store.failures in
+    let V = sight_by g.D.DeviceFiles.answers in
+    let I = told_by g.I.Source.left g.I.Source.failures in
+    let O = told_by g.O.Sink.taken g.O.Sink.failures in
+    let E = told_by g.E.Sink.taken g.E.Sink.failures in
+    let seen = g.D.Store.seen c.args.system.now in
+    let before : World = record { files = F c.args.system.now; input = I c.args.input.now; out = O c.args.out.now; err = E c.args.err.now; devices = V c.args.system.now } in
+    let now : World = record { files = F c.args.system.now; input = I c.dump-answer.new.input; out = O c.printed-in-Dump.new.out; err = E c.printed-in-Dump.new.err; devices = V c.args.system.now } in
+    let fails = before.files.fails in
+    let input = before.input.bytes in
+    let n = before.input.failures in
+    let m = now.input.failures in
+    let task = Dump c.in-Dump.database in
+    let root = c.root_of-root.result.now in
+    let of_root = c.root_of-root.ensures in
+    let given = option_map string_bytes c.in-Dump.database in
+    let path = option_map (λ t. t.now) c.text_of-given.result in
+    let of_given = c.text_of-given.ensures in
+    let answer = c.dump-answer.result in
+    let is = both_values _ _ (λ a. (a.status ≡ 0) × OnOut (λ text. OfNamed given input seen (λ g f. IsDumped g (root_of job) f text)) (texts_in a)) answer (λ a zero p. (zero, p)) c.dump-answer.ensures.status
+    (subst (λ r. IfOk answer (λ a. OnOut (λ text. OfNamed given input seen (λ g f. IsDumped g r f text)) (texts_in a))) of_root
+    (subst (λ d. IfOk answer (λ a. OnOut (λ text. OfNamed d input seen (λ g f. IsDumped g root f text)) (texts_in a))) of_given (c.dump-answer.ensures.dumped tells))) in
+    subst (λ t. IfOk c.printed-in-Dump.result (λ s. IsTaskDone t (root_of job) job.usr job.strict s before now)) (sym c.in-Dump.is)
+    (each_value _ (λ s. IsTaskDone task (root_of job) job.usr job.strict s before now) c.printed-in-Dump.result (λ s done. (done, tt, record { same = λ p. refl; no_more = λ p v l. l }))
+    (printed_done answer c.printed-in-Dump.result (λ s t. IsAnswerOf task (root_of job) job.strict input seen s t) before.err now.err before.out now.out is c.printed-in-Dump.ensures.done))
+
+pub returns-in-Dump-clause-refused : goal.returns-in-Dump-clause-refused
+returns-in-Dump-clause-refused g c = λ tells.
+    let job = c.args.job.now in
+    let F = files_by g.D.Store.seen g.D.System.may_fail g.D.Store.may_leave g.D.Store.failures in
+    let V = sight_by g.D.DeviceFiles.answers in
+    let I = told_by g.I.Source.left g.I.Source.failures in
+    let O = told_by g.O.Sink.taken g.O.Sink.failures in
+    let E = told_by g.E.Sink.taken g.E.Sink.failures in
+    let seen = g.D.Store.seen c.args.system.now in
+    let before : World = record { files = F c.args.system.now; input = I c.args.input.now; out = O c.args.out.now; err = E c.args.err.now; devices = V c.args.system.now } in
+    let now : World = record { files = F c.args.system.now; input = I c.dump-answer.new.input; out = O c.printed-in-Dump.new.out; err = E c.printed-in-Dump.new.err; devices = V c.args.system.now } in
+    let fails = before.files.fails in
+    let input = before.input.bytes in
+    let n = before.input.failures in
+    let m = now.input.failures in
+    let task = Dump c.in-Dump.database in
+    let root = c.root_of-root.result.now in
+    let of_root = c.root_of-root.ensures in
+    let given = option_map string_bytes c.in-Dump.database in
+    let path = option_map (λ t. t.now) c.text_of-given.result in
+    let of_given = c.text_of-given.ensures in
+    let answer = c.dump-answer.result in
+    let is = both_values _ _ (λ a. (a.status ≡ 0) × OnOut (λ text. OfNamed given input seen (λ g f. IsDumped g (root_of job) f text)) (texts_in a)) answer (λ a zero p. (zero, p)) c.dump-answer.ensures.status
+    (subst (λ r. IfOk answer (λ a. OnOut (λ text. OfNamed given input seen (λ g f. IsDumped g r f text)) (texts_in a))) of_root
+    (subst (λ d. IfOk answer (λ a. OnOut (λ text. OfNamed d input seen (λ g f. IsDumped g root f text)) (texts_in a))) of_given (c.dump-answer.ensures.dumped tells))) in
+    subst (λ t. IfErr c.printed-in-Dump.result (IsNotDone t (root_of job) job.usr job.strict before now)) (sym c.in-Dump.is)
+    (each_error _ (IsNotDone task (root_of job) job.usr job.strict before now) c.printed-in-Dump.result (λ r both. ((both.0, record { same = λ p. refl; no_more = λ p v l. l }), both.1))
+    (printed_refused answer c.printed-in-Dump.result (Refuses task (root_of job) input seen) (IsTaskReason task (root_of job) job.usr before now)
+    (λ s t. IsAnswerOf task (root_of job) job.strict input seen s t) before.err now.err before.out now.out
+    (subst (λ r. IfErr answer (λ e. OfNamed given input seen (λ g f. IsDumpRefused g r f e))) of_root
+    (subst (λ d. IfErr answer (λ e. OfNamed d input seen (λ g f. IsDumpRefused g root f e))) of_given (c.dump-answer.ensures.refused tells)))
+    is (subst (λ d. IfErr answer (HasDatabaseReason d fails seen input n m)) of_given c.dump-answer.ensures.reason)
+    (write_named given fails seen input n m) c.printed-in-Dump.ensures.refused))
 
 pub returns-in-Device-clause-refused : goal.returns-in-Device-clause-refused
 returns-in-Device-clause-refused g c = λ tells.

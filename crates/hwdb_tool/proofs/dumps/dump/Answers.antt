@@ -1,38 +1,54 @@
-use Rattle.std.proofs.Common.{◌∙◌, ap, inr, option_map, string_bytes, subst, sym, Some, ◌≤◌, length, List, ℕ}
-use Rattle.hwdb_spec.specs.Texts.{max_file}
-use Rattle.hwdb_spec.specs.NamedDatabases.{IsOfDump}
-use Rattle.hwdb_spec.specs.Databases.{IsSayable, IsTextOf}
-use Rattle.hwdb_spec.specs.Dump.{dump_text}
-use Rattle.hwdb_spec.specs.DumpErrors.{IsDumpRefusal}
-use Rattle.hwdb_plan.specs.Asking.{named}
-use Rattle.hwdb_plan.specs.Dump.{dump_stop}
-use Rattle.hwdb_spec.specs.Told.{IsStop}
-use Rattle.hwdb_tool.proofs.PlanLemmas.{texted, untexted}
+use Rattle.std.proofs.Common.{◌∙◌, ap, option_map, sym, subst, true, false, IfErr, IfOk}
+use Rattle.std.proofs.lemmas.Result.{IfErr-weaker}
+use Rattle.hwdb_spec.specs.Asked.{IsDumped}
+use Rattle.hwdb_spec.specs.GivenDatabases.{OfNamed, names_input}
+use Rattle.hwdb_spec.specs.Lemmas.Calls.{each_value}
+use Rattle.hwdb_spec.specs.NamedDatabases.{IsDumpRefused}
+use Rattle.hwdb_spec.specs.Runs.{OnOut}
+use Rattle.hwdb_plan.specs.Plans.{Follows}
+use Rattle.hwdb_plan.specs.Dump.{dump_plan}
+use Rattle.hwdb_tool.specs.Views.{end_of, texts_in}
+use Rattle.hwdb_tool.proofs.NamedInputLemmas.{of_dash, of_file, over_dash, over_file, reason_dash, reason_file}
 use Rattle.hwdb_tool.proofs.dumps.dump.Goals as goal
 
-pub returns-clause-refused : goal.returns-clause-refused
-returns-clause-refused g c = λ tells. inr record {
-  path = string_bytes c.in_ok-found.found.path;
-  bytes = c.deref.result.now;
-  at = c.in_ok-found.ensures.path tells;
-  named = c.in_ok-found.ensures.named tells ∙ ap Some (sym c.deref.ensures.value);
-  held = c.in_ok-found.ensures.held tells ∙ ap Some (sym c.deref.ensures.value);
-  within = subst (λ (b : List ℕ). length b ≤ max_file) (sym c.deref.ensures.value) c.in_ok-found.ensures.within;
-  error = c.in-Err.error;
-  is = subst (λ p. IsOfDump c.in-Err.error p c.refusal_of.result) c.as_bytes.ensures.value c.refusal_of.ensures.refusal;
-  refused = c.in-Err.ensures.errors;
-}
+pub returns-then-names_input-clause-follows : goal.returns-then-names_input-clause-follows
+returns-then-names_input-clause-follows g c = λ tells.
+    over_dash (option_map (λ t. t.now) c.args.given) (g.I.Source.left c.args.input.now) (g.I.Source.failures c.args.input.now) (g.I.Source.failures c.dump_input.new.input) (g.D.System.reads c.args.system.now)
+    (λ given reads. Follows end_of reads (dump_plan given c.args.root.now) c.dump_input.result) (sym c.names_input.ensures ∙ c.if-names_input.true) (c.dump_input.ensures.follows c.args.root.now (g.D.System.reads c.args.system.now))
 
-pub returns-in-Ok-clause-follows : goal.returns-in-Ok-clause-follows
-returns-in-Ok-clause-follows g c = λ tells.
-    let a = c.new.result in
-    texted (g.D.System.reads c.args.system.now) (named (option_map (λ t. t.now) c.args.given) c.args.root.now) (string_bytes c.in_ok-found.found.path) c.in_ok-found.found.bytes.items
-    a.status a.err.items a.out.items (c.in_ok-found.ensures.follows tells) c.law_one_tree.ensures c.new.ensures.status c.new.ensures.err
-    (subst (λ (b : List ℕ). IsTextOf dump_text b a.out.items) c.deref.ensures.value (subst (λ (t : List ℕ). IsTextOf dump_text c.deref.result.now t) (sym c.new.ensures.out) c.in-Ok.ensures.text))
-    (subst IsSayable c.deref.ensures.value c.in-Ok.ensures.sayable)
+pub returns-then-names_input-clause-dumped : goal.returns-then-names_input-clause-dumped
+returns-then-names_input-clause-dumped g c = λ tells.
+    each_value _ _ c.dump_input.result
+    (λ a is. (is.0, of_dash (option_map (λ t. t.now) c.args.given) (g.I.Source.left c.args.input.now) (g.D.Store.seen c.args.system.now) (λ given seen. IsDumped given c.args.root.now seen (texts_in a).out) (sym c.names_input.ensures ∙ c.if-names_input.true) is.1)) (c.dump_input.ensures.dumped c.args.root.now (g.D.Store.seen c.args.system.now))
 
-pub returns-clause-follows : goal.returns-clause-follows
-returns-clause-follows g c = λ tells.
-    untexted (g.D.System.reads c.args.system.now) (named (option_map (λ t. t.now) c.args.given) c.args.root.now) (string_bytes c.in_ok-found.found.path) c.in_ok-found.found.bytes.items
-    c.in-Err.error c.refusal_of.result (c.in_ok-found.ensures.follows tells) (subst (λ (b : List ℕ). IsDumpRefusal b c.in-Err.error) c.deref.ensures.value c.in-Err.ensures.errors)
-    (subst (λ (p : List ℕ). IsStop (dump_stop p c.in-Err.error) c.refusal_of.result) c.as_bytes.ensures.value c.refusal_of.ensures.stops)
+pub returns-then-names_input-clause-refused : goal.returns-then-names_input-clause-refused
+returns-then-names_input-clause-refused g c = λ tells.
+    IfErr-weaker c.dump_input.result _ _
+    (λ r is. of_dash (option_map (λ t. t.now) c.args.given) (g.I.Source.left c.args.input.now) (g.D.Store.seen c.args.system.now) (λ given seen. IsDumpRefused given c.args.root.now seen r) (sym c.names_input.ensures ∙ c.if-names_input.true) is) (c.dump_input.ensures.refused c.args.root.now (g.D.Store.seen c.args.system.now))
+
+pub returns-then-names_input-clause-reason : goal.returns-then-names_input-clause-reason
+returns-then-names_input-clause-reason g c =
+    IfErr-weaker c.dump_input.result _ _
+    (λ r is. reason_dash (g.D.System.may_fail c.args.system.now) (g.D.Store.seen c.args.system.now) (g.I.Source.left c.args.input.now) (g.I.Source.failures c.args.input.now) (g.I.Source.failures c.dump_input.new.input) r
+    (option_map (λ t. t.now) c.args.given) (sym c.names_input.ensures ∙ c.if-names_input.true) is) (c.dump_input.ensures.reason (g.D.System.may_fail c.args.system.now) (g.D.Store.seen c.args.system.now))
+
+pub returns-else-names_input-clause-follows : goal.returns-else-names_input-clause-follows
+returns-else-names_input-clause-follows g c = λ tells.
+    over_file (option_map (λ t. t.now) c.args.given) (g.I.Source.left c.args.input.now) (g.I.Source.failures c.args.input.now) (g.I.Source.failures c.args.input.now) (g.D.System.reads c.args.system.now)
+    (λ given reads. Follows end_of reads (dump_plan given c.args.root.now) c.dump_stored.result) (sym c.names_input.ensures ∙ c.if-names_input.false) (c.dump_stored.ensures.follows tells)
+
+pub returns-else-names_input-clause-dumped : goal.returns-else-names_input-clause-dumped
+returns-else-names_input-clause-dumped g c = λ tells.
+    each_value _ _ c.dump_stored.result
+    (λ a is. (is.0, of_file (option_map (λ t. t.now) c.args.given) (g.I.Source.left c.args.input.now) (g.D.Store.seen c.args.system.now) (λ given seen. IsDumped given c.args.root.now seen (texts_in a).out) (sym c.names_input.ensures ∙ c.if-names_input.false) is.1)) (c.dump_stored.ensures.dumped tells)
+
+pub returns-else-names_input-clause-refused : goal.returns-else-names_input-clause-refused
+returns-else-names_input-clause-refused g c = λ tells.
+    IfErr-weaker c.dump_stored.result _ _
+    (λ r is. of_file (option_map (λ t. t.now) c.args.given) (g.I.Source.left c.args.input.now) (g.D.Store.seen c.args.system.now) (λ given seen. IsDumpRefused given c.args.root.now seen r) (sym c.names_input.ensures ∙ c.if-names_input.false) is) (c.dump_stored.ensures.refused tells)
+
+pub returns-else-names_input-clause-reason : goal.returns-else-names_input-clause-reason
+returns-else-names_input-clause-reason g c =
+    IfErr-weaker c.dump_stored.result _ _
+    (λ r is. reason_file (g.D.System.may_fail c.args.system.now) (g.D.Store.seen c.args.system.now) (g.I.Source.left c.args.input.now) (g.I.Source.failures c.args.input.now) (g.I.Source.failures c.args.input.now) r
+    (option_map (λ t. t.now) c.args.given) (sym c.names_input.ensures ∙ c.if-names_input.false) is) (c.dump_stored.ensures.reason)
