@@ -15,7 +15,7 @@ use hwdb_io::{Cause, MAX_BYTES, Source, read_all};
 use hwdb_print::ToolError;
 use std::alloc::Global;
 
-/// Whether a word stands for standard input.
+/// Whether a word means standard input.
 pub fn is_dash(path: &str) -> bool
     ensures { result ≡ is_dash path.now }
 {
@@ -34,7 +34,7 @@ fn any_dash(given: &[String]) -> bool
     false
 }
 
-/// What is refused where standard input can't be read.
+/// The error if standard input can't be read.
 fn refusal_of(alloc: Global, error: ToolError, cause: Option<Cause>) -> Refusal
     ensures { IsOfWholeInput error result }
 {
@@ -84,7 +84,7 @@ pub fn read<D: System, I: Source>(
     }
 }
 
-/// What standard input has left, if one of the paths stands for it; else nothing of it is read.
+/// What standard input has left, if one of the paths means it; else nothing of it is read.
 pub fn input_text<I: Source>(
     alloc: Global,
     given: &[String],
@@ -130,7 +130,7 @@ fn file_bytes<D: System>(
     }
 }
 
-/// What a path has, where standard input had this text. A word may name it, or a folder lists it.
+/// What a path has, if standard input had this text. A word may name it, or a folder lists it.
 pub fn bytes_given<D: System>(
     alloc: Global,
     path: &str,

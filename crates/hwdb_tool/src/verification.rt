@@ -22,8 +22,8 @@ use hwdb_print::ToolError;
 use hwdb_reader::DbFault;
 use std::alloc::Global;
 
-/// How much is in the database at the path, or if none is given in the one that is asked. Refuses bytes that are none, and
-/// says then what is wrong with them.
+/// How much is in the database at the path, or if none is given in the one that is asked. Bytes that are none are an
+/// error, which says what is wrong with them.
 #[tactic(auto, using(hwdb_plan::specs::Lemmas::Steps::stopped))]
 pub fn verify<D: System>(
     alloc: Global,
@@ -51,7 +51,7 @@ pub fn verify<D: System>(
     }
 }
 
-/// What is refused if the bytes at the path can't be verified.
+/// The error if the bytes at the path can't be verified.
 fn refusal_of(alloc: Global, error: VerifyError, path: &[u8]) -> Refusal
     ensures refusal { IsOfVerify error path.now result }
     ensures stops { IsStop (verify_stop path.now error) result }
@@ -62,7 +62,7 @@ fn refusal_of(alloc: Global, error: VerifyError, path: &[u8]) -> Refusal
     }
 }
 
-/// The refusal of a fault.
+/// The error of a fault.
 fn refused_verdict(alloc: Global, fault: DbFault, path: &[u8]) -> Refusal
     ensures refusal { IsInWords (verdict_text path.now fault) result }
     ensures stops { IsStop (Says (verdict_text path.now fault)) result }
