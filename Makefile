@@ -36,11 +36,31 @@ LIBRARIES ?= out
 SECONDS ?= 300
 # What `make demo` and `make unproved` ask.
 ASKED := ask examples/workshop.hwdb usb:v1209p0007d0101
+# What is installed, each as PACKAGE:MODE:SOURCE:PLACE. The names in @ of a source that ends in `.in` are filled in; a link's source is
+# what it says. `make files` prints packages and places, for packaging/deb and tests/package.
+FILES = \
+	'hwdb:755:$(PROGRAM):$(BINDIR)/hwdb' \
+	'hwdb:644:man/hwdb.8:$(MANDIR)/man8/hwdb.8' \
+	'hwdb:644:man/hwdb-format.7:$(MANDIR)/man7/hwdb-format.7' \
+	'hwdb:644:completions/hwdb.bash:$(BASHDIR)/hwdb' \
+	'hwdb:644:completions/_hwdb:$(ZSHDIR)/_hwdb' \
+	'hwdb:644:completions/hwdb.fish:$(FISHDIR)/hwdb.fish' \
+	'hwdb:644:packaging/hwdb-update.service.in:$(UNITDIR)/hwdb-update.service' \
+	$(foreach file,README.md CHANGELOG.md LICENSE $(CITED),'hwdb:644:$(file):$(DOCDIR)/$(file)')
+LIBRARY_FILES = \
+	'libhwdb0:644:$(LIBRARY):$(LIBDIR)/libhwdb.so.0' \
+	'libhwdb0:644:$(dir $(LIBRARY))libhwdb-udev.so.0:$(LIBDIR)/libhwdb-udev.so.0' \
+	'libhwdb-dev:link:libhwdb.so.0:$(LIBDIR)/libhwdb.so' \
+	'libhwdb-dev:644:$(dir $(LIBRARY))libhwdb.a:$(LIBDIR)/libhwdb.a' \
+	'libhwdb-dev:644:c/hwdb.h:$(INCLUDEDIR)/hwdb.h' \
+	'libhwdb-dev:644:c/hwdb.pc.in:$(LIBDIR)/pkgconfig/hwdb.pc' \
+	'libhwdb-dev:644:man/libhwdb.3:$(MANDIR)/man3/libhwdb.3'
+FILLED = 's|@bindir@|$(BINDIR)|; s|@prefix@|$(PREFIX)|; s|@libdir@|$(LIBDIR)|; s|@includedir@|$(INCLUDEDIR)|; s|@version@|$(VERSION)|'
 WARNINGS := -std=c11 -Wall -Wextra -Werror
 HARDENED := -Wl,-z,relro -Wl,-z,now -Wl,-z,noexecstack -Wl,--no-undefined
 
 .PHONY: all program lib linked-lib hardened-lib kit unproved completions demo check check-edits check-survivors fuzz check-peer check-package bench \
-	install uninstall deb dist clean
+	install uninstall files deb dist clean
 
 # The library over what the program's proofs built; c/over-proved proves its calls.
 all: program
@@ -138,30 +158,14 @@ out/libhwdb.so.0:
 	$(MAKE) lib
 
 install: $(PROGRAM) $(LIBRARY)
-	install -D -m 755 '$(PROGRAM)' '$(DESTDIR)$(BINDIR)/hwdb'
-	install -D -m 644 man/hwdb.8 '$(DESTDIR)$(MANDIR)/man8/hwdb.8'
-	install -D -m 644 man/hwdb-format.7 '$(DESTDIR)$(MANDIR)/man7/hwdb-format.7'
-	install -D -m 644 completions/hwdb.bash '$(DESTDIR)$(BASHDIR)/hwdb'
-	install -D -m 644 completions/_hwdb '$(DESTDIR)$(ZSHDIR)/_hwdb'
-	install -D -m 644 completions/hwdb.fish '$(DESTDIR)$(FISHDIR)/hwdb.fish'
-	for file in README.md CHANGELOG.md LICENSE $(CITED); do \
-		install -D -m 644 "$$file" '$(DESTDIR)$(DOCDIR)'"/$$file" || exit; \
+	for row in $(FILES) $(if $(LIBRARY),$(LIBRARY_FILES)); do \
+		IFS=:; set -f; set -- $$row; unset IFS; place='$(DESTDIR)'"$$4"; \
+		case $$2:$$3 in \
+		link:*) install -d "$${place%/*}" && ln -sf "$$3" "$$place" ;; \
+		*.in) install -d "$${place%/*}" && sed $(FILLED) "$$3" >"$$place" && chmod "$$2" "$$place" ;; \
+		*) install -D -m "$$2" "$$3" "$$place" ;; \
+		esac || exit; \
 	done
-	install -d '$(DESTDIR)$(UNITDIR)'
-	sed 's|@bindir@|$(BINDIR)|' packaging/hwdb-update.service.in >'$(DESTDIR)$(UNITDIR)/hwdb-update.service'
-	chmod 644 '$(DESTDIR)$(UNITDIR)/hwdb-update.service'
-ifneq ($(LIBRARY),)
-	install -D -m 644 '$(LIBRARY)' '$(DESTDIR)$(LIBDIR)/libhwdb.so.0'
-	ln -sf libhwdb.so.0 '$(DESTDIR)$(LIBDIR)/libhwdb.so'
-	install -m 644 '$(dir $(LIBRARY))libhwdb.a' '$(DESTDIR)$(LIBDIR)/libhwdb.a'
-	install -m 644 '$(dir $(LIBRARY))libhwdb-udev.so.0' '$(DESTDIR)$(LIBDIR)/libhwdb-udev.so.0'
-	install -D -m 644 c/hwdb.h '$(DESTDIR)$(INCLUDEDIR)/hwdb.h'
-	install -D -m 644 man/libhwdb.3 '$(DESTDIR)$(MANDIR)/man3/libhwdb.3'
-	install -d '$(DESTDIR)$(LIBDIR)/pkgconfig'
-	sed 's|@prefix@|$(PREFIX)|; s|@libdir@|$(LIBDIR)|; s|@includedir@|$(INCLUDEDIR)|; s|@version@|$(VERSION)|' c/hwdb.pc.in \
-		>'$(DESTDIR)$(LIBDIR)/pkgconfig/hwdb.pc'
-	chmod 644 '$(DESTDIR)$(LIBDIR)/pkgconfig/hwdb.pc'
-endif
 ifeq ($(SYSTEMD_HWDB),yes)
 	ln -sf hwdb '$(DESTDIR)$(BINDIR)/systemd-hwdb'
 endif
@@ -176,19 +180,19 @@ endif
 # Takes away what `make install` put there, with its own folder, and leaves folders that others use too. A systemd-hwdb or
 # libhwdb.so that isn't the link to ours stays.
 uninstall:
-	rm -f '$(DESTDIR)$(BINDIR)/hwdb'
-	rm -f '$(DESTDIR)$(MANDIR)/man8/hwdb.8' '$(DESTDIR)$(MANDIR)/man7/hwdb-format.7' '$(DESTDIR)$(MANDIR)/man3/libhwdb.3'
-	rm -f '$(DESTDIR)$(BASHDIR)/hwdb' '$(DESTDIR)$(ZSHDIR)/_hwdb' '$(DESTDIR)$(FISHDIR)/hwdb.fish'
-	rm -f $(patsubst %,'$(DESTDIR)$(DOCDIR)/%',README.md CHANGELOG.md LICENSE $(CITED))
-	rm -f '$(DESTDIR)$(UNITDIR)/hwdb-update.service'
-	rm -f '$(DESTDIR)$(LIBDIR)/libhwdb.so.0' '$(DESTDIR)$(LIBDIR)/libhwdb.a' '$(DESTDIR)$(LIBDIR)/libhwdb-udev.so.0'
-	rm -f '$(DESTDIR)$(INCLUDEDIR)/hwdb.h'
-	rm -f '$(DESTDIR)$(LIBDIR)/pkgconfig/hwdb.pc'
-	[ "$$(readlink '$(DESTDIR)$(LIBDIR)/libhwdb.so')" != libhwdb.so.0 ] || rm '$(DESTDIR)$(LIBDIR)/libhwdb.so'
+	for row in $(FILES) $(LIBRARY_FILES); do \
+		IFS=:; set -f; set -- $$row; unset IFS; place='$(DESTDIR)'"$$4"; \
+		[ "$$2" != link ] || [ "$$(readlink "$$place")" = "$$3" ] || continue; \
+		rm -f "$$place" || exit; \
+	done
 	for folder in docs examples .; do \
 		[ ! -d '$(DESTDIR)$(DOCDIR)'"/$$folder" ] || rmdir --ignore-fail-on-non-empty '$(DESTDIR)$(DOCDIR)'"/$${folder%.}" || exit; \
 	done
 	[ "$$(readlink '$(DESTDIR)$(BINDIR)/systemd-hwdb')" != hwdb ] || rm '$(DESTDIR)$(BINDIR)/systemd-hwdb'
+
+# The package and the place of each file that is installed.
+files:
+	@for row in $(FILES) $(LIBRARY_FILES); do echo "$${row%%:*} $${row##*:}"; done
 
 # out/NAME_VERSION_ARCHITECTURE.deb of hwdb, libhwdb0 and libhwdb-dev, of the same bytes for the same commit and program.
 deb: $(PROGRAM) hardened-lib

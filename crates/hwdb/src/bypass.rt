@@ -17,7 +17,7 @@ enum Switch {
     Off,
     On,
     Unclear,
-    /// Memory was refused, so that it can't be told.
+    /// There was no memory, so that it can't be told.
     Unknown,
 }
 
@@ -67,7 +67,7 @@ fn switch_for(rt: &HostRuntime, words: &[String]) -> Switch {
     }
 }
 
-/// The status of a run that ends here: of an update that the environment has do nothing, or if memory is refused. What it
+/// The status of a run that ends here: of an update that the environment has do nothing, or if there is no memory. What it
 /// comes from is said on standard error.
 pub fn status_of_bypass<E: Sink>(rt: &HostRuntime, words: &[String], err: &mut E) -> Option<u8> {
     let (line, status) = match switch_for(rt, words) {

@@ -15,7 +15,7 @@ use std::io::{self, ErrorKind, IsTerminal};
 use std::os::fd::AsFd;
 use std::process::ExitCode;
 
-/// What is said if memory is refused before the program begins.
+/// What is said if there is no memory before the program begins.
 const MEMORY: &str = "hwdb: out of memory\n";
 
 /// The words of the command line, the first of which is the program's name.

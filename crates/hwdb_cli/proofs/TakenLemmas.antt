@@ -193,7 +193,7 @@ given_command : (s : Shape) (p : Text × List Text) → IsNotHelp (Some p) → a
 given_command s p other answers (inl gives) e = gives p.1 e
 given_command s p other answers (inr help) e = passed_over s p.0 help other answers
 
--- the subcommand at which a walk stopped, where it takes its words
+-- the subcommand at which a walk stopped, if it takes its words
 command_entered : (a : App) (stop : Option (Text × List Text)) → Each (λ s. Gives s ⊎ IsHelp s) a.subs → IsNotHelp stop → entered_fault a stop ≡ [] → is_some (entered a stop) ≡ true
     → (q : Text × List Row) × (entered a stop ≡ Some q) × IsCommand q.0 q.1
 command_entered a None each other e some = absurd (true≢false (sym some))

@@ -1,4 +1,4 @@
--- What the rows have of an argument that takes one value and has no default, where the words are taken.
+-- What the rows have of an argument that takes one value and has no default, if the words are taken.
 use Rattle.std.proofs.Common.{◌≡◌, ◌∙◌, ◌<◌, ◌+◌, ◌&&◌, ◌||◌, ℕ, Bool, true, false, not, cond, refl, sym, ap, subst, arith, List, [], ◌∷◌, ◌++◌, length, min, Option, Some, None, is_some, true≢false}
 use Rattle.std.specs.Prelude.{option_and_then, option_map, slice_get, unwrap_or}
 use Rattle.std.specs.List.{find, fold, list_all, list_any}

@@ -8,7 +8,7 @@ ghost use Rattle.hwdb_cli.specs.Drafts.{IsArgument, IsDraft};
 use clap::{Arg, ArgAction, Command};
 use std::alloc::{AllocError, Global};
 
-/// A command, or that memory was refused while it was made. What is added to one that wasn't made is let go. So a
+/// A command, or that there was no memory to make it. What is added to one that wasn't made is let go. So a
 /// command is written down without a way out after each of its parts.
 pub type Draft<'a> = Result<Command<'a>, AllocError>;
 
@@ -69,7 +69,7 @@ pub fn word<'a>(alloc: Global, name: &'a str, help: &'a str, action: ArgAction) 
     Arg::new(alloc, name).help(help).action(action)
 }
 
-/// A word that has to stand there.
+/// A word that has to be there.
 pub fn needed_word<'a>(alloc: Global, name: &'a str, help: &'a str, action: ArgAction) -> Arg<'a>
     ensures { IsArgument
         (record (new_rule name.entry.now) { required = true; action = Some action }) result }

@@ -55,7 +55,7 @@ const NEAR_WORDS: &str = "<MODALIAS>...";
 
 /// The short help.
 ///
-/// The only error is that memory is refused.
+/// The only error is want of memory.
 pub fn short_help(alloc: Global) -> Result<String, AllocError> {
     let mut text = String::from_str(alloc, MISSING)?;
     for (name, does) in COMMANDS {
@@ -67,7 +67,7 @@ pub fn short_help(alloc: Global) -> Result<String, AllocError> {
 
 /// A command's help without the options that do nothing for it.
 ///
-/// The only error is that memory is refused.
+/// The only error is want of memory.
 pub fn fitting_help(alloc: Global, text: &str) -> Result<String, AllocError> {
     let command = command_of(text);
     let mut shown = String::new(alloc);

@@ -56,7 +56,7 @@ fn fault_of(alloc: Global, name: &str, kinds: &str) -> Result<String, AllocError
 /// What is said of the first word after `--allow` that names no kind of warning. It says which kind the word is like, if there
 /// is one. None if each names one, or the task has no such words. `kinds` has a name a line.
 ///
-/// The only error is that memory is refused.
+/// The only error is want of memory.
 pub fn kind_fault(alloc: Global, task: &Task, kinds: &str) -> Result<Option<String>, AllocError> {
     let Task::Check { allowed, .. } = task else {
         return Ok(None);

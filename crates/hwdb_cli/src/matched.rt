@@ -14,7 +14,7 @@ pub fn text_of<'a>(matches: &ArgMatches<'a>, id: &str) -> Option<&'a str>
     matches.get_str(id)
 }
 
-/// Whether the flag stands there.
+/// Whether the flag is there.
 pub fn has_flag(matches: &ArgMatches<'_>, id: &str) -> bool
     ensures { result ≡ has_flag id.now (rows_of (found_of matches.now)) }
 {
@@ -68,7 +68,7 @@ pub fn values_of(
     copies(alloc, texts)
 }
 
-/// The values of an argument, copied; none where it has none.
+/// The values of an argument, copied; none if it has none.
 pub fn any_values_of(
     alloc: Global,
     matches: &ArgMatches<'_>,

@@ -15,14 +15,14 @@ const LIKE_TIP: &str = "  tip: a similar argument exists: ";
 /// How any advice begins.
 const TIP: &str = "  tip: ";
 
-/// Where the commands stand, for whoever named one that isn't there.
+/// Where the commands are, for whoever named one that isn't there.
 const COMMANDS_TIP: &str = "  tip: to see all commands, use 'hwdb help'";
 
 /// The text of an unexpected argument's fault, with advice that fits. It names the known option that it is like, or
 /// says how it is passed as a value. `words` are those of the command line. The usage that `clap` makes of a misleading
 /// tip goes with it.
 ///
-/// The only error is that memory is refused.
+/// The only error is want of memory.
 pub fn with_fitting_tip(alloc: Global, text: &str, words: &[String]) -> Result<String, AllocError> {
     let argument = quoted(text);
     let mut advised = String::new(alloc);
@@ -40,9 +40,9 @@ pub fn with_fitting_tip(alloc: Global, text: &str, words: &[String]) -> Result<S
     Ok(advised)
 }
 
-/// The text of an unknown command's fault, with advice: the known command that it is like, or where all of them stand.
+/// The text of an unknown command's fault, with advice: the known command that it is like, or where all of them are.
 ///
-/// The only error is that memory is refused.
+/// The only error is want of memory.
 pub fn with_command_tip(alloc: Global, text: &str) -> Result<String, AllocError> {
     match text.split_once("\n\n") {
         Some((fault, rest)) if !rest.starts_with(TIP) => {
@@ -83,7 +83,7 @@ fn push_value_tip(
     )
 }
 
-/// What stands first in quotes; nothing where nothing does.
+/// What comes first in quotes; nothing if nothing does.
 fn quoted(text: &str) -> &str {
     match text.split_once('\'') {
         Some((_, rest)) => match rest.split_once('\'') {
@@ -94,7 +94,7 @@ fn quoted(text: &str) -> &str {
     }
 }
 
-/// The option whose value the argument was meant to be: the one that stands directly before it, written out.
+/// The option whose value the argument was meant to be: the one directly before it, written out.
 fn option_before(words: &[String], argument: &str) -> Option<&'static str> {
     let mut before = "";
     for word in words {
@@ -117,7 +117,7 @@ fn written_out(word: &str) -> Option<&'static str> {
     }
 }
 
-/// Whether two options are much like each other, whatever `-` stands before them.
+/// Whether two options are much like each other, whatever `-` is before them.
 fn is_like(alloc: Global, option: &str, other: &str) -> Result<bool, AllocError> {
     let option = option.trim_start_matches('-');
     let other = other.trim_start_matches('-');

@@ -3,7 +3,7 @@ use Rattle.std.proofs.Common.{◌≡◌, ℕ, Bool, true, false, List, [], ◌�
 use Rattle.hwdb_spec.specs.DeviceTexts.{pattern_byte, pattern_for}
 use Rattle.hwdb_spec.specs.Patterns.{byte_then, literal, matches, piece_then, token_at, tokens, tokens_from}
 
--- a byte that begins no wildcard and no bracket stands for itself
+-- a byte that begins no wildcard and no bracket means itself
 itself : (b : ℕ) (rest : List ℕ) → (b == 42) ≡ false → (b == 63) ≡ false → (b == 91) ≡ false → token_at (b ∷ rest) ≡ literal b
 unfolding token_at
 itself b rest s q o = rw s (rw q (rw o refl))

@@ -64,7 +64,7 @@ pub fronts_tested : FrontsAreTested
 fronts_tested forms ts =
     (λ h. begin_out forms ts ((forms_tested forms (ts ++ star ∷ [])).0 h), λ m. (forms_tested forms (ts ++ star ∷ [])).1 (begin_in forms ts m))
 
--- a search through some forms, which Rust's values stand for
+-- a search through some forms, which Rust's values mean
 next_form : (A : Type 0) (f : A → Form) (l : List A) (i : ℕ) (d : A) (ts : List Token) → i < length l
     → can_match (map f (drop i l)) ts ≡ (meets_form ts (f (get_or l i d)) || can_match (map f (drop (suc i) l)) ts)
 next_form A f l i d ts h = rw (drop-cons l i d h) refl

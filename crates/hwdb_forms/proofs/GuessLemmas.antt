@@ -38,7 +38,7 @@ pub oui_asked : IsAsked FormTable.oui
 unfolding known
 oui_asked = asked_at 23 FormTable.oui refl
 
--- one of some forms, which Rust's values stand for
+-- one of some forms, which Rust's values mean
 pub form_among : (A : Type 0) (f : A → Form) (l : List A) (i : ℕ) (d : A) (ts : List Token) → i < length l → meets_form ts (f (get_or l i d)) ≡ true → can_match (map f l) ts ≡ true
 form_among A f [] i d ts h e = absurd (omega arith)
 form_among A f (x ∷ l) zero d ts h e = true_or (meets_form ts (f x)) (can_match (map f l) ts) e

@@ -336,7 +336,7 @@ pub led_ended : (ps : List Piece) (ts us : List Token) (done at : ℕ) (d p : Pi
 led_ended ps ts us done at d p told dead h u w k t e led more =
     led_stops ps (ts ++ more) (us ++ more) done at d p dead h (rest_more ts us more at u w) k (no_more p us more told dead t e) (led more)
 
--- lists of Rust's, and what they stand for
+-- lists of Rust's, and what they mean
 pub views_drop : (texts : List (Bor (List ℕ))) (n : ℕ) → views (drop n texts) ≡ drop n (views texts)
 views_drop [] zero = refl
 views_drop [] (suc n) = refl

@@ -14,7 +14,7 @@ use Rattle.hwdb_forms.specs.Internal.{GoesThrough, GoesThroughField, GoesThrough
 use Rattle.hwdb_forms.proofs.EndLemmas.{counted_ended, if_either, if_first, many_next, star_pieces}
 use Rattle.hwdb_forms.proofs.LeadLemmas.{dropped, fields_family, fixed_family, led_first, next_piece, piece_tells, pieces_family}
 
--- a byte that stands for itself is a token
+-- a byte that means itself is a token
 plain_by : (s o t : Bool) (b : ℕ) (x : Token) (more : ℕ → List Token) → cond s true (cond o true t) ≡ false
     → cond s star (cond o one (cond t x (literal b))) ∷ more (token_size (cond s star (cond o one (cond t x (literal b)))) - 1) ≡ literal b ∷ more 0
 plain_by true o t b x more e = absurd cc

@@ -21,7 +21,7 @@ use Rattle.hwdb_forms.specs.declared.cells.Kind.TheVariants.{After, Longest}
 use Rattle.hwdb_forms.specs.declared.expecting.Word.{Word}
 use Rattle.hwdb_forms.specs.declared.expecting.Following.{Following}
 
--- what a piece of Rust's stands for, and a form
+-- what a piece of Rust's means, and a form
 abbrev pub piece_of : Piece.Piece → Forms.Piece
 piece_of (Fixed bytes) = fixed bytes.now
 piece_of (Counted set n) = counted set n
@@ -89,7 +89,7 @@ Fits form text = FixedThen form.prefix (Fields form.fields) text
 abbrev pub IsMet : (List ℕ → Type 0) → List Token → Type 0
 IsMet Told ts = (text : List ℕ) × Told text × Matches ts text
 
--- what the fields of Rust's stand for
+-- what the fields of Rust's mean
 abbrev pub fields_of : List (Bor (List (Bor (List Piece.Piece)))) → List (List (List Forms.Piece))
 fields_of fields = map (λ field. map (λ way. map piece_of way.now) field.now) fields
 
@@ -203,7 +203,7 @@ pub record IsThroughField (field : List (List Forms.Piece)) (text : List ℕ) (n
   pub cut : IsCut text n
   pub through : GoesThroughField field (tokens text) n
 
--- a byte is a star, or is of a set and stands for itself
+-- a byte is a star, or is of a set and means itself
 abbrev pub IsOfMany : ByteSet → ℕ → Type 0
 IsOfMany set b = (b ≡ 42) ⊎ ((is_in set b ≡ true) × (Forms.is_wild b ≡ false))
 
@@ -215,7 +215,7 @@ IsAsked form = (ts : List Token) → Forms.meets_form ts form ≡ true → Forms
 abbrev pub has_bit : ℕ → ℕ → Bool
 has_bit n i = bit_at n i == 1
 
--- What is told of 128 bytes, from the first one on: whether each that stands for itself may be written after a front.
+-- What is told of 128 bytes, from the first one on: whether each that means itself may be written after a front.
 pub record IsWordAfter (front : List ℕ) (w : Word) : Type 0 where
   pub within : w.first ≤ 128
   pub told : (i : ℕ) → i < 128 → Forms.is_wild (w.first + i) ≡ false → has_bit w.bits i ≡ Forms.can_begin asked (tokens (front ++ (w.first + i) ∷ []))
@@ -356,7 +356,7 @@ fields_numbers kind (field ∷ more) ts = field_numbers kind field ts (fields_nu
 abbrev pub form_number : Kind → List Token → Forms.Form → ℕ
 form_number kind ts form = first_cell (fixed_numbers kind form.prefix ts (fields_numbers kind form.fields ts))
 
--- tokens, then a byte that stands for itself, and then any
+-- tokens, then a byte that means itself, and then any
 abbrev pub followed : List Token → ℕ → List Token
 followed ts b = ts ++ literal b ∷ star ∷ []
 

@@ -277,7 +277,7 @@ fn put_expected(
 /// The bytes that may be written after the beginning of a pattern: some text that udev asks begins with what both match. Wildcards
 /// aren't among them.
 ///
-/// The only error is that memory is refused.
+/// The only error is want of memory.
 pub fn expected(alloc: Global, front: &[u8]) -> Result<Vec<u8>, AllocError>
     ensures { IfOk result (λ bytes. bytes.items ≡ Forms.expected asked front.now) }
 {

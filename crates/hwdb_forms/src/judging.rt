@@ -199,7 +199,7 @@ fn judge_tokens(alloc: Global, pattern: &[u8]) -> Result<Judgement, AllocError>
 
 /// What is said of a pattern: whether it matches a text that udev asks, and else why not.
 ///
-/// The only error is that memory is refused.
+/// The only error is want of memory.
 pub fn judge(alloc: Global, pattern: &[u8]) -> Result<Judgement, AllocError>
     ensures fine { IfOk result (λ told. (told ≡ Judgement.Fine)
         ↔ CanMatch FormTable.asked (tokens_of pattern.now)) }

@@ -80,7 +80,7 @@ fn likely(alloc: Global, text: &[u8]) -> Result<Option<&'static [u8]>, AllocErro
 
 /// The prefix of texts that udev asks which was probably meant by the pattern's, if one is like it.
 ///
-/// The only error is that memory is refused.
+/// The only error is want of memory.
 pub fn likely_prefix(alloc: Global, pattern: &[u8]) -> Result<Option<&'static [u8]>, AllocError>
     ensures { IfOk result (λ found. option_map (λ p. p.now) found
         ≡ FormTable.likely_prefix pattern.now) }

@@ -1,5 +1,5 @@
-//! Patterns that are compared with a form byte by byte, so that no tokens are made and no rows. Their bytes stand for themselves,
-//! but for stars where a form has any number of bytes, and for a star at the end. Most patterns are so.
+//! Patterns that are compared with a form byte by byte, so that no tokens are made and no rows. Their bytes mean themselves,
+//! but for stars at places of any number of bytes, and for a star at the end. Most patterns are so.
 ghost use Rattle.std.specs.Prelude.{◌≡◌, ◌≤◌, ◌∷◌, [], IfSome, drop, length, map, true};
 ghost use Rattle.hwdb_spec.specs.Patterns.{star, tokens};
 ghost use Rattle.hwdb_spec.specs.Forms.{is_wild};
@@ -18,7 +18,7 @@ pub(crate) fn is_wild(byte: u8) -> bool
     byte == b'*' || byte == b'?' || byte == b'['
 }
 
-/// Whether the text begins with these bytes, each of which stands for itself.
+/// Whether the text begins with these bytes, each of which means itself.
 pub(crate) fn begins_plainly(bytes: &[u8], text: &[u8]) -> bool
     ensures passed { result ≡ true → passed_fixed bytes.now (tokens text.now) ≡ Yes }
     ensures cut { result ≡ true → IsCut text.now (length bytes.now) }
@@ -40,7 +40,7 @@ pub(crate) fn begins_plainly(bytes: &[u8], text: &[u8]) -> bool
     true
 }
 
-/// How many of the text's first bytes, at most so many, are of the set and stand for themselves.
+/// How many of the text's first bytes, at most so many, are of the set and mean themselves.
 #[inline(always)]
 fn plain_count(set: ByteSet, most: usize, text: &[u8]) -> usize
     ensures most { result ≤ most }
@@ -84,7 +84,7 @@ pub(crate) fn is_lone_star(text: &[u8]) -> bool
     text.len() == 1 && text[0] == b'*'
 }
 
-/// How many of the text's first bytes are stars, or are of the set and stand for themselves. It stops at a byte, and before a
+/// How many of the text's first bytes are stars, or are of the set and mean themselves. It stops at a byte, and before a
 /// star that is the last one.
 fn many_count(set: ByteSet, stop: u8, text: &[u8]) -> usize
     ensures within { result ≤ length text.now }
@@ -107,7 +107,7 @@ fn many_count(set: ByteSet, stop: u8, text: &[u8]) -> usize
     at
 }
 
-/// Whether the byte is a star, or is of the set and stands for itself.
+/// Whether the byte is a star, or is of the set and means itself.
 fn is_of_many(set: ByteSet, byte: u8) -> bool
     ensures { result ≡ true → IsOfMany set byte }
 {

@@ -35,7 +35,7 @@ fn is_digit(byte: u8) -> bool
     byte <= b'F'
 }
 
-/// Whether the byte stands for itself, and a template's byte is for it.
+/// Whether the byte means itself, and a template's byte is for it.
 #[inline(always)]
 fn is_for(own: u8, byte: u8) -> bool
     ensures own { result ≡ true → is_in (set_of own) byte ≡ true }

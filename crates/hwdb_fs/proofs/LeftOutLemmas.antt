@@ -149,7 +149,7 @@ lines_more root (x ∷ cs) text c cause words told = (
   lines_more root cs told.2 c cause words told.4,
 )
 
--- a refusal that was noted is that of the file
+-- an error that was noted is that of the file
 module _ (Unreadable : List ℕ → Type 0) (contents : Contents) (path old new : List ℕ) where
   abbrev Noted : Type 0
   Noted = Unreadable path × (cause : Option Cause) × (words : List ℕ) × (new ≡ old ++ left_out_line path cause words)
@@ -206,7 +206,7 @@ module _ (Unreadable : List ℕ → Type 0) (contents : Contents) (root : List �
 pub chosen_at : (chosen : List Chosen) (k : ℕ) (file : Chosen) → file ≡ get_or chosen k file → k < length chosen → Contains (map choice_of chosen) (choice_of file)
 chosen_at chosen k file is lt = (k, subst (λ n. k < n) (sym (length-map chosen choice_of)) lt, get_or-map choice_of chosen k file (choice_of file) lt ∙ ap choice_of (sym is))
 
--- a refusal to read a chosen file that is handed on
+-- an error at reading a chosen file that is handed on
 pub handed_unread : {T : Type 0} (root : List ℕ) (chosen : List Chosen) (k : ℕ) (file : Chosen) (read : Result T Refusal) (r : Refusal) → file ≡ get_or chosen k file → k < length chosen
     → IfErr read (IsUnread (root ++ path_of (choice_of file))) → (r ≡ Plain Memory) ⊎ (read ≡ Err r) → (r ≡ Plain Memory) ⊎ IsChosenUnread root (map choice_of chosen) r
 handed_unread root chosen k file read r is lt unread (inl memory) = inl memory
@@ -271,7 +271,7 @@ chosen_reason_of MayFail root contents etc usr chosen (Err e) named listed unrea
 pub none_left_out : (skip : Bool) (MayFail : List ℕ → Type 0) (root : List ℕ) (contents : Contents) → AreLeftOut skip MayFail root contents []
 none_left_out skip MayFail root contents = record { each = All-nil (IsLeftOut MayFail root contents); asked_for = λ e. refl }
 
--- all files are read, or reading them is refused
+-- all files are read, or reading them fails
 pub whole_selected : (skip : Bool) (MayFail : List ℕ → Type 0) (root : List ℕ) (contents : Contents) (usr : List (List ℕ)) (chosen : List Choice) (texts : List (List ℕ))
     → AreSelected root contents usr chosen texts → AreSelectedLess skip MayFail root contents usr chosen texts []
 whole_selected skip MayFail root contents usr chosen texts selected = record {

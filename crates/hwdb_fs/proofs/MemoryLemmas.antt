@@ -1,4 +1,4 @@
--- A store in memory: what stands under a path was put there by one of its steps.
+-- A store in memory: what is under a path was put there by one of its steps.
 use Rattle.std.proofs.Common.{◌≡◌, ◌≢◌, ◌∙◌, ◌⊎◌, ◌||◌, inl, inr, ap, sym, refl, subst, bytes_eq, true, false, List, ℕ, [], ◌∷◌, ◌++◌, Option, Some, None, if◌then◌else◌, All, Bool}
 use Rattle.std.specs.Prelude.{is_some, option_map, MatchOption, not, drop, Contains}
 use Rattle.std.specs.Option.{option_map_or}
@@ -56,7 +56,7 @@ by_steps p s (x ∷ xs) h = or_here (by_steps p (after p s x) xs h)
     or_here (inl h) = or_earlier (by_step p s x h)
     or_here (inr h) = inr (inr h)
 
--- what stands under a path was put there
+-- what is under a path was put there
 pub is_made : (xs : List Step) (p : List ℕ) → is_some (bytes_after xs p) ≡ true → IsMade xs p
 is_made xs p h = only (by_steps p begin xs (stands (seen_of xs p) h))
   where

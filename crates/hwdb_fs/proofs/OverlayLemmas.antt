@@ -257,7 +257,7 @@ module _ (root made : List ℕ) (files : Contents) where
     looking_reason path (InWords text) other is reason = reason
 
 -- ---- the database's bytes, copied
--- they are too long, or memory was refused
+-- they are too long, or there was no memory
 abbrev pub IsTooLong : (path made : List ℕ) → Refusal → Type 0
 IsTooLong path made r = (r ≡ Plain Memory) ⊎ (IsAt TooLong path r × (max_file < length made))
 

@@ -19,7 +19,7 @@ is_long : Unread → Bool
 is_long unread.TooLong = true
 is_long w = false
 
--- a refusal for want of memory is one of memory
+-- an error for want of memory is one of memory
 of_memory : (path : List ℕ) (r : Refusal) → IsRefusedFor (failed why.Memory) path r → IsOfMemory path r
 unfolding cause_of is_long
 of_memory path (At Read at cause) (same, is) = (same, sym (ap cause_of is))

@@ -1,4 +1,4 @@
--- What a refusal says of a path is so.
+-- What an error says of a path is so.
 use Rattle.std.proofs.Common.{get_or, length, ◌≡◌, ◌⊎◌, ◌∙◌, ◌++◌, inl, inr, ap, refl, sym, subst, ℕ, List, [], ◌∷◌, map, Bool, true, false, All, if◌then◌else◌, append_assoc}
 use Rattle.std.proofs.Math.Seq.{take-append_seam}
 use Rattle.std.specs.Prelude.{Contains, codes, is_some}
@@ -24,7 +24,7 @@ there_at root contents etc usr false name in_etc in_usr has =
     ap (λ p. is_some (bytes_at contents p)) (sym (append_assoc root (codes "/usr/lib/udev/hwdb.d") (47 ∷ name)))
     ∙ (All-contains (IsNameIn (usr_files root) contents) usr name in_usr.each has).there
 
--- so one that stands there can't be read only where that may fail
+-- so one that is there can't be read only if that may fail
 there_reason : (MayFail : List ℕ → Type 0) (contents : Contents) (path at : List ℕ) → is_some (bytes_at contents path) ≡ true → at ≡ path → IsUnreadable MayFail contents at → MayFail at
 there_reason MayFail contents path at there is (inl none) = absurd (let h : is_some (bytes_at contents at) ≡ true = ap (λ p. is_some (bytes_at contents p)) is ∙ there in cc)
 there_reason MayFail contents path at there is (inr fails) = fails

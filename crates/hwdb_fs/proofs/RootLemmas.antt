@@ -8,7 +8,7 @@ use Rattle.std.specs.Prelude.{All, flat_map}
 use Rattle.hwdb_spec.specs.Lines.{has, is}
 use Rattle.hwdb_fs.specs.Roots.{IsBelow, IsName, below}
 
--- what stands before the first of some bytes has none
+-- what is before the first of some bytes has none
 none_by : (t : Bool) (b x n : ℕ) (xs : List ℕ) → is b x ≡ t → has b (take n xs) ≡ false → has b (take (cond (not t) (1 + n) 0) (x ∷ xs)) ≡ false
 none_by true b x n xs e rest = refl
 none_by false b x n xs e rest =

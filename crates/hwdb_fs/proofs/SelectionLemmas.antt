@@ -1,4 +1,4 @@
--- What is refused while the folders' files are chosen and read, and while they are compiled.
+-- The errors while the folders' files are chosen and read, and while they are compiled.
 use Rattle.std.proofs.Common.{◌+◌, [], Some, ◌≡◌, ◌<◌, ◌≤◌, ◌∷◌, All, Bool, arith, drop, false, length-append, suc, take, true, ◌++◌, ◌∙◌, inl, inr, ◌⊎◌, ⊎_elim, ap, sym, subst, refl, ℕ, List, length, map, get_or, string_bytes, Global, String}
 use Rattle.std.proofs.lemmas.List.{length-map, get_or-map, map-append, take_more}
 use Rattle.std.proofs.lemmas.List.Elements.{All-map}

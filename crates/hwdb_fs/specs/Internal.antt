@@ -21,7 +21,7 @@ use Rattle.hwdb_spec.specs.Visible.{shown_name}
 abbrev pub bytes_after : List Step → (path : List ℕ) → Option (List ℕ)
 bytes_after steps = bytes_at (seen_of steps)
 
--- the path under which a step has a file stand
+-- the path under which a step puts a file
 abbrev pub made_by : Step → Option (List ℕ)
 made_by (Changed path file) = Some path.items
 made_by (Moved from to file loose) = Some to.items
@@ -31,13 +31,13 @@ made_by _ = None
 abbrev pub IsMisnamed : (path : List ℕ) → Type 0
 IsMisnamed path = (folder name : List ℕ) × (path ≡ path_in folder name) × (IsUtf8 name → ⊥)
 
--- a refusal that says so, or one of memory
+-- an error that says so, or one of memory
 abbrev pub IsOfName : Refusal → Type 0
 IsOfName (At Read at cause) = IsMisnamed at.items
 IsOfName (Plain Memory) = Unit {0}
 IsOfName _ = ⊥
 
--- one of the steps has a file stand under the path
+-- one of the steps puts a file under the path
 abbrev pub IsMade : List Step → (path : List ℕ) → Type 0
 IsMade [] path = ⊥
 IsMade (x ∷ steps) path = (made_by x ≡ Some path) ⊎ IsMade steps path
@@ -52,11 +52,11 @@ pub record IsToldIn (ignored : Bool) (folder : List ℕ) (contents : Contents) (
   pub plain : has 47 name ≡ false
   pub there : is_some (bytes_at contents (path_in folder name)) ≡ true
 
--- after these steps a file with this name, one of those, stands under the path
+-- after these steps a file with this name, one of those, is under the path
 abbrev pub is_told_file : (ignored : Bool) → List Step → (name path : List ℕ) → Bool
 is_told_file ignored steps name path = if not (is_told ignored name) || has 47 name then false else is_some (bytes_after steps path)
 
--- the name of such a file that a step has stand in a folder, or that it has none stand there
+-- the name of such a file that a step puts in a folder, or that it puts none there
 abbrev pub IsNamedBy : (ignored : Bool) → List Step → (folder : List ℕ) → Step → Option (List ℕ) → Type 0
 IsNamedBy ignored steps folder step None = (name : List ℕ) → IsToldIn ignored folder (seen_of steps) name → made_by step ≢ Some (path_in folder name)
 IsNamedBy ignored steps folder step (Some name) = IsToldIn ignored folder (seen_of steps) name × (made_by step ≡ Some (path_in folder name))

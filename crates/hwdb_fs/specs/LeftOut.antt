@@ -18,12 +18,12 @@ pub record AreToldOf (Unreadable : (path : List ℕ) → Type 0) (root : List �
   pub unreadable : All (λ (c : Choice). Unreadable (root ++ path_of c)) left_out
   pub told : AreTold root left_out said
 
--- the line of a refusal to read a file was added
+-- the line of an error at reading a file was added
 abbrev pub IsNoted : Refusal → (old new : List ℕ) → Type 0
 IsNoted (At Read path cause) old new = (words : List ℕ) × (new ≡ old ++ left_out_line path.items cause words)
 IsNoted _ old new = ⊥
 
--- and if reading a file of this name was refused, the name too; else nothing
+-- and if a file of this name can't be read, the name too; else nothing
 abbrev pub IsNotedOf : {T : Type 0} → Result T Refusal → (name : List ℕ) (names names2 : List (List ℕ)) (said said2 : List ℕ) → Type 0
 IsNotedOf (Ok bytes) name names names2 said said2 = (names2 ≡ names) × (said2 ≡ said)
 IsNotedOf (Err refusal) name names names2 said said2 = IsNoted refusal said said2 × (names2 ≡ names ++ name ∷ [])

@@ -112,7 +112,7 @@ ignored_answer (Ok None) = Ok []
 ignored_answer (Ok (Some listing)) = Ok (filter is_ignored (entries listing))
 ignored_answer (Err w) = Err w
 
--- memory was refused: that may always be said
+-- there was no memory: that may always be said
 abbrev pub IsOfMemory : (path : List ℕ) → Refusal → Type 0
 IsOfMemory path (Plain error) = error ≡ Memory
 IsOfMemory path (At Read at cause) = (at.items ≡ path) × (cause ≡ Some why.Memory)
@@ -124,11 +124,11 @@ IsRefusedFor w path (At Read at cause) = (at.items ≡ path) × (w ≡ unread.Fa
 IsRefusedFor w path (At TooLong at cause) = (at.items ≡ path) × (w ≡ unread.TooLong)
 IsRefusedFor w path _ = ⊥
 
--- an error is what the answer gives, or that memory was refused
+-- an error is what the answer gives, or that there was no memory
 abbrev pub IsRefusedAs : {X : Type 0} (answer : Result X Unread) (path : List ℕ) → Refusal → Type 0
 IsRefusedAs answer path refusal = IsOfMemory path refusal ⊎ ((w : Unread) × (answer ≡ Err w) × IsRefusedFor w path refusal)
 
--- the result is what the answer gives, or memory was refused
+-- the result is what the answer gives, or there was no memory
 abbrev pub IsReadAs : {X Y : Type 0} (value : Y → X) (answer : Result X Unread) (path : List ℕ) → Result Y Refusal → Type 0
 IsReadAs value answer path result = MatchResult result (λ y. answer ≡ Ok (value y)) (IsRefusedAs answer path)
 
@@ -137,7 +137,7 @@ abbrev pub IsMisnamedAt : (folder name : List ℕ) → Refusal → Type 0
 IsMisnamedAt folder name (At Read at cause) = (at.items ≡ path_in folder name) × (cause ≡ Some why.Name) × (IsUtf8 name → ⊥)
 IsMisnamedAt folder name _ = ⊥
 
--- an error is what the answer gives, that memory was refused, or that a text file's name isn't UTF-8
+-- an error is what the answer gives, that there was no memory, or that a text file's name isn't UTF-8
 abbrev pub IsUnnamed : (answer : Result (List (List ℕ)) Unread) (folder : List ℕ) → Refusal → Type 0
 IsUnnamed answer folder refusal =
     IsRefusedAs answer folder refusal ⊎ ((all : List (List ℕ)) × (name : List ℕ) × (answer ≡ Ok all) × Contains all name × IsMisnamedAt folder name refusal)

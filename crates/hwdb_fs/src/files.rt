@@ -41,7 +41,7 @@ fn bytes_of_path(alloc: Global, folder: &str, name: &[u8]) -> Result<Vec<u8>, Al
     Ok(path)
 }
 
-/// A name in a folder, as text. Refuses one that isn't UTF-8, with its path.
+/// A name in a folder, as text. One that isn't UTF-8 is an error, with its path.
 pub fn text_of(alloc: Global, folder: &str, name: &[u8]) -> Result<String, Refusal>
     ensures text { IfOk result (λ text. string_bytes text ≡ name.now) }
     ensures refused { IfErr result (IsUnlisted folder.now) }
@@ -77,7 +77,7 @@ pub fn path_in(alloc: Global, folder: &str, name: &str) -> Result<String, AllocE
 }
 
 /// The file system as a store, a call of the library for each of its calls. It tells nothing of its contents: no
-/// contract of the library says what stands under a path.
+/// contract of the library says what is under a path.
 #[derive(Drop)]
 pub struct SystemStore<'a, R: Files> {
     alloc: Global,
@@ -175,7 +175,7 @@ where
         fs::remove_file(self.rt, self.path.as_str())
     }
 
-    /// Makes a folder, and those above it, where they aren't there.
+    /// Makes a folder, and those above it, if they aren't there.
     fn made(&mut self, folder: &str) -> io::Result<()>
         ensures { self.new.failed ≡ self.old.failed }
     {
@@ -193,7 +193,7 @@ where
         }
     }
 
-    /// Has what stands in a folder last.
+    /// Has what is in a folder last.
     fn synced(&mut self, folder: &str) -> io::Result<()>
         ensures { self.new.failed ≡ self.old.failed }
     {

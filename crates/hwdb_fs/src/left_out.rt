@@ -29,7 +29,7 @@ pub struct ReadableSelection {
 
 /// Some names as a set.
 ///
-/// The only error is that memory is refused.
+/// The only error is want of memory.
 pub fn name_set<'a>(alloc: Global, names: &'a [String]) -> Result<BTreeSet<&'a str>, AllocError>
     ensures { IfOk result (IsNameSet (map string_bytes names.now)) }
 {
@@ -102,7 +102,7 @@ fn push_line(said: &mut Vec<u8>, path: &[u8], cause: Option<Cause>) -> Result<()
     Ok(())
 }
 
-/// Adds the line of a refusal to read a file, which is left out. Any other refusal is handed on.
+/// Adds the line of an error at reading a file, which is left out. Any other error is handed on.
 fn note(said: &mut Vec<u8>, refusal: Refusal) -> Result<(), Refusal>
     ensures noted { OnOk result (IsNoted refusal said.old.items said.new.items) }
     ensures refused { IfErr result (λ r. (r ≡ Plain ToolError.Memory) ⊎ (r ≡ refusal)) }
@@ -123,7 +123,7 @@ pub struct Unreadable {
     pub said: Vec<u8>,
 }
 
-/// Adds a chosen file, if reading it was refused since it can't be read. Any other refusal is handed on.
+/// Adds a chosen file, if it can't be read. Any other error is handed on.
 fn push_unread(
     alloc: Global,
     found: &mut Unreadable,
@@ -261,7 +261,7 @@ fn selected_less<D: System>(
     })
 }
 
-/// Chooses among the text files of both folders below the root, and reads the chosen ones, as [`selected`] does. Where
+/// Chooses among the text files of both folders below the root, and reads the chosen ones, as [`selected`] does. If
 /// `skip`, a chosen one that can't be read is left out.
 pub fn selected_readable<D: System>(
     alloc: Global,

@@ -1,4 +1,4 @@
-//! What the program asks of a file system, and the lines of what it refuses.
+//! What the program asks of a file system, and the lines of its errors.
 //!
 //! | Module | What it does |
 //! |---|---|
@@ -17,7 +17,7 @@
 //! | `parts` | new files of updates: whose they are, and what killed updates left |
 //! | `roots` | where a path below a root leads; `place` is such a place |
 //! | `memory` | a store in memory as such a system, for tests |
-//! | `refusals` | the line of each refusal |
+//! | `refusals` | the line of each error |
 #![tactic(auto)]
 
 mod devices;

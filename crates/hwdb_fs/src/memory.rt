@@ -26,7 +26,7 @@ use hwdb_sysfs::NO_ENTRY;
 use hwdb_text::counts;
 use std::alloc::{AllocError, Global};
 
-/// The path under which a step has a file stand.
+/// The path under which a step puts a file.
 fn made_by(step: &Step) -> Option<&[u8]>
     ensures { option_map (λ p. p.now) result ≡ made_by step.now }
 {
@@ -48,7 +48,7 @@ fn name_in<'a>(folder: &str, path: &'a [u8]) -> Option<&'a [u8]>
     }
 }
 
-/// What stands under a path after these steps, unless it is too long.
+/// What is under a path after these steps, unless it is too long.
 fn file_after(alloc: Global, steps: &[Step], path: &[u8]) -> Result<Option<Vec<u8>>, Refusal>
     ensures told { IsReadTo (λ found. option_map (λ v. v.items) found)
         (found_told (bytes_after steps.now path.now)) path.now result }
@@ -69,7 +69,7 @@ fn file_after(alloc: Global, steps: &[Step], path: &[u8]) -> Result<Option<Vec<u
     }
 }
 
-/// A file that has to stand there.
+/// A file that has to be there.
 fn read_after(alloc: Global, steps: &[Step], path: &[u8]) -> Result<Vec<u8>, Refusal>
     ensures told { IsReadTo (λ v. v.items) (file_told (bytes_after steps.now path.now))
         path.now result }
@@ -100,7 +100,7 @@ fn is_told(name: &[u8], ignored: bool) -> bool
     }
 }
 
-/// Whether a file with this name, one of those, stands in its folder, where its path is this one.
+/// Whether a file with this name, one of those, is in its folder, if its path is this one.
 fn is_told_file(
     alloc: Global,
     steps: &[Step],
@@ -117,7 +117,7 @@ fn is_told_file(
     Ok(state.now.is_some())
 }
 
-/// The name of such a file that a step has stand in a folder, if it stands there after all steps.
+/// The name of such a file that a step puts in a folder, if it is there after all steps.
 fn named_by<'a>(
     alloc: Global,
     steps: &[Step],
@@ -177,7 +177,7 @@ fn push_ignored(
     Ok(())
 }
 
-/// The names of the ignored files that stand in a folder after these steps.
+/// The names of the ignored files that are in a folder after these steps.
 fn ignored_after(alloc: Global, steps: &[Step], folder: &str) -> Result<Vec<Vec<u8>>, AllocError>
     ensures { IfOk result (λ names.
         AreIgnoredIn folder.now (seen_of steps.now) (map (λ n. n.items) names.items)) }

@@ -48,7 +48,7 @@ fn refused<T>(failed: &mut u64) -> Result<T, CallFailed>
     Err(CallFailed)
 }
 
-/// What was listed, or that memory was refused: the one error that says nothing of what is there. No command lists the
+/// What was listed, or that there was no memory: the one error that says nothing of what is there. No command lists the
 /// database's own path as a folder.
 fn listed_or_none<T>(listed: Result<T, Refusal>) -> Result<T, Refusal>
     ensures same { IfOk result (λ names. listed ≡ Result.Ok names) }
@@ -88,7 +88,7 @@ impl<'a, D> Overlay<'a, D> {
         }
     }
 
-    /// The database's bytes, copied. Refuses more of them than a file may have.
+    /// The database's bytes, copied. More of them than a file may have are an error.
     fn copy(&self, alloc: Global, path: &str) -> Result<Vec<u8>, Refusal>
         ensures told { IsReadTo (λ v. v.items) (told_bytes self.now.bytes.now) path.now result }
         ensures bytes { IfOk result (λ b. b.items ≡ self.now.bytes.now) }

@@ -41,7 +41,7 @@ impl<'a> Place<'a> {
         Ok(path)
     }
 
-    /// The text of the link that stands there, if one does.
+    /// The text of the link that is there, if one is.
     pub fn link<R: Files>(&self, rt: &R) -> io::Result<Option<PathBuf>> {
         let path = self.path()?;
         match rt.symlink_metadata(path.as_str()) {
@@ -52,7 +52,7 @@ impl<'a> Place<'a> {
         }
     }
 
-    /// Refuses what is no folder: it has none above it.
+    /// What is no folder is an error: it has none above it.
     pub fn check_folder<R: Files>(&self, rt: &R) -> io::Result<()> {
         let mut path = self.path()?;
         path.push_str("/.")?;
@@ -60,7 +60,7 @@ impl<'a> Place<'a> {
         Ok(())
     }
 
-    /// Goes on to a name in this place. The only error is that memory is refused.
+    /// Goes on to a name in this place. The only error is want of memory.
     pub fn enter(&mut self, name: &str) -> Result<(), AllocError>
         requires { IsName name.now }
         ensures { self.new.root ≡ self.old.root }

@@ -36,7 +36,7 @@ pub enum Kind {
     Device,
 }
 
-/// The answers of a file system to what reading asks. Each call may also say that memory was refused.
+/// The answers of a file system to what reading asks. Each call may also say that there was no memory.
 pub trait RawFiles {
     /// A file that was opened.
     type Opened: OpenedFile + Drop;

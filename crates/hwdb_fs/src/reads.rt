@@ -248,7 +248,7 @@ fn unless_memory(cause: Cause) -> Result<bool, AllocError>
     }
 }
 
-/// Whether something has the name of a path. What can't be told is there. The only error is that memory is refused.
+/// Whether something has the name of a path. What can't be told is there. The only error is want of memory.
 pub fn is_there<F: RawFiles>(files: &F, path: &str) -> Result<bool, AllocError>
     ensures { F.tells → IfOk result (λ there. there ≡ there_answer (F.entry files.now path.now)) }
 {
@@ -291,7 +291,7 @@ fn is_folder_kind(kind: Kind) -> bool
     matches!(kind, Kind::Folder)
 }
 
-/// Whether a folder is at a place. The only error is that memory is refused.
+/// Whether a folder is at a place. The only error is want of memory.
 fn is_folder<F: RawFiles>(files: &F, place: &str) -> Result<bool, AllocError>
     ensures { F.tells → IfOk result (λ folder. folder ≡ is_folder (F.kind files.now place.now)) }
 {

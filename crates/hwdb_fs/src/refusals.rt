@@ -1,4 +1,4 @@
-//! The lines of refusals on standard error.
+//! The lines of errors on standard error.
 ghost use Rattle.std.specs.Prelude.{◌≡◌, ◌++◌, ℕ, List, None, Some, codes, IfOk, OnErr, OnOk};
 ghost use Rattle.std.specs.Fmt.{decimal};
 ghost use Rattle.std.specs.List.{concat};
@@ -32,8 +32,8 @@ const END: &[u8] = b"\n";
 /// The place of the name in a line that has none.
 const NO_NAME: usize = 99;
 
-/// Writes the line of the refusal, at once; without memory for the whole line, in parts. Its path is the one that was given,
-/// as names are shown, and the words of its cause have no newline. Where `err` fails, nothing more can be said.
+/// Writes the line of the error, at once; without memory for the whole line, in parts. Its path is the one that was given,
+/// as names are shown, and the words of its cause have no newline. If `err` fails, nothing more can be said.
 pub fn refuse_for<E: Sink>(alloc: Global, refusal: &Refusal, err: &mut E)
     ensures line { (words : List ℕ) × IsOneLine words
         × Refused (refusal_line (refusal_text refusal.now words))
@@ -49,7 +49,7 @@ pub fn refuse_for<E: Sink>(alloc: Global, refusal: &Refusal, err: &mut E)
     }
 }
 
-/// Writes the line of a refusal over a path.
+/// Writes the line of an error at a path.
 fn refuse_over<E: Sink>(
     alloc: Global,
     error: ToolError,
@@ -75,7 +75,7 @@ fn refuse_over<E: Sink>(
     }
 }
 
-/// Writes the line of a refusal over a path: what failed, the path, and the cause where one is known.
+/// Writes the line of an error at a path: what failed, the path, and the cause if one is known.
 fn refuse_file<E: Sink>(alloc: Global, failed: &str, path: &[u8], cause: Option<Cause>, err: &mut E)
     ensures line { (words : List ℕ) × IsOneLine words
         × Refused (refusal_line (failed.now ++ file_text path.now cause words))
@@ -99,7 +99,7 @@ fn refuse_file<E: Sink>(alloc: Global, failed: &str, path: &[u8], cause: Option<
     }
 }
 
-/// Writes the line of a refusal that has no path.
+/// Writes the line of an error without a path.
 fn refuse_plainly<E: Sink>(alloc: Global, error: ToolError, err: &mut E)
     ensures line { Refused (refusal_line (error_text error))
         (E.taken err.old) (E.taken err.new) (E.failures err.old) (E.failures err.new) }
@@ -113,7 +113,7 @@ fn refuse_plainly<E: Sink>(alloc: Global, error: ToolError, err: &mut E)
     }
 }
 
-/// Writes the line of a fault of the database: its name, and where it has one its offset.
+/// Writes the line of a fault of the database: its name, and its offset if it has one.
 fn refuse_database<E: Sink>(alloc: Global, fault: DbFault, err: &mut E)
     ensures line { Refused (refusal_line
         (codes "bad database: " ++ at_offset (db_fault_name fault) (db_fault_offset fault)))
@@ -191,7 +191,7 @@ fn refuse_offset_at<E: Sink>(
     refuse_digits_at(alloc, path, name, digits.format(offset), remedy, err)
 }
 
-/// The same, where these are its digits.
+/// The same, if these are its digits.
 fn refuse_digits_at<E: Sink>(
     alloc: Global,
     path: &[u8],
@@ -239,7 +239,7 @@ fn refuse_words<E: Sink>(alloc: Global, err: &mut E, words: &[u8])
     refuse(alloc, err, &[BEGIN, words, END], NO_NAME)
 }
 
-/// Writes the line of refused memory. Takes none.
+/// Writes the line of want of memory. Takes none.
 pub fn refuse_memory<E: Sink>(err: &mut E)
     ensures line { Refused (refusal_line (codes "out of memory"))
         (E.taken err.old) (E.taken err.new) (E.failures err.old) (E.failures err.new) }

@@ -33,7 +33,7 @@ fn first_name(path: &str) -> Option<(&str, &str)>
     }
 }
 
-/// Goes on by a name. Where a link stands there, its text is returned, and the place is where that begins.
+/// Goes on by a name. If a link is there, its text is returned, and the place is where that begins.
 fn step<R: Files>(rt: &R, place: &mut Place<'_>, name: &str) -> io::Result<Option<PathBuf>>
     requires { has 47 name.now ≡ false }
     ensures { place.new.root ≡ place.old.root }
@@ -77,9 +77,9 @@ fn walk<'t, R: Files>(
     Ok(None)
 }
 
-/// Where a path leads inside a root. Names where nothing stands are kept, so that they can be made.
+/// Where a path leads inside a root. Names of nothing are kept, so that they can be made.
 ///
-/// Errors are a loop of links, a name below something that is no folder, and what the system refuses.
+/// Errors are a loop of links, a name below something that is no folder, and what the system says.
 fn place_in<R: Files>(alloc: Global, rt: &R, root: &str, path: &str) -> io::Result<String>
     ensures { IfOk result (λ place. IsBelow root.now (string_bytes place)) }
 {
@@ -147,7 +147,7 @@ impl Root {
         Ok(below)
     }
 
-    /// Takes a root; an empty one is none. Refuses what is no folder.
+    /// Takes a root; an empty one is none. What is no folder is an error.
     pub fn enter<R: Files>(&mut self, rt: &R, root: &str) -> Result<(), Refusal>
         ensures { IfErr result (IsUnentered root.now) }
     {
@@ -189,7 +189,7 @@ impl Root {
         }
     }
 
-    /// Where a path stands: where its folder leads, and its last name, which may be that of a link.
+    /// Where a path is: where its folder leads, and its last name, which may be that of a link.
     pub fn entry_of<R: Files>(&self, rt: &R, path: &str) -> io::Result<String> {
         match path.rsplit_once('/') {
             Some((folder, name)) => {

@@ -16,13 +16,13 @@ use std::alloc::{AllocError, Global};
 
 /// Files that the program reads, in a [`Store`] whose database it replaces.
 ///
-/// Each call reads, and changes nothing. Refuses what can't be read, with its path and the cause, and where memory is
-/// refused.
+/// Each call reads, and changes nothing. Errors are what can't be read, with its path and the cause, and want of
+/// memory.
 pub trait System: Store {
     /// A database that was opened.
     type Opened: OpenedFile + Drop;
 
-    /// Reading what stands at a path, or listing it, may fail, for whatever reason.
+    /// Reading what is at a path, or listing it, may fail, for whatever reason.
     ghost may_fail: { Self → List ℕ → Type 0 };
 
     /// What each read gives.
@@ -31,8 +31,8 @@ pub trait System: Store {
     /// A regular file is at the path, or the null device: no folder, pipe, socket or other device. A link is followed.
     ghost is_regular: { Self → List ℕ → Type 0 };
 
-    /// The names of a folder's text files, in no order; none where the folder isn't there. Other entries of the
-    /// folder never matter. Refuses a text file's name that isn't UTF-8, too.
+    /// The names of a folder's text files, in no order; none if the folder isn't there. Other entries of the
+    /// folder never matter. A text file's name that isn't UTF-8 is an error, too.
     fn names(&self, alloc: Global, folder: &str) -> Result<Vec<String>, Refusal>
         ensures names { Self.tells → IfOk result
             (λ names. AreNamesIn folder.now (Self.seen self.now) (map string_bytes names.items)) }
@@ -40,8 +40,8 @@ pub trait System: Store {
         ensures reason { IfErr result
             (HasReason (may_fail self.now) ⊥ (Self.seen self.now)) };
 
-    /// The names of the text files of the folder at a path, in no order; None if no folder is there. Refuses a folder that can't
-    /// be listed.
+    /// The names of the text files of the folder at a path, in no order; None if no folder is there. A folder that can't be
+    /// listed is an error.
     fn folder_names(&self, alloc: Global, path: &str) -> Result<Option<Vec<String>>, Refusal>
         ensures names { Self.tells → IfOk result (λ found. IsFolderAt path.now (Self.seen self.now)
             (option_map (λ names. map string_bytes names.items) found)) }
@@ -51,7 +51,7 @@ pub trait System: Store {
         ensures reason { IfErr result
             (HasReason (may_fail self.now) ⊥ (Self.seen self.now)) };
 
-    /// The bytes of a text file that a folder lists. Refuses what is no regular file: an open of a pipe would wait.
+    /// The bytes of a text file that a folder lists. What is no regular file is an error: an open of a pipe would wait.
     fn text(&self, alloc: Global, path: &str) -> Result<Vec<u8>, Refusal>
         ensures told { Self.tells → IsReadTo (λ v. v.items) ((reads self.now).text path.now)
             path.now result }
@@ -78,7 +78,7 @@ pub trait System: Store {
         ensures reason { IfErr result (HasReason
             (IsUnreadable (may_fail self.now) (Self.seen self.now)) ⊥ (Self.seen self.now)) };
 
-    /// The bytes of a database, or None where nothing stands at the path. Refuses what is no regular file.
+    /// The bytes of a database, or None if nothing is at the path. What is no regular file is an error.
     fn database(&self, alloc: Global, path: &str) -> Result<Option<Vec<u8>>, Refusal>
         ensures told { Self.tells → IsReadTo (λ found. option_map (λ v. v.items) found)
             ((reads self.now).database path.now) path.now result }
@@ -92,13 +92,13 @@ pub trait System: Store {
         ensures reason { IfErr result
             (HasReason (may_fail self.now) ⊥ (Self.seen self.now)) };
 
-    /// Whether something is at the path of a database, so that it is read; a link is something. Where that can't be told,
-    /// something is. The only error is that memory is refused.
+    /// Whether something is at the path of a database, so that it is read; a link is something. If that can't be told,
+    /// something is. The only error is want of memory.
     fn is_there(&self, alloc: Global, path: &str) -> Result<bool, AllocError>
         ensures { Self.tells → IfOk result
             (λ there. there ≡ is_some (bytes_at (Self.seen self.now) path.now)) };
 
-    /// Why the first call that failed did, where the system knows it. For messages alone: no promise speaks of it.
+    /// Why the first call that failed did, if the system knows it. For messages alone: no promise speaks of it.
     fn cause(&self) -> Option<Cause> {
         None
     }

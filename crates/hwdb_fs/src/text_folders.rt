@@ -9,8 +9,8 @@ use std::alloc::Global;
 
 /// A [`System`] that tells which files of its two folders of text files are none.
 pub trait TextFolders: System {
-    /// The names of the ignored files in the folder of /usr/lib or of /etc, in no order; none if the folder isn't there. Refuses a
-    /// folder that can't be listed.
+    /// The names of the ignored files in the folder of /usr/lib or of /etc, in no order; none if the folder isn't there. A
+    /// folder that can't be listed is an error.
     fn ignored_names(&self, alloc: Global, root: &str, usr: bool) -> Result<Vec<Vec<u8>>, Refusal>
         ensures names { Self.tells → IfOk result
             (λ names. AreIgnoredIn (text_folder usr root.now) (Self.seen self.now)

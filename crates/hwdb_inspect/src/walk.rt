@@ -6,7 +6,7 @@
 //!
 //! A node's own assignments are those of `hwdb_query`, by one call. The loop isn't: the descent there keeps at each open node what
 //! is known of the device, and passes over what can't match. That takes memory. This one enters all nodes and counts how deep they
-//! stand.
+//! are.
 ghost use Rattle.std.specs.Prelude.{◌≡◌, ◌<◌, ◌≤◌, ◌+◌, ◌++◌, ◌^◌, ℕ, All, List, [], None, map, max, reverse, length, is_some, true, IfNone, IfOk, IsSomeAnd, OnOk};
 ghost use Rattle.hwdb_spec.specs.Tree.{Tree, members_under, prefix_of};
 ghost use Rattle.hwdb_reader.specs.Unread.{file_at};

@@ -15,7 +15,7 @@ pub fn after_failure(failed: u64) -> u64
     failed.saturating_add(1)
 }
 
-/// Reads, and tries again where a signal came between.
+/// Reads, and tries again if a signal came between.
 fn read_on<R: Read>(reader: &mut R, buf: &mut [u8]) -> io::Result<usize>
     ensures bound { ReadsAtMost result buf.new }
     ensures bytes { ReadConsumes (R.remaining reader.old) (R.remaining reader.new) result buf.new }
@@ -29,7 +29,7 @@ fn read_on<R: Read>(reader: &mut R, buf: &mut [u8]) -> io::Result<usize>
     Err(io::Error::from(ErrorKind::Interrupted))
 }
 
-/// Writes, and tries again where a signal came between.
+/// Writes, and tries again if a signal came between.
 pub fn write_on<W: Write>(writer: &mut W, buf: &[u8]) -> io::Result<usize>
     ensures bound { WritesAtMost result buf.now }
     ensures bytes { WriteAppends (W.contents writer.old) (W.contents writer.new) result buf.now }

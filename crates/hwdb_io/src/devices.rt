@@ -7,7 +7,7 @@ use hwdb_spec::{Cause, DeviceFailed};
 
 /// Where bytes come from, shaped as std's `Read`.
 pub trait Source {
-    /// The bytes that are left, where the source tells them.
+    /// The bytes that are left, if the source tells them.
     ghost left: { Self → Option (List ℕ) };
     /// How many calls have failed so far, which stays at the greatest `u64`.
     ghost failures: { Self → ℕ };
@@ -18,7 +18,7 @@ pub trait Source {
         ensures bytes { ReadConsumes (left self.old) (left self.new) result buf.new }
         ensures cause { CountsFailures (failures self.old) (failures self.new) result };
 
-    /// Why the last call that failed did, where the source knows it. For messages alone: no promise speaks of it.
+    /// Why the last call that failed did, if the source knows it. For messages alone: no promise speaks of it.
     fn cause(&self) -> Option<Cause> {
         None
     }
@@ -26,7 +26,7 @@ pub trait Source {
 
 /// Where bytes go to, shaped as std's `Write`.
 pub trait Sink {
-    /// The bytes that were taken, where the sink tells them.
+    /// The bytes that were taken, if the sink tells them.
     ghost taken: { Self → Option (List ℕ) };
     /// All bytes that were taken were handed on, and none is held back. After a write that need not be.
     ghost is_flushed: { Self → Type 0 };
@@ -46,7 +46,7 @@ pub trait Sink {
         ensures flushed { OnOk result (is_flushed self.new) }
         ensures cause { CountsFailures (failures self.old) (failures self.new) result };
 
-    /// Why the last call that failed did, where the sink knows it. For messages alone: no promise speaks of it.
+    /// Why the last call that failed did, if the sink knows it. For messages alone: no promise speaks of it.
     fn cause(&self) -> Option<Cause> {
         None
     }

@@ -1,4 +1,4 @@
-//! A sink over fixed memory, for tests: it tells its bytes, takes no memory and fails where it is told to.
+//! A sink over fixed memory, for tests: it tells its bytes, takes no memory and fails as it is told to.
 ghost use Rattle.std.specs.Prelude.{◌≡◌, ◌≤◌, Some, take, true};
 
 use crate::adapters::after_failure;

@@ -12,7 +12,7 @@ use std::alloc::{AllocError, Global};
 /// A front of more bytes isn't looked at for what could come after it (our choice).
 const LONGEST_FRONT: usize = 256;
 
-/// The bytes below this are looked at first. Where any byte may be, these are of more runs than are named.
+/// The bytes below this are looked at first. If any byte may be there, these are of more runs than are named.
 const FIRST: u8 = 64;
 
 /// What is said of a clean text, if it is a pattern. The only error, here and below, is `AllocError`.
@@ -47,7 +47,7 @@ pub fn judgement_text(judgement: Judgement) -> &'static str
     }
 }
 
-/// After how many bytes of its line a judgement stands.
+/// After how many bytes of its line a judgement is.
 pub fn judgement_place(judgement: Judgement) -> usize
     ensures { result ≡ Unmatched.judgement_place judgement }
 {

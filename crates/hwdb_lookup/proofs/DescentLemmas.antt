@@ -192,7 +192,7 @@ module _ (file : List ℕ) (o : OpenNode) (stack : List OpenNode) (found : List 
         whole = ap (λ r. found ++ r) (sym (t.6 ∙ ap (λ w. w ++ t.1) (ends (t.4).from t.0 (t.4).rest))) ∙ c.whole;
       }
 
-  -- it stands below its next child
+  -- it is below its next child
   pub goes_down : (d : Descent) (k : Candidate) → stack_of d ≡ record o { done = k.done } ∷ stack → found_in d ≡ found → d.left ≡ left
       → ((from : ℕ) (w : List Assignment) → Rest file o o.done from w → Next file o from w k)
       → Enters file o.node.frame.sizes o.levels k.off (o.path.items ++ k.byte ∷ []) o.reach.device d all

@@ -52,7 +52,7 @@ front_step p x xs y ys first rest false is =
     let there : take_while p (y ∷ ys) ≡ [] = take_while-cons p y ys ∙ ap (λ t. cond t (y ∷ take_while p ys) []) (sym (ap p first) ∙ is) in
     here ∙ sym there
 
--- what a test passes at the front is the same where the two agree so far, and at the first that fails
+-- what a test passes at the front is the same if the two agree so far, and at the first that fails
 front_same : (p : ℕ → Bool) (xs ys : List ℕ) → length xs ≡ length ys → ((j : ℕ) → j ≤ length (take_while p xs) → j < length xs → slice_index xs j ≡ slice_index ys j) → take_while p xs ≡ take_while p ys
 front_same p [] [] size same = refl
 front_same p [] (y ∷ ys) size same = absurd (omega (arith, size))
@@ -64,7 +64,7 @@ front_same p (x ∷ xs) (y ∷ ys) size same =
     front_same p xs ys (omega (arith, size)) (λ j within below. same (suc j) (omega (arith, within, long)) (omega (arith, below))))
     (p x) refl
 
--- a string is the same where the two agree as far as the byte 0 after it
+-- a string is the same if the two agree as far as the byte 0 after it
 pub text_same : (a b : List ℕ) (i to : ℕ) → length a ≡ length b → ((j : ℕ) → j ≤ length (text_at a i) → i + j < length a → i + j < to) → AgreeIn a b i to → text_at a i ≡ text_at b i
 unfolding text_at
 text_same a b i to size reach same =
@@ -93,7 +93,7 @@ part_same p (suc n) (x ∷ xs) (y ∷ ys) size same =
     part_step p n x xs y ys (same 0 (omega arith) (omega arith))
     (part_same p n xs ys (omega (arith, size)) (λ j lt below. same (suc j) (omega (arith, lt)) (omega (arith, below)))) (p x) refl
 
--- the front of a string is the same where the two agree in so many bytes
+-- the front of a string is the same if the two agree in so many bytes
 pub text_front_same : (a b : List ℕ) (i most to : ℕ) → length a ≡ length b → ((j : ℕ) → j < most → i + j < length a → i + j < to) → AgreeIn a b i to → take most (text_at a i) ≡ take most (text_at b i)
 unfolding text_at
 text_front_same a b i most to size reach same =

@@ -19,7 +19,7 @@ use Rattle.hwdb_lookup.specs.declared.parts.Parts.TheVariants.{Blocks, Windows}
 use Rattle.hwdb_lookup.specs.declared.stop.Stop.{Stop}
 use Rattle.hwdb_lookup.specs.declared.stop.Stop.TheVariants.{Missing, Fault, LongPath, Memory}
 
--- why it stops stays so where more is said of a file
+-- why it stops stays so if more is said of a file
 pub stops_weaker : (known : Parts) (P Q : List ℕ → Type 0) → ((file : List ℕ) → MayBeOf known file → Q file → P file) → (s : Stop) → Halts known P s → Halts known Q s
 stops_weaker known P Q more (Missing block) h = h
 stops_weaker known P Q more (Fault fault) h = λ file is q. h file is (more file is q)

@@ -1,4 +1,4 @@
--- What comparing a device with a database's patterns refuses. Our choice.
+-- The errors of comparing a device with a database's patterns. Our choice.
 use Rattle.std.specs.Prelude.{List, ℕ}
 use Rattle.hwdb_spec.specs.declared.errors.NearError.{NearError}
 use Rattle.hwdb_spec.specs.declared.errors.NearError.TheVariants.{Database, Memory}

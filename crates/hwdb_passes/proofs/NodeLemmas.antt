@@ -55,7 +55,7 @@ module _ (l : Layout) (file : List ℕ) where
   unfolding NodeText count
   children_none nodes height limit off i stand = record { ks = NoMore; from = off; many = refl; text = λ byte lt. refl; stand = stand }
 
-  -- the child before them is the last node that stands
+  -- the child before them is the last node that is there
   pub children_more : (more : List (ℕ × ℕ)) (o h height height' limit c off i n : ℕ) → h ≤ height' → height ≤ height' → c ≡ child_byte file (child_entry l off i) → c < limit
       → child_off file (child_entry l off i) ≡ o → ChildrenStand l file ((o, h) ∷ more) height limit off (suc i) n → ChildrenStand l file more height' c off i (suc n)
   unfolding NodeText Stand count
@@ -156,7 +156,7 @@ pub row_taken : (l : Layout) (file offsets heights : List ℕ) (n m x d end : �
 row_taken l file offsets heights n m x d end lo lh more stand =
     subst (λ k. Stand l file (pending (set offsets n x) (set heights n d) k) end) (sym more) (subst (λ (nodes : List (ℕ × ℕ)). Stand l file nodes end) (sym (row_added offsets heights n x d lo lh)) stand)
 
--- the root alone stands
+-- the root alone is there
 pub root_stands : (o : Outline) (file offsets heights : List ℕ) (n at : ℕ) → IsOf o file → n ≡ 1 → slice_index offsets 0 ≡ o.frame.sizes.root → slice_index heights 0 ≤ max_levels
     → at ≡ o.frame.sizes.strings → Stands file (pending offsets heights n) at → (t : Tree) × IsDatabase file t
 unfolding Stand pending

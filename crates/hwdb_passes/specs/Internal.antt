@@ -22,7 +22,7 @@ abbrev pub ValuesStand : Layout → List ℕ → (entry : ℕ) (next : Option �
 ValuesStand l file entry next n =
     (before : Option (List ℕ)) → MatchOption next (Unit {0}) (λ key. IsAbove before (text_at file key)) → ValuesText l file entry before (values_at l file entry n)
 
--- Some nodes stand, and after them the texts of the children of the record at `off`, of so many levels, from number i
+-- Some nodes are there, and after them the texts of the children of the record at `off`, of so many levels, from number i
 -- on. Their bytes are above each that is below `limit`.
 pub record ChildrenStand (l : Layout) (file : List ℕ) (nodes : List (ℕ × ℕ)) (height limit off i n : ℕ) : Type 0 where
   pub ks : Children

@@ -5,7 +5,7 @@
 //! has to end at the device's end.
 //!
 //! A stretch is tried at each place of the device at most, so the steps are at most the pattern's length times the
-//! device's. The bytes that begin a stretch and stand for themselves are compared many at once. The last stretch isn't
+//! device's. The bytes that begin a stretch and mean themselves are compared many at once. The last stretch isn't
 //! tried before the place from which it leads to the device's end.
 //!
 //! Such a search would read an open `[` anew each time, up to the pattern's end. So two things are found out before:
@@ -80,7 +80,7 @@ fn run(pattern: &[u8], device: &[u8], close: usize, opens: &[bool]) -> Option<Se
     Some(SearchState { at, met })
 }
 
-/// Whether the byte at a place is a token that stands for itself. If not, it may be one still.
+/// Whether the byte at a place is a token that means itself. If not, it may be one still.
 fn is_plain(pattern: &[u8], at: usize, close: usize, opens: &[bool]) -> bool
     requires closes { NoneCloses pattern.now close }
     requires opens { AreOpen pattern.now opens.now }
@@ -94,7 +94,7 @@ fn is_plain(pattern: &[u8], at: usize, close: usize, opens: &[bool]) -> bool
     stands_for_itself(pattern[at])
 }
 
-/// How many of the pattern's first bytes are tokens that stand for themselves.
+/// How many of the pattern's first bytes are tokens that mean themselves.
 fn plain_size(pattern: &[u8], close: usize, opens: &[bool]) -> usize
     requires closes { NoneCloses pattern.now close }
     requires opens { AreOpen pattern.now opens.now }
@@ -108,7 +108,7 @@ fn plain_size(pattern: &[u8], close: usize, opens: &[bool]) -> usize
     at
 }
 
-/// Whether the device begins with the pattern's first bytes, so many of them, which stand for themselves. The last of
+/// Whether the device begins with the pattern's first bytes, so many of them, which mean themselves. The last of
 /// them is looked at first: it often tells.
 fn begins_alike(pattern: &[u8], device: &[u8], plain: usize) -> bool
     requires within { plain ≤ length pattern.now }
@@ -124,7 +124,7 @@ fn begins_alike(pattern: &[u8], device: &[u8], plain: usize) -> bool
     &device[..plain] == &pattern[..plain]
 }
 
-/// As `run`. The pattern's first bytes, so many of them, stand for themselves: they are compared at once before.
+/// As `run`. The pattern's first bytes, so many of them, mean themselves: they are compared at once before.
 fn run_alike(
     pattern: &[u8],
     device: &[u8],

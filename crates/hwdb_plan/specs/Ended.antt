@@ -91,7 +91,7 @@ Leaves (Streams text) before now result =
 Leaves (Replaces folder bytes said status) before now result =
     ReplacesWith folder bytes said status before.files now.files before.err now.err result × (now.out ≡ before.out)
 
--- memory was refused before anything was done
+-- there was no memory before anything was done
 abbrev pub IsForgone : (before now : World) → Result ℕ Refusal → Type 0
 IsForgone before now result = IsErrAnd result (λ r. r ≡ refusal.Plain Memory) × (outs_of now ≡ outs_of before) × AreKept before.files now.files
 
@@ -99,6 +99,6 @@ IsForgone before now result = IsErrAnd result (λ r. r ≡ refusal.Plain Memory)
 abbrev pub Does : Reads → Plan → (before now : World) → Result ℕ Refusal → Type 0
 Does w p before now result = ((e : End) × Ends w p e × Leaves e before now result) ⊎ IsForgone before now result
 
--- memory was refused before the database was put in its place
+-- there was no memory before the database was put in its place
 abbrev pub IsUnput : (before now : Files) (err_before err_now : Told) → Result ℕ Refusal → Type 0
 IsUnput before now err_before err_now result = IsErrAnd result (λ r. r ≡ refusal.Plain Memory) × (err_now ≡ err_before) × AreKept before now

@@ -60,12 +60,12 @@ Ends w (Decode bytes bad next) end = ((t : Tree) × IsDatabase bytes t × Ends w
 Ends w (Compile etc usr most bad next) end =
     ((bytes : List ℕ) × AreMadeOf etc usr most bytes × Ends w (next bytes) end) ⊎ ((e : CompileError) × AreTooMuch etc usr most e × (end ≡ Stops (bad e)))
 
--- the result is what the plan ends in, or memory was refused
+-- the result is what the plan ends in, or there was no memory
 abbrev pub Follows : {Y : Type 0} (end_of : Y → End) → Reads → Plan → Result Y Refusal → Type 0
 Follows end_of w p result =
     MatchResult result (λ y. Ends w p (end_of y)) (λ r. (r ≡ refusal.Plain error.Memory) ⊎ Ends w p (Stops (stop_of r)))
 
--- the result is a path with its bytes, from which the plan goes on; or what the plan ends in, whatever was to follow; or memory was refused
+-- the result is a path with its bytes, from which the plan goes on; or what the plan ends in, whatever was to follow; or there was no memory
 abbrev pub Reaches : {Y : Type 0} (path bytes : Y → List ℕ) → Reads → (Next → Plan) → Result Y Refusal → Type 0
 Reaches path bytes w p result =
     MatchResult result (λ y. (next : Next) (e : End) → Ends w (next (path y) (bytes y)) e → Ends w (p next) e)

@@ -122,7 +122,7 @@ pub record AreAnswered (form : Form) (t : Tree) (count : ℕ) (is_first : Bool) 
   pub first : is_first ≡ is_none done
   pub wrote : Appends u v (texts_of form done t)
 
--- the same, where the lines are told
+-- the same, if the lines are told
 abbrev pub AreAnsweredOf : (form : Form) (t : Tree) (count : ℕ) (is_first : Bool) (a b u v : Option (List ℕ)) → Type 0
 AreAnsweredOf form t count is_first None b u v = Unit {0}
 AreAnsweredOf form t count is_first (Some x) None u v = ⊥
@@ -274,7 +274,7 @@ module _ (form : Form) (t : Tree) where
       long_of_all : Any (λ (l : List ℕ). max_file < length l) rest → Any (λ (l : List ℕ). max_file < length l) all
       long_of_all a = subst (λ (ls : List (List ℕ)). Any (λ (l : List ℕ). max_file < length l) ls) (sym so_far.cut) (any_later done a)
 
-    -- ---- where the lines are told
+    -- ---- if the lines are told
     abbrev SoFar : (a b u v : Option (List ℕ)) → Type 0
     SoFar a b u v = AreAnsweredOf form t count is_first a b u v
 
@@ -365,7 +365,7 @@ before_weaker Is Js f error lines u v h = by error h
     by BadPosition wrote = some wrote
     by (Replace unreplaced) wrote = some wrote
 
--- the same of an answer, where the lines are told
+-- the same of an answer, if the lines are told
 pub told_before : {T : Type 0} (Is Js : List (List ℕ) → List ℕ → Type 0) → ((lines : List (List ℕ)) (text : List ℕ) → Is lines text → Js lines text)
     → (r : Result T ToolError) (a u v : Option (List ℕ)) → IfErr r (λ e. IfSome a (λ xs. IsPrintedBefore e Is (devices_of xs) u v)) → IfErr r (λ e. IfSome a (λ xs. IsPrintedBefore e Js (devices_of xs) u v))
 told_before Is Js f (Ok x) a u v h = tt

@@ -115,7 +115,7 @@ number_stays t h =
 
 -- ---- what is read in a string
 
--- a piece of a string's text stands for bytes
+-- a piece of a string's text means bytes
 record Reads (bytes text : List ℕ) : Type 0 where
   read : (r : List ℕ) → content plain (text ++ r) ≡ prepend bytes (content plain r)
   lexed : (r : List ℕ) → lex in_string (text ++ r) ≡ lex in_string r

@@ -61,7 +61,7 @@ past_by : (t : Bool) (n m : ℕ) → t ≡ false → n ≤ m → suc n ≤ cond 
 past_by true n m e h = absurd (true≢false e)
 past_by false n m e h = omega (arith, h)
 
--- nor does it where a part without one stands in front
+-- nor does it if a part without one is in front
 pub past : (a b c : List ℕ) → has 10 a ≡ false → length a + position_or_len (is 10) b ≤ position_or_len (is 10) (a ++ (b ++ c))
 past [] b c p = omega (arith, later b c)
 past (x ∷ xs) b c p =
@@ -75,7 +75,7 @@ front_by false x n xs e p =
     ap (λ (k : ℕ). has 10 (take k (x ∷ xs))) (let s : 1 + n ≡ suc n = omega arith in s)
     ∙ ap (λ (t : Bool). t || has 10 (take n xs)) e ∙ p
 
--- no newline stands before the first
+-- no newline is before the first
 pub none_in_front : (xs : List ℕ) → has 10 (take (position_or_len (is 10) xs) xs) ≡ false
 none_in_front [] = refl
 none_in_front (x ∷ xs) = front_by (is 10 x) x (position_or_len (is 10) xs) xs refl (none_in_front xs)
@@ -93,7 +93,7 @@ pub cut : (xs : List ℕ) → position_or_len (is 10) xs < length xs → xs ≡ 
 cut [] h = absurd (omega arith)
 cut (x ∷ xs) h = cut_by (is 10 x) x (position_or_len (is 10) xs) xs refl (cut xs) h
 
--- ---- where a byte first stands
+-- ---- where a byte first is
 
 -- ---- a line that was read so far
 

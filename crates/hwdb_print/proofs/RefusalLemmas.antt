@@ -1,4 +1,4 @@
--- Which refusal an error of a crate below becomes.
+-- Which error one of a crate below becomes.
 use Rattle.std.proofs.Common.{◌≡◌, ◌≢◌, ℕ, List, [], Option, None, Some, refl, ap, arith, sym, subst, Result, Ok, Err, IfErr}
 use Rattle.std.specs.Option.{option_copied}
 use Rattle.hwdb_query.specs.Views.{given_position, next_position}
@@ -52,7 +52,7 @@ other_than_write : (e : ToolError) → (is_write e → ⊥) → e ≢ Write
 unfolding is_write
 other_than_write e other is = let P : ToolError → Type 0 = λ x. is_write x → ⊥ in subst P is other tt
 
--- what the compiler refuses of the one file
+-- the compiler's errors of the one file
 module _ {X : Type 0} where
   pub lone_refused : (bytes : List ℕ) (max_bytes : ℕ) (q : CompileError) (r : Result X ToolError) → IsErrAnd r (λ e. e ≡ refusal_of_compile q)
       → IsRefusal (lone bytes) [] max_bytes q → IfErr r (λ e. (e ≢ Write) × IsAskRefusal bytes max_bytes e)
@@ -66,7 +66,7 @@ module _ {X : Type 0} where
   lone_refused bytes max_bytes compiling.Memory (Err e) h refusal =
       let P : ToolError → Type 0 = λ x. (x ≢ Write) × IsAskRefusal bytes max_bytes x in subst P (sym h) (memory_is_no_write, tt)
 
--- a database of a map isn't refused
+-- a database of a map is taken
 module _ {X : Type 0} where
   pub asked_refused : (bytes database : List ℕ) (m : Map) (max_bytes : ℕ) (q : ToolError) (r : Result X ToolError) → IsErrAnd r (λ e. e ≡ q)
       → IsDatabaseRefusal database q → IsDatabaseOf m database → IfErr r (λ e. (e ≢ Write) × IsAskRefusal bytes max_bytes e)

@@ -90,7 +90,7 @@ same_answers (Explain false) devices etc usr t last =
 same_answers (Explain true) devices etc usr t last =
     same_lines (λ d. explain_json d t) (λ d. explained_json d etc usr) (λ d. ap (λ (a : List Assignment). explanations_json d (explained a)) (last d)) devices
 
--- what follows where the bytes are told
+-- what follows if the bytes are told
 pub some_weaker : (o : Option (List ℕ)) (P Q : List ℕ → Type 0) → ((x : List ℕ) → P x → Q x) → IfSome o P → IfSome o Q
 some_weaker None P Q f h = tt
 some_weaker (Some x) P Q f h = f x h

@@ -17,7 +17,7 @@ use Rattle.hwdb_spec.specs.Streams.{texts_of}
 abbrev pub AppendsLines : (Assignment → List ℕ) → Option (List ℕ) → Option (List ℕ) → List Assignment → Type 0
 AppendsLines line before now hits = (n : ℕ) × Appends before now (flat_map line (take n hits))
 
--- a text, and in front of it an empty line where it isn't the first
+-- a text, and in front of it an empty line if it isn't the first
 abbrev pub text_behind : (is_first : Bool) → List ℕ → List ℕ
 text_behind true text = text
 text_behind false text = byte "\n" ∷ text

@@ -1,4 +1,4 @@
--- What the calls that read a database write, and what they refuse (systemd-hwdb(8)); `list` is our choice.
+-- What the calls that read a database write, and their errors (systemd-hwdb(8)); `list` is our choice.
 use Rattle.std.specs.Prelude.{ℕ, List, Bool, true, false, ◌≡◌, ◌≢◌, Option, take, option_map, flat_map, ◌-◌}
 use Rattle.hwdb_spec.specs.Asked.{IsFrom}
 use Rattle.hwdb_spec.specs.Assignment.{Assignment, Position}
@@ -24,7 +24,7 @@ pub record IsLastList (json : Bool) (device : List ℕ) (after : Option (List �
 abbrev pub TookLines : (Assignment → List ℕ) → List Assignment → (before now : Option (List ℕ)) (failures_before failures_now : ℕ) → Type 0
 TookLines line hits before now failures_before failures_now = (n : ℕ) × Took (flat_map line (take n hits)) before now failures_before failures_now
 
--- what printing may refuse
+-- which errors printing may end with
 abbrev pub IsPrintRefusal : ToolError → Type 0
 IsPrintRefusal Write = Unit {0}
 IsPrintRefusal Memory = Unit {0}

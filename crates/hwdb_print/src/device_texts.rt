@@ -65,7 +65,7 @@ fn explanation_json(alloc: Global, db: &Db<'_>, device: &[u8]) -> Result<Vec<u8>
 
 /// What is printed of a device, after those before it.
 ///
-/// The only error is that memory is refused.
+/// The only error is want of memory.
 pub fn text_of_device(
     alloc: Global,
     db: &Db<'_>,
@@ -87,7 +87,7 @@ pub fn text_of_device(
 
 /// What is printed of devices, one after another.
 ///
-/// The only error is that memory is refused.
+/// The only error is want of memory.
 pub fn texts_of_devices(
     alloc: Global,
     db: &Db<'_>,

@@ -90,7 +90,7 @@ fn push_explanation(
 
 /// A line for each key.
 ///
-/// The only error is that memory is refused.
+/// The only error is want of memory.
 pub fn explanation_lines_json(
     alloc: Global,
     device: &[u8],

@@ -11,7 +11,7 @@ use hwdb_show::{ended, put_member, put_number, put_text};
 use json::Writer;
 use std::alloc::{AllocError, Global};
 
-/// Adds a property as a member, where its key is UTF-8.
+/// Adds a property as a member, if its key is UTF-8.
 fn put_if_named(json: &mut Writer, key: &[u8], value: &[u8]) -> Result<(), AllocError>
     ensures before { json.new.before ≡ json.old.before }
     ensures tokens { OnOk result (json.new.tokens ≡ json.old.tokens
@@ -130,7 +130,7 @@ fn put_device(
 
 /// The line of a device and its properties.
 ///
-/// The only error is that memory is refused.
+/// The only error is want of memory.
 pub fn device_line(
     alloc: Global,
     device: &[u8],
@@ -165,7 +165,7 @@ fn put_hit(json: &mut Writer, position: &[u8], hit: &Hit<'_>) -> Result<(), Allo
 
 /// The line of a hit.
 ///
-/// The only error is that memory is refused.
+/// The only error is want of memory.
 pub fn hit_json_line(alloc: Global, hit: &Hit<'_>) -> Result<Vec<u8>, AllocError>
     ensures { IfOk result (λ line. line.items ≡ json_line (hit_json (assignment_of_hit hit.now))) }
 {

@@ -41,7 +41,7 @@ fn lines_of_properties(
     }
 }
 
-/// The same, or None if memory is refused.
+/// The same, or None if there is no memory.
 fn text_of_properties(
     alloc: Global,
     device: &[u8],
@@ -90,7 +90,7 @@ fn text_of_kept<P: Places>(
     None
 }
 
-/// What `query` prints of devices, of a file that was accepted. None if anything fails: memory is refused, a window isn't
+/// What `query` prints of devices, of a file that was accepted. None if anything fails: there is no memory, a window isn't
 /// read, or a lookup needs the whole file.
 pub fn texts_of_kept<P: Places>(
     alloc: Global,

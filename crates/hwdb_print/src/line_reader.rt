@@ -25,7 +25,7 @@ impl LineReader {
         }
     }
 
-    /// Reads on, where all was handed on, and answers whether there was more.
+    /// Reads on, if all was handed on, and answers whether there was more.
     ///
     /// The only error is that the source fails.
     fn refill<I: Source>(&mut self, source: &mut I) -> Result<bool, DeviceFailed>
@@ -44,7 +44,7 @@ impl LineReader {
     /// Hands on what is held up to a newline, or all, after a line's beginning, and answers whether that was the whole
     /// line.
     ///
-    /// Refuses a line of more bytes than `max_bytes`, and memory.
+    /// Errors are a line of more bytes than `max_bytes`, and want of memory.
     fn take_line(&mut self, line: &mut Vec<u8>, max_bytes: u32) -> Result<bool, ReadError>
         requires begun { vec_len line.old ≤ max_bytes }
         ensures taken { IfOk result
@@ -69,10 +69,10 @@ impl LineReader {
         Ok(false)
     }
 
-    /// The next line, without its newline, if there is one; the last may have none. It reads on only where no whole line
+    /// The next line, without its newline, if there is one; the last may have none. It reads on only if no whole line
     /// is held. Each byte is searched once and copied once.
     ///
-    /// Refuses a source that fails, a line of more bytes than `max_bytes` (so that it returns also on a source that
+    /// Errors are a source that fails, a line of more bytes than `max_bytes` (so that it returns also on a source that
     /// never ends), and memory.
     pub fn next_line<I: Source>(
         &mut self,

@@ -40,7 +40,7 @@ fn lone_choice(alloc: Global) -> Result<Chosen, AllocError>
 
 /// What one text file alone gives a device, as the etc file `1.hwdb`. Its fault lines have `file` as the path.
 ///
-/// Refuses more lines than can be counted, a database that is too large, and memory.
+/// Errors are more lines than can be counted, a database that is too large, and want of memory.
 #[tactic(auto, unfolding(hwdb_spec::specs::Assignment::ascending, hwdb_spec::specs::Assignment::put))]
 pub fn ask_texts(
     alloc: Global,

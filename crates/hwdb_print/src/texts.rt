@@ -34,7 +34,7 @@ pub fn push_property(text: &mut Vec<u8>, key: &[u8], value: &[u8]) -> Result<(),
 }
 
 /// Makes a text the line of a hit: its position, a tab, the pattern, a tab, the property. The line takes the text's
-/// memory, and more only where it is longer.
+/// memory, and more only if it is longer.
 pub fn set_hit_line(line: &mut Vec<u8>, hit: &Hit<'_>) -> Result<(), AllocError>
     ensures { OnOk result (line.new.items ≡ hit_text (assignment_of_hit hit.now)) }
 {
@@ -47,7 +47,7 @@ pub fn set_hit_line(line: &mut Vec<u8>, hit: &Hit<'_>) -> Result<(), AllocError>
     Ok(())
 }
 
-/// Adds where a fault stands: the path, as names are shown, `:`, the line's number.
+/// Adds where a fault is: the path, as names are shown, `:`, the line's number.
 pub fn push_place(text: &mut Vec<u8>, path: &[u8], line: u32) -> Result<(), AllocError>
     ensures { OnOk result (text.new.items ≡ text.old.items ++ place_text path.now line) }
 {
@@ -58,7 +58,7 @@ pub fn push_place(text: &mut Vec<u8>, path: &[u8], line: u32) -> Result<(), Allo
     Ok(())
 }
 
-/// Adds the line of a fault: where it stands, `: `, what is wrong.
+/// Adds the line of a fault: where it is, `: `, what is wrong.
 fn push_fault(text: &mut Vec<u8>, path: &[u8], fault: Fault) -> Result<(), AllocError>
     ensures { OnOk result (text.new.items ≡ text.old.items ++ fault_line path.now fault) }
 {

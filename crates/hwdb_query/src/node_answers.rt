@@ -44,7 +44,7 @@ fn offer<'a>(
 
 /// Adds what the values of a node assign at a pattern, by their keys. The answers share one copy of the pattern.
 ///
-/// The only error is that memory is refused.
+/// The only error is want of memory.
 pub fn push_answers<'a>(
     alloc: Global,
     inside: Inside<'a>,

@@ -16,7 +16,7 @@ use std::alloc::{AllocError, Global};
 
 /// A cursor as [`cursor`] makes it, for a caller whose page isn't 0.
 ///
-/// The only error is that memory is refused.
+/// The only error is want of memory.
 pub fn paged_cursor<'a, 'd>(
     alloc: Global,
     db: &Db<'a>,

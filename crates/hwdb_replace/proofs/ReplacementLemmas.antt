@@ -90,7 +90,7 @@ module _ (folder part bytes : List ℕ) (old mid : Contents) (before between : O
       others : (p : List ℕ) → p ≢ Target → new p ≡ old p
       others p nt = ⊎_elim (λ e. same p ∙ ap settled e ∙ done.gone ∙ sym (ap old e ∙ made.is.free)) (λ ne. same p ∙ done.others p ne nt ∙ made.seen.others p ne) (one_or_two p part)
 
--- what a refused making left
+-- what a making that failed left
 pub seen_of : (folder bytes : List ℕ) (old new : Contents) (e : Unreplaced) (r : Result (Unit {0}) Unreplaced) → IsErrAnd r (λ x. x ≡ e) → (e ≢ LeftBehind) × (e ≢ Unsynced) → Same old new
     → (e ≡ NamesTaken → AreTaken folder most_parts old) → IfErr r (IsSeenThen folder bytes old new)
 seen_of folder bytes old new e (Ok x) is others same taken = tt

@@ -47,7 +47,7 @@ or_true : (b : Bool) → (b || true) ≡ true
 or_true true = refl
 or_true false = refl
 
--- what may be left once something else stands there
+-- what may be left once something else is there
 pub changed_left : (now : Option Stored) (s : Traces) (v : Option Stored) → MayLeave (changed now false s) v → MayLeave s v ⊎ (v ≡ now)
 changed_left now s v (inl is) = inr is
 changed_left now s v (inr (inl was)) = ⊎_elim (λ b. inl (inr (inl b))) (λ one. inl (inl (only_member s.now v one))) (Contains-append_cases s.before (s.now ∷ []) v was)

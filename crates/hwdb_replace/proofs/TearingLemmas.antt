@@ -40,7 +40,7 @@ apart p q ne = by (bytes_eq p q) refl
     by true is = absurd (ne ((bytes_eq-Decides p q).0 is))
     by false is = is
 
--- what stands under the second path then, by whether a path is itself, and whether it is the first one
+-- what is under the second path then, by whether a path is itself, and whether it is the first one
 trace : (b c : Bool) (old new : Stored) → Traces
 trace b c old new =
     let put_old : Traces = cond b (changed (Some old) true begin) begin in

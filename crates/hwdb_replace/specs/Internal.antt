@@ -58,7 +58,7 @@ pub record NotMade (old new : Contents) (before now : Outcomes) : Type 0 where
   pub seen : Same old new
   pub crash : NoMore before now
 
--- the new file, which was empty, has the bytes, and stands under the other path
+-- the new file, which was empty, has the bytes, and is under the other path
 pub record Settled (part target bytes : List ℕ) (old new : Contents) (before now : Outcomes) : Type 0 where
   pub there : new target ≡ Some (database_file bytes)
   pub gone : new part ≡ None

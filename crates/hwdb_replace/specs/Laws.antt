@@ -19,7 +19,7 @@ pub record UnsyncedFilesTear : Type 0 where
   pub neither : (path : List ℕ) (a b : ℕ) → left_unsynced path (a ∷ (b ∷ [])) (Some (part_file []))
   pub missing : (path : List ℕ) (a b : ℕ) → left_unsynced path (a ∷ (b ∷ [])) None
 
--- what a crash may leave where a file that was synced has taken another one's name, and the names weren't synced
+-- what a crash may leave if a file that was synced has taken another one's name, and the names weren't synced
 abbrev pub left_renamed : (from to : List ℕ) (old new : Stored) → Option Stored → Type 0
 left_renamed from to old new =
     outcomes_after (put to old ∷ (synced to ∷ (names_synced ∷ (put from new ∷ (synced from ∷ (moved from to new false ∷ [])))))) to

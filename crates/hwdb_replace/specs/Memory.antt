@@ -13,7 +13,7 @@ use Rattle.hwdb_replace.specs.declared.memory.Step.TheVariants.{Changed, Synced,
 abbrev pub stored : File → Stored
 stored f = record { bytes = f.bytes.items; mode = f.mode }
 
--- the call that a step stands for
+-- the call that a step is
 abbrev pub event : Step → Event
 event (Changed path file) = put path.items (stored file)
 event (Synced path) = synced path.items
@@ -57,7 +57,7 @@ from_now_of xs p v left = (length xs, omega arith, omega arith, subst (λ l. lef
 pub earlier_of : (xs : List Step) (t u : ℕ) (p : List ℕ) (v : Option Stored) → t ≤ u → since_of xs u p v → since_of xs t p v
 earlier_of xs t u p v le left = (left.0, omega (arith, le, left.1), left.2, left.3)
 
--- and what stands there is among it
+-- and what is there is among it
 pub stands_of : (xs : List Step) (p : List ℕ) → left_of xs p (seen_of xs p)
 stands_of xs p = inl refl
 
@@ -82,7 +82,7 @@ IsRemoval _ p = ⊥
 abbrev pub IsClearing : (folder : List ℕ) (old new : List Step) → Type 0
 IsClearing folder old new = (new ≡ old) ⊎ ((s : Step) × (p : List ℕ) × (new ≡ old ++ s ∷ []) × IsRemoval s p × IsPartPath folder p)
 
--- a new file, empty, or none where something has its path
+-- a new file, empty, or none if something has its path
 abbrev pub IsCreation : Option Step → List ℕ → Option Stored → Type 0
 IsCreation None p there = there ≢ None
 IsCreation (Some s) p there = (there ≡ None) × IsChange s p (record { bytes = []; mode = part_mode })

@@ -17,7 +17,7 @@ impl From<AllocError> for CallFailed {
 
 /// Files in folders, by POSIX's calls. The file that was made last is the one that is written.
 ///
-/// A store in memory tells its contents. The file system doesn't: no contract of std says what stands under a path.
+/// A store in memory tells its contents. The file system doesn't: no contract of std says what is under a path.
 ///
 /// Others may change files between two calls. So a new file is one's own from the call that made it until it is renamed or
 /// removed. Only its maker writes, renames or removes it. The calls require that.
@@ -32,7 +32,7 @@ pub trait Store {
     ghost seen: { Self → Contents };
     /// What a crash at this moment may leave under a path, and what it may if others go on before it.
     ghost may_leave: { Self → List ℕ → Option Stored → Type 0 };
-    /// The file that stands under a path is on the disk, its bytes and its mode; its name may not be.
+    /// The file that is under a path is on the disk, its bytes and its mode; its name may not be.
     ghost is_whole: { Self → List ℕ → Type 0 };
     /// What others may put under a path, at any time.
     ghost theirs: { List ℕ → Option Stored → Type 0 };
@@ -59,7 +59,7 @@ pub trait Store {
             (OldOrCleared folder.now (may_leave self.old)) }
         ensures cause { failures self.new ≡ failures self.old };
 
-    /// Makes a folder, and those above it, where they aren't there: files can be made in it. No file changes.
+    /// Makes a folder, and those above it, if they aren't there: files can be made in it. No file changes.
     fn make_folder(&mut self, folder: &str) -> Result<(), CallFailed>
         ensures there { OnOk result (is_folder self.new folder.now) }
         ensures seen { tells → Same (seen self.old) (seen self.new) }
@@ -164,7 +164,7 @@ pub trait Store {
             (left_since self.old) (left_since self.new) (may_leave self.new) }
         ensures cause { CountsFailures (failures self.old) (failures self.new) result };
 
-    /// Has the names in a folder on the disk: what stands under them, and is whole there, a crash leaves.
+    /// Has the names in a folder on the disk: what is under them, and is whole there, a crash leaves.
     fn sync_folder(&mut self, folder: &str) -> Result<(), CallFailed>
         ensures durable { tells → OnOk result
             ((name : List ℕ) → is_whole self.old (path_in folder.now name)
@@ -204,6 +204,6 @@ pub trait Store {
     /// What a crash since some moment might have left, one since an earlier moment might, too.
     ghost earlier: { (store : Self) (t u : ℕ) (p : List ℕ) (v : Option Stored)
         → t ≤ u → left_since store u p v → left_since store t p v };
-    /// What stands under a path a crash may leave there: a kill at this moment does.
+    /// What is under a path a crash may leave there: a kill at this moment does.
     ghost stands: { (store : Self) (p : List ℕ) → tells → may_leave store p (seen store p) };
 }

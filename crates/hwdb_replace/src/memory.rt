@@ -1,5 +1,5 @@
 //! A store in memory, for tests. It tells its contents, keeps what each moment may leave, tears what isn't on the disk,
-//! and fails where it is told to.
+//! and fails as it is told to.
 ghost use Rattle.std.specs.Prelude.{◌≡◌, ◌≤◌, ◌++◌, ◌∷◌, [], ℕ, length, take, map, false, Some, None, IfOk, IfSome, IsOkAnd, IsTrue, OnOk, OnErr, option_map};
 ghost use Rattle.std.specs.Str.{bytes_eq};
 ghost use Rattle.hwdb_spec.specs.Failures.{after_failure, CountsFailures};
@@ -44,7 +44,7 @@ pub enum Step {
     Synced {
         path: Vec<u8>,
     },
-    /// A file, which isn't on the disk where it is loose, has another name.
+    /// A file, which isn't on the disk if it is loose, has another name.
     Moved {
         from: Vec<u8>,
         to: Vec<u8>,
@@ -59,7 +59,7 @@ pub enum Step {
     Kept,
 }
 
-/// What stands under a path, and what a crash may leave there.
+/// What is under a path, and what a crash may leave there.
 #[derive(Drop)]
 pub struct PathState<'a> {
     /// What a read gives.
@@ -153,7 +153,7 @@ impl<'a> PathState<'a> {
     }
 }
 
-/// What these steps make of a path: what stands there, and what a crash may leave.
+/// What these steps make of a path: what is there, and what a crash may leave.
 pub fn state_of<'a>(
     alloc: Global,
     steps: &'a [Step],
@@ -227,7 +227,7 @@ impl Memory {
         }
     }
 
-    /// Another one's step happens, unless memory for it is refused.
+    /// Another one's step happens, unless there is no memory for it.
     pub fn pass(&mut self, step: Step)
         ensures steps { IsPassed self.old.steps.items self.new.steps.items step }
         ensures part { self.new.part.items ≡ self.old.part.items }
@@ -339,7 +339,7 @@ impl Memory {
         Ok(Step::Removed { path })
     }
 
-    /// A new file, empty, unless something stands under its path.
+    /// A new file, empty, unless something is under its path.
     fn create(&self, path: &[u8]) -> Result<Option<Step>, CallFailed>
         ensures { IfOk result
             (λ o. IsCreation o path.now (seen_of self.now.steps.items path.now)) }
@@ -372,7 +372,7 @@ impl Memory {
         Ok(path == part.as_slice())
     }
 
-    /// The path that a step has a file stand under, if it is a new file's in that folder.
+    /// The path that a step puts a file under, if it is a new file's in that folder.
     fn part_of(&self, folder: &str, step: &Step) -> Result<Option<Vec<u8>>, AllocError>
         ensures { IfOk result (λ found. IfSome found (λ path. IsPartPath folder.now path.items)) }
     {

@@ -35,7 +35,7 @@ pub struct Shared<O: Others> {
 }
 
 impl<O: Others> Shared<O> {
-    /// The others take a step. It doesn't happen if memory for it is refused.
+    /// The others take a step. It doesn't happen if there is no memory for it.
     fn go_on(&mut self)
         ensures went { (xs : List Step)
             → WentOn O.whole self.old.memory.part.items xs self.old.memory.steps.items

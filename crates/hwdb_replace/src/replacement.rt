@@ -35,7 +35,7 @@ impl From<CallFailed> for Unreplaced {
     }
 }
 
-/// Replaces the database in a folder, which is made where it isn't there, by these bytes.
+/// Replaces the database in a folder, which is made if it isn't there, by these bytes.
 ///
 /// Leftovers of killed updates are removed first. A new file is made beside the database, `.#hwdb.bin` and the first
 /// number that makes a new name. It gets the bytes and its mode, is synced, and is renamed over `hwdb.bin`. Then the

@@ -1,4 +1,4 @@
--- The tokens of JSON that stand for members. Only private clauses cite them.
+-- The tokens of JSON that mean members. Only private clauses cite them.
 use Rattle.std.specs.Prelude.{List, ℕ, ◌∷◌, flat_map}
 use Rattle.json.specs.Json.{Json}
 use Rattle.json.specs.Token.{Token}

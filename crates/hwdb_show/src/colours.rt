@@ -119,7 +119,7 @@ fn is_same(before: Style, now: Style) -> bool
     }
 }
 
-/// Adds what comes between two bytes with these styles. The only error is that memory is refused.
+/// Adds what comes between two bytes with these styles. The only error is want of memory.
 fn push_turn(shown: &mut Vec<u8>, before: Style, now: Style) -> Result<(), AllocError>
     ensures { OnOk result (shown.new.items ≡ shown.old.items ++ turn before now) }
 {
@@ -131,7 +131,7 @@ fn push_turn(shown: &mut Vec<u8>, before: Style, now: Style) -> Result<(), Alloc
 
 /// The text in colour: before each run of bytes with one style the sequence that sets it, and none is left set.
 ///
-/// The only error is that memory is refused. Takes time in proportion to the text.
+/// The only error is want of memory. Takes time in proportion to the text.
 pub fn painted(alloc: Global, kind: TextKind, text: &[u8]) -> Result<Vec<u8>, AllocError>
     ensures { IfOk result (λ shown. shown.items ≡ painted kind text.now) }
 {

@@ -24,7 +24,7 @@ pub fn put_bytes(json: &mut Writer, bytes: &[u8]) -> Result<(), AllocError>
     json.end_array()
 }
 
-/// Adds a text: a string where it is UTF-8, else an array of its bytes as numbers.
+/// Adds a text: a string if it is UTF-8, else an array of its bytes as numbers.
 pub fn put_text(json: &mut Writer, text: &[u8]) -> Result<(), AllocError>
     ensures before { json.new.before ≡ json.old.before }
     ensures tokens { OnOk result

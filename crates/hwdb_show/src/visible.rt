@@ -115,7 +115,7 @@ fn push_as(shown: &mut Vec<u8>, kept: bool, byte: u8) -> Result<(), AllocError>
     push_digits(shown, byte)
 }
 
-/// Adds a text, or a name, as it is shown. The only error is that memory is refused.
+/// Adds a text, or a name, as it is shown. The only error is want of memory.
 pub fn push_visible(shown: &mut Vec<u8>, in_name: bool, text: &[u8]) -> Result<(), AllocError>
     ensures { OnOk result
         (shown.new.items ≡ shown.old.items ++ visible_after in_name 0 text.now) }

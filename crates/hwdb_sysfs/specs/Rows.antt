@@ -5,7 +5,7 @@ use Rattle.std.specs.Option.{option_map_or}
 use Rattle.hwdb_spec.specs.DeviceTree.{Node, Sight, all_links, device_at, device_for, kernel_name, last_name, major, minor, missing_folder, near_name, sysfs_below, unread_for}
 use Rattle.hwdb_spec.specs.Folders.{same}
 
--- what stands beside a text in a table
+-- what is beside a text in a table
 abbrev pub beside : {X : Type 0} → List (List ℕ × X) → List ℕ → Option X
 beside rows text = option_map (λ row. row.1) (find (λ row. same row.0 text) rows)
 

@@ -1,4 +1,4 @@
-//! What is made of the answers of a file system: what can't be told is as if it weren't there, unless memory was refused.
+//! What is made of the answers of a file system: what can't be told is as if it weren't there, unless there was no memory.
 ghost use Rattle.std.specs.Prelude.{◌≡◌, ◌≢◌, ◌≤◌, None, Ok, IfOk, IfSome, length, option_map};
 ghost use Rattle.hwdb_spec.specs.declared.causes.Cause.TheVariants.{Memory};
 ghost use Rattle.hwdb_spec.specs.DeviceTree as tree;

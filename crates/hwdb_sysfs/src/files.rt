@@ -18,7 +18,7 @@ pub struct DeviceNode {
     pub number: u64,
 }
 
-/// The answers of a file system to what is asked of devices. Each call may also say that memory was refused. A path is absolute, and
+/// The answers of a file system to what is asked of devices. Each call may also say that there was no memory. A path is absolute, and
 /// a place is a path without a link in it.
 pub trait DeviceFiles {
     /// Whether the answers are told.

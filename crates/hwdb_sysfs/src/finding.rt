@@ -20,7 +20,7 @@ use std::alloc::{AllocError, Global};
 /// Why no device is found.
 #[derive(Drop)]
 pub enum Unfound {
-    /// Memory was refused.
+    /// There was no memory.
     Memory,
     /// There is no sysfs: this path leads nowhere, for this cause.
     NoSysfs(Vec<u8>, Cause),

@@ -48,7 +48,7 @@ fn push_others<F: DeviceFiles>(
 /// The paths of all that classes and buses list: those of input devices first, and each class and bus by name. `device_of_path` tells
 /// the device that a path leads to.
 ///
-/// The only error is that memory is refused.
+/// The only error is want of memory.
 pub fn list_links<F: DeviceFiles>(
     alloc: Global,
     files: &F,

@@ -59,7 +59,7 @@ fn nearest_of(
 
 /// The name in a class or at a bus that begins most as the one that is wanted, which no device has. Empty if none begins as it does.
 ///
-/// The only error is that memory is refused. Looks into each class and bus once.
+/// The only error is want of memory. Looks into each class and bus once.
 #[tactic(auto, unfolding(hwdb_spec::specs::DeviceTree::nearest_of))]
 pub fn near_name<F: DeviceFiles>(
     alloc: Global,

@@ -241,7 +241,7 @@ fn machine_of<F: DeviceFiles>(alloc: Global, files: &F, sys: &[u8]) -> Result<Ve
 /// Reads a device and its parents, at a place below sysfs. Of their attributes those with the names are read, which are the lines of
 /// `names`. What can't be read is left out, as if it weren't there.
 ///
-/// The only error is that memory is refused. Reads as many small files as there are names, for each part of the path.
+/// The only error is want of memory. Reads as many small files as there are names, for each part of the path.
 pub fn read_device<F: DeviceFiles>(
     alloc: Global,
     files: &F,

@@ -57,7 +57,7 @@ fn unless_nowhere(
     }))
 }
 
-/// The same, if memory wasn't refused.
+/// The same, if there was memory.
 fn unread_at(alloc: Global, path: &[u8], cause: Cause) -> Result<Option<UnreadPath>, AllocError>
     ensures memory { IfOk result (λ _. cause ≢ Memory) }
     ensures path { IfOk result (λ found. option_map (λ u. u.path.items) found
@@ -137,7 +137,7 @@ fn unread_of_place<F: DeviceFiles>(
 
 /// What can't be read where a path leads, so that it can't be told whether a device is there. None if that can be told.
 ///
-/// The only error is that memory is refused.
+/// The only error is want of memory.
 pub fn unread_of_path<F: DeviceFiles>(
     alloc: Global,
     files: &F,

@@ -1,4 +1,4 @@
-//! Rows that only a call of a library shows; those of the built program are in tests/run/rows.
+//! Rows that only a call of a library shows; those of the built program are in tests/run.
 mod calls;
 mod compiling;
 mod entered;

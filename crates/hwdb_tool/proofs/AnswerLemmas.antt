@@ -1,4 +1,4 @@
--- Commands that answer from the database, and are refused.
+-- Commands that answer from the database, and end with errors.
 use Rattle.std.proofs.Common.{◌≡◌, ◌≤◌, inl, inr, length, refl, subst, sym, ℕ, List, Option, None, Some, IfErr, IfSome, Result, Ok, Err, Vec, Global}
 use Rattle.std.specs.Prelude.{codes, true}
 use Rattle.hwdb_spec.specs.Asked.{IsAnswered, IsAskedPath}
@@ -33,7 +33,7 @@ unfound root contents path (At error at cause) asked h = (path, asked, h)
 unfound root contents path NoDatabase asked h = absurd h
 unfound root contents path (InWords text) asked h = (path, asked, h)
 
--- what holds where bytes are no database, weaker
+-- what holds if bytes are no database, weaker
 pub if_bad : {P Q : Type 0} (error : ToolError) → (P → Q) → IfBadDatabase P error → IfBadDatabase Q error
 if_bad Read f h = tt
 if_bad Write f h = tt

@@ -1,4 +1,4 @@
--- The files that `check` reads, and what it refuses of them.
+-- The files that `check` reads, and its errors of them.
 use Rattle.std.proofs.Common.{◌≡◌, ◌⊎◌, ◌<◌, ◌≤◌, ◌+◌, ◌++◌, ◌∙◌, ◌||◌, inl, inr, ap, sym, subst, refl, arith, ℕ, suc, Bool, true, false, List, [], ◌∷◌, length, map, drop, zero, get_or, string_bytes, codes, Global, Option, Some, None, Result, Ok, Err, IfErr, IfOk, String, All}
 use Rattle.std.specs.Bool.{◌==◌}
 use Rattle.std.proofs.Math.Seq.{split_at}
@@ -219,14 +219,14 @@ not_checked Unread Are files (Err e) are refused = inr record {
   refused = refused.refused;
 }
 
--- where some are given
+-- if some are given
 pub some_given : (root : List ℕ) (input : Option (List ℕ)) (contents : Contents) (given : List (String Global)) (P : (Refusal → Type 0) → (List Source → Type 0) → Type 0) → (length given == 0) ≡ false
     → P (IsNamedUnread IsGivenUnread contents (map string_bytes given)) (AreNamedFiles (map string_bytes given) input contents)
     → P (AreUncheckable (map string_bytes given) root contents) (AreCheckedFiles (map string_bytes given) root input contents)
 some_given root input contents [] P some p = absurd (cc)
 some_given root input contents (path ∷ more) P some p = p
 
--- ---- the files for which given paths stand
+-- ---- the files that given paths mean
 module _ (given paths : List (List ℕ)) (input : Option (List ℕ)) (contents : Contents) (stand : StandFor contents given paths) where
   pub named_checked : (json strict : Bool) (allowed : List (List ℕ)) (r : Result Answer Refusal)
       → IfOk r (λ a. OnOut (λ text. IsChecked (AreGivenFiles paths input contents) json strict allowed text a.status) (texts_in a))

@@ -1,4 +1,4 @@
--- What `diff` reads, and what it refuses.
+-- What `diff` reads, and its errors.
 use Rattle.std.proofs.Common.{◌≡◌, ◌==◌, ◌∷◌, ap, inl, inr, sym, ℕ, Bool, true, false, length, List, [], map, Option, Some, Result, Ok, Err, IfErr, IfOk, flat_map}
 use Rattle.hwdb_lint.specs.Checks.{source_of}
 use Rattle.hwdb_lint.specs.declared.files.TextFile.{TextFile}

@@ -1,4 +1,4 @@
--- A task that is refused since an output failed changes nothing.
+-- A task that ends with an error since an output failed changes nothing.
 use Rattle.std.proofs.Common.{⊎_elim, Bool, true, false, List, ℕ}
 use Rattle.hwdb_spec.specs.declared.job.Task.{Task}
 use Rattle.hwdb_spec.specs.declared.job.Task.TheVariants.{Update}

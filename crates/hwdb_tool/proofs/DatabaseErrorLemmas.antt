@@ -34,12 +34,12 @@ use Rattle.hwdb_tool.specs.OneRefusal.{IsOfWhatIsRead, IsOneError, IsOneFault, I
 use Rattle.hwdb_spec.specs.Undone.{IsListRefused, IsNotAnswered, IsUnanswered, IsUnlisted, IsUnreadableIf}
 use Rattle.hwdb_tool.proofs.RefusalLemmas.{NeverNamed, IsUnreadNamed, one_inside, one_named_path, named_at, over_over, read_or_unread, unnamed, unread_unread}
 
--- the words of a refusal
+-- the words of an error
 abbrev pub SaysSo : (text : List ℕ) → Refusal → Type 0
 SaysSo text (InWords said) = said.items ≡ text
 SaysSo text refusal = ⊥
 
--- a refusal of this error or in these words, if it isn't of memory
+-- an error of this kind or in these words, if it isn't of memory
 pub is_over : (error : ToolError) (path : List ℕ) (r : Refusal) → IsAt error path r → IsOfWhatIsRead r → IsOver error path r
 is_over error path (Plain e) at of = absurd (subst (λ (x : ToolError). IsOfWhatIsRead (Plain x)) at of)
 is_over error path (At e p cause) at of = at
@@ -62,7 +62,7 @@ said_said text text2 (InWords t) (Plain e) one two same = absurd two
 said_said text text2 (InWords t) (At e p cause) one two same = absurd two
 said_said text text2 (InWords t) NoDatabase one two same = absurd two
 
--- bytes at a path have a fault, which the refusal says
+-- bytes at a path have a fault, which the error says
 pub record IsFaulty (Says : (path : List ℕ) → DbFault → Refusal → Type 0) (given : Option (List ℕ)) (root : List ℕ) (files : Contents) (r : Refusal) : Type 0 where
   pub path : List ℕ
   pub bytes : List ℕ

@@ -33,7 +33,7 @@ pub record IsFolderFull (files : Contents) (given : List (List ℕ)) (r : Refusa
   pub in_folder : AreNamesIn (folder_of path) files found
   pub many : max_files < length (names found [])
 
--- given paths stand for text files, or one of them has too many
+-- given paths mean text files, or one of them has too many
 abbrev pub FullOrStand : Type 0
 FullOrStand = (files : Contents) (given paths : List (List ℕ)) (r : Refusal) → IsFolderFull files given r → StandFor files given paths → ⊥
 

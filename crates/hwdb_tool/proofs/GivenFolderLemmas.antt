@@ -1,4 +1,4 @@
--- The text files for which given paths stand.
+-- The text files that given paths mean.
 use Rattle.std.proofs.Common.{◌≡◌, ◌<◌, ◌∙◌, ◌++◌, ◌+◌, ◌==◌, ◌&&◌, ap, sym, refl, subst, inl, append_assoc, arith, eqb-true, ℕ, zero, suc, Bool, true, false, List, [], ◌∷◌, length, map, take, drop, take-append-drop, get_or, string_bytes, Global, String, Result, IfErr, if◌then◌else◌}
 use Rattle.std.specs.Prelude.{nat_eq}
 use Rattle.std.specs.Result.{IsErrAnd}
@@ -61,7 +61,7 @@ stand_next contents given k path paths own new is lt stand one more =
     (subst (λ (l : List (List ℕ)). StandFor contents (before ++ string_bytes path ∷ []) l) (sym more)
     (stand_more contents before (map string_bytes paths) (string_bytes path) (map string_bytes own) stand one))
 
--- the folder of one of the given, if those before it stand for text files
+-- the folder of one of the given, if those before it mean text files
 pub one_unread : (contents : Contents) (given : List (String Global)) (k : ℕ) (path : String Global) (own : List (List ℕ)) (refusal : Refusal) → path ≡ get_or given k path → k < length given
     → StandFor contents (map string_bytes (take k given)) own → IsFolderUnread contents (string_bytes path) refusal → AreFoldersUnread contents (map string_bytes given) refusal
 one_unread contents given k path own refusal is lt stand unread = record {

@@ -1,4 +1,4 @@
--- The database that stands in its place is the one that is asked.
+-- The database that is in its place is the one that is asked.
 use Rattle.std.proofs.Common.{◌≡◌, ◌∙◌, ap, sym, ℕ, true, false, List, [], Option, Some}
 use Rattle.std.specs.Prelude.{option_map}
 use Rattle.std.specs.Option.{option_map_or, option_or}
@@ -10,7 +10,7 @@ use Rattle.hwdb_spec.specs.System.{bytes_at, asked_database, database_folder}
 abbrev value : Option (List ℕ) → List ℕ
 value o = option_map_or (λ b. b) o []
 
--- where one stands in /etc it is that one
+-- if one is in /etc it is that one
 pub held_bytes : (root : List ℕ) (contents : Contents) (bytes database : List ℕ)
     → contents (path_in (database_folder false root) database_name) ≡ Some (database_file database) → asked_database root contents ≡ Some bytes → bytes ≡ database
 held_bytes root contents bytes database stands asked =

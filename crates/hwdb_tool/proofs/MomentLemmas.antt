@@ -41,7 +41,7 @@ leaves_less moment left_since old new MayFail root usr skip seen before left_out
     leaves_more moment left_since old new (OldOrUpdated root usr (without left_out root seen) seen before) (OldOrUpdatedLess MayFail root usr skip seen before)
     (λ p v now. ⊎_elim (λ was. inl was) (λ left. inr record { left_out = left_out; are = are; left = left }) now) holds
 
--- where nothing happens nothing new is left
+-- if nothing happens nothing new is left
 pub leaves_old : {D : Type 0} (moment : D → ℕ) (left_since : D → ℕ → Outcomes) (s : D) (outcomes : Outcomes)
     → ((p : List ℕ) (v : Option Stored) → left_since s (moment s) p v → outcomes p v) → LeavesOnly moment left_since s s outcomes
 leaves_old moment left_since s outcomes up = record {

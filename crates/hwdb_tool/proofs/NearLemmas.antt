@@ -1,4 +1,4 @@
--- What `near` reads, and what it refuses.
+-- What `near` reads, and its errors.
 use Rattle.std.proofs.Common.{◌≡◌, ℕ, Bool, true, false, List, [], ◌∷◌, length, map, arith, eqb-true, string_bytes, Global, Option, String}
 use Rattle.std.specs.Bool.{◌==◌}
 use Rattle.hwdb_spec.specs.Asked.{IsAnswered}
@@ -25,13 +25,13 @@ module _ (root : List ℕ) (form : List PatternAt → List ℕ) (input : Option 
   abbrev Of : List (String Global) → Type 0
   Of given = P (IsNear (map string_bytes given) root form input contents) (IsNearRefused (map string_bytes given) root contents)
 
-  -- where no file is given
+  -- if no file is given
   pub none_given : (given : List (String Global)) → (length given == 0) ≡ true
       → P (λ text. IsAnswered root (IsTextOf (λ tree. form (database_patterns tree))) contents text) (λ r. IsUnanswered root contents r) → Of given
   none_given [] none p = p
   none_given (path ∷ more) none p = absurd (let e = eqb-true (length (path ∷ more)) 0 none in omega (arith, e))
 
-  -- where some are
+  -- if some are
   pub some_given : (given : List (String Global)) → (length given == 0) ≡ false
       → P (λ text. (sources : List Source) × AreGivenFiles (map string_bytes given) input contents sources × (text ≡ form (patterns_from 1 sources))) (λ r. IsGivenUnread (map string_bytes given) r) → Of given
   some_given [] some p = absurd (cc)

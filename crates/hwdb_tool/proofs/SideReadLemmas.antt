@@ -83,7 +83,7 @@ no_slash path None found = by (has 47 path) refl
     by false is = refl
     by true is = let first = first_slash path is in absurd (found first.0 first.1 first.2 first.3)
 
--- ---- what a path stands for
+-- ---- what a path means
 pub stand_alone : (b : Bool) (files : Contents) (path : List ℕ) (paths : List (List ℕ)) → is_file files path ≡ b → StandsFor b files path paths → StandFor files (path ∷ []) paths
 stand_alone b files path paths is stands =
     (paths, [], sym (append-nil paths), subst (λ (c : Bool). StandsFor c files path paths) (sym is) stands, refl)

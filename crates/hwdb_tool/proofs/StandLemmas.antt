@@ -1,4 +1,4 @@
--- Given paths stand for one list of text files.
+-- Given paths mean one list of text files.
 use Rattle.std.proofs.Common.{◌≡◌, ◌∙◌, ◌++◌, ap, arith, sym, refl, ℕ, Bool, true, false, List, [], ◌∷◌, map, if◌then◌else◌}
 use Rattle.std.proofs.Math.Path.{fun_ext}
 use Rattle.std.specs.Prelude.{count_by, ◌+◌}

@@ -1,4 +1,4 @@
--- What `status` says is one, and what it refuses.
+-- What `status` says is one, and its errors.
 use Rattle.std.proofs.Common.{◌≡◌, ◌≤◌, ◌∙◌, ◌++◌, ◌∷◌, ◌==◌, [], ap, arith, ne_eqb, inl, inr, refl, sym, subst, Bool, true, false, IfSome, List, flat_map, length, map, ℕ, Option, Some, None}
 use Rattle.std.proofs.Math.Path.{fun_ext}
 use Rattle.std.proofs.lemmas.List.Elements.{All-contains}

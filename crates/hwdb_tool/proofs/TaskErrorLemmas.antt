@@ -186,7 +186,7 @@ module _ (header : OneHeader) (tree : OneTree) where
   said_first (Update verbose skip) root usr files = hiding_text usr verbose root files
   said_first task root usr files = []
 
-  -- what is left where a task isn't done: standard error had `first`
+  -- what is left if a task isn't done: standard error had `first`
   pub record IsLeftThen (first said : List ℕ) (before now : Scene) : Type 0 where
     pub err : Appends (Some first) now.err.bytes said
     pub out : now.out ≡ before.out

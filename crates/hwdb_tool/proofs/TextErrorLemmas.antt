@@ -220,7 +220,7 @@ long_file sources short any =
     let many = any.4 in
     omega (arith, few, many)
 
--- so checking files that were read is refused for want of memory alone
+-- so checking files that were read fails for want of memory alone
 pub never_unchecked : (Are : List Source → Type 0) (r : Refusal) → ((sources : List Source) → Are sources → All (λ (s : Source). length s.bytes ≤ max_file) sources)
     → AreNotChecked Are r → IsOfWhatIsRead r → ⊥
 never_unchecked Are r short not of = by not.error not.is not.refused

@@ -1,4 +1,4 @@
--- What `test` reads, and what it refuses.
+-- What `test` reads, and its errors.
 use Rattle.std.proofs.Common.{inr, ℕ, Bool, List, Option, Result, Ok, Err, IfErr, IfOk}
 use Rattle.std.specs.Prelude.{is_some}
 use Rattle.hwdb_spec.specs.Asked.{IsPrinted}

@@ -1,4 +1,4 @@
--- An update that is refused after its files were read.
+-- An update that ends with an error after its files were read.
 use Rattle.std.specs.Io.KnownBytes.{Appends}
 use Rattle.std.proofs.Common.{◌≡◌, ◌≢◌, ◌++◌, inl, inr, ap, subst, sym, refl, ℕ, Bool, List, Result, Ok, Err, IfErr}
 use Rattle.hwdb_spec.specs.Runs.{AreKept, Files, Told}
@@ -54,7 +54,7 @@ unreplaced_of (Err BadPosition) tells told seen left P a b c so = tt
 unreplaced_of (Err (BadDatabase fault)) tells told seen left P a b c so = tt
 unreplaced_of (Err Memory) tells told seen left P a b c so = tt
 
--- a database that can't be replaced has its reason, and no other refusal needs one
+-- a database that can't be replaced has its reason, and no other error needs one
 pub update_reason : (P : List ℕ → Type 0) (W : Type 0) (contents : Contents) (error : ToolError) (path : List ℕ) (refusal : Refusal) → IsOfUpdate error path refusal → OnUnreplaced (λ _. W) error
     → HasReason P W contents refusal
 update_reason P W contents (Replace u) path (Plain e) is w = absurd is

@@ -5,7 +5,7 @@ use Rattle.hwdb_spec.specs.Visible.{visible}
 use Rattle.hwdb_spec.specs.declared.colours.TextKind.{TextKind}
 use Rattle.hwdb_spec.specs.declared.colours.TextKind.TheVariants.{Plain}
 
--- the text is shown in colour, or, if memory was refused, as it is
+-- the text is shown in colour, or, if there was no memory, as it is
 abbrev pub IsColoured : TextKind → (text shown : List ℕ) → Type 0
 IsColoured kind text shown = (shown ≡ painted kind text) ⊎ (shown ≡ text)
 

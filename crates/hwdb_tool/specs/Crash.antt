@@ -14,7 +14,7 @@ use Rattle.hwdb_spec.specs.LeftOut.{AreLeftOut, without}
 use Rattle.hwdb_spec.specs.Program.{OldOrAskedFor, root_of, skips}
 use Rattle.hwdb_spec.specs.Databases.{IsTextOf}
 
--- what stands after a start: under each path something that the crash may have left
+-- what is there after a start: under each path something that the crash may have left
 abbrev pub Booted : Outcomes → Contents → Type 0
 Booted outcomes contents = (p : List ℕ) → outcomes p (contents p)
 

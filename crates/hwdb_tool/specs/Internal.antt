@@ -25,7 +25,7 @@ use Rattle.hwdb_spec.specs.declared.refusals.Refusal.{Refusal}
 use Rattle.hwdb_fs.specs.declared.folders.Selection.{Selection}
 use Rattle.hwdb_text.specs.declared.choice.ChosenFile.{ChosenFile}
 
--- what is read of a path, where standard input has a text
+-- what is read of a path, if standard input has a text
 abbrev pub bytes_if : (dash : Bool) (text : List ℕ) → Contents → (path : List ℕ) → Option (List ℕ)
 bytes_if true text contents path = Some text
 bytes_if false text contents path = bytes_at contents path

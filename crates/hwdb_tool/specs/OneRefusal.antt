@@ -1,4 +1,4 @@
--- What a task refuses is one error, and none is refused that is done. It is what two outcomes over one input have in common,
+-- A task that ends with an error has one, and none that is done has any. It is what two outcomes over one input have in common,
 -- if one of them or both are errors. Our choice.
 use Rattle.std.specs.Prelude.{◌++◌, ◌<◌, ◌∷◌, ◌≡◌, ◌⊎◌, [], ℕ, Bool, Contains, IfSome, List, None, Option, Some, codes, false, length, map, option_map, string_bytes, true}
 use Rattle.hwdb_spec.specs.DeviceAsked.{no_device_text, no_sysfs_text, unread_text}

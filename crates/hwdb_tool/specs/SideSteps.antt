@@ -15,7 +15,7 @@ abbrev pub IsSideError : (MayFail : (path : List ℕ) → Type 0) → Contents �
 IsSideError MayFail contents path refusal =
     IsSideRefused (HasReason MayFail ⊥ contents) (HasReason (IsUnreadable MayFail contents) ⊥ contents) path contents refusal
 
--- the same of the text files for which a path stands
+-- the same of the text files that a path means
 abbrev pub AreTextsError : (MayFail : (path : List ℕ) → Type 0) → Contents → (path : List ℕ) → Refusal → Type 0
 AreTextsError MayFail contents path refusal =
     AreNotMadeAt (HasReason MayFail ⊥ contents) (HasReason (IsUnreadable MayFail contents) ⊥ contents) path contents refusal

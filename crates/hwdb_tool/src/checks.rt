@@ -59,7 +59,7 @@ pub fn check<D: System, I: Source>(
     }
 }
 
-/// The same of the files for which the given paths stand.
+/// The same of the files that the given paths mean.
 fn check_named<D: System, I: Source>(
     alloc: Global,
     given: &[String],
@@ -179,7 +179,7 @@ fn is_named<'w>(words: &'w [String], left: &'w [String], path: &str) -> (bool, &
     }
 }
 
-/// What each of the given files has, where standard input had this text. A file that none of the words names has to be a regular
+/// What each of the given files has, if standard input had this text. A file that none of the words names has to be a regular
 /// one: an open of a pipe would wait.
 pub fn read_given<D: System>(
     alloc: Global,

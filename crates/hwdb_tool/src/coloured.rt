@@ -48,7 +48,7 @@ impl<W> Coloured<W> {
     }
 }
 
-/// Writes all of the text in colour; if memory is refused, as it is.
+/// Writes all of the text in colour; if there is no memory, as it is.
 fn write_painted<W: Sink>(
     alloc: Global,
     kind: TextKind,
@@ -66,7 +66,7 @@ fn write_painted<W: Sink>(
     }
 }
 
-/// Writes all of the text as a terminal is shown it, in colour; if memory is refused, without colours.
+/// Writes all of the text as a terminal is shown it, in colour; if there is no memory, without colours.
 fn write_seen<W: Sink>(
     alloc: Global,
     kind: TextKind,
@@ -85,7 +85,7 @@ fn write_seen<W: Sink>(
     }
 }
 
-/// Writes all of the text in colour, and for a terminal as it is shown one. If memory is refused, it has no colours.
+/// Writes all of the text in colour, and for a terminal as it is shown one. If there is no memory, it has no colours.
 pub fn write_shown<W: Sink>(
     alloc: Global,
     kind: TextKind,

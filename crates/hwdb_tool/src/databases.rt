@@ -1,4 +1,4 @@
-//! The databases of both folders: where each stands, and what is asked.
+//! The databases of both folders: where each is, and what is asked.
 ghost use Rattle.std.specs.Prelude.{◌≡◌, ◌≤◌, ◌++◌, Some, is_some, option_map, string_bytes, IfOk, IfErr, IfSome, length};
 ghost use Rattle.hwdb_spec.specs.Store as spec;
 ghost use Rattle.hwdb_spec.specs.System as Folder;
@@ -21,7 +21,7 @@ pub(crate) const ETC_FOLDER: &str = "/etc/udev";
 
 pub(crate) const USR_FOLDER: &str = "/usr/lib/udev";
 
-/// A database that was read, and where it stands.
+/// A database that was read, and where it is.
 #[derive(Drop)]
 pub struct FoundDatabase {
     /// Its path, with the root in front.
@@ -54,7 +54,7 @@ pub fn asked<D: System>(alloc: Global, root: &str, system: &D) -> Result<FoundDa
     }
 }
 
-/// The database in a folder below the root, if something stands there.
+/// The database in a folder below the root, if something is there.
 pub(crate) fn found_in<D: System>(
     alloc: Global,
     root: &str,
@@ -94,7 +94,7 @@ pub(crate) fn database_path(alloc: Global, root: &str, folder: &str) -> Result<S
     path_in(alloc, folder.as_str(), DATABASE)
 }
 
-/// The database at the path, or where none is given the one that is asked.
+/// The database at the path, or if none is given the one that is asked.
 pub fn named<D: System>(
     alloc: Global,
     root: &str,
@@ -125,7 +125,7 @@ pub fn named<D: System>(
     }
 }
 
-/// What stands at a path.
+/// What is at a path.
 fn given_at<D: System>(alloc: Global, path: &str, system: &D) -> Result<FoundDatabase, Refusal>
     ensures follows { D.Store.tells → Reaches (λ f. string_bytes f.path) (λ f. f.bytes.items)
         (D.System.reads system.now) (λ next. Input path.now (if_read path.now next)) result }

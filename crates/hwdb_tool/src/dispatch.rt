@@ -1,4 +1,4 @@
-//! The program: its words, its files, its status and its refusal lines.
+//! The program: its words, its files, its status and its error lines.
 ghost use Rattle.std.specs.Prelude.{◌≡◌, ◌<◌, ◌≤◌, ◌⊎◌, false, map, option_map, string_bytes, IfOk, IfErr, OnOk};
 ghost use Rattle.hwdb_spec.specs.Flushing.{HandsOn, HasHandedOn};
 ghost use Rattle.hwdb_spec.specs.Store as spec;
@@ -98,8 +98,8 @@ pub fn program<D: Machine, I: Source, O: Outlet, E: Sink>(
     }
 }
 
-/// Has the system find its files below the root that was given, if the task looks for any there. Refuses a root that
-/// can't be read.
+/// Has the system find its files below the root that was given, if the task looks for any there. A root that can't be
+/// read is an error.
 fn enter_root<D: Rooted>(job: &Job, system: &mut D) -> Result<(), Refusal>
     ensures same { D.Store.tells → system.new ≡ system.old }
     ensures refused { IfErr result (IsRootUnread job.now) }
@@ -125,8 +125,8 @@ fn looks_below_root(task: &Task) -> bool
     }
 }
 
-/// Writes the line of the refusal, and returns the status. Where `out` failed the line says so; but where its
-/// reader went away, as `head` does, nothing is said, and the status is 0.
+/// Writes the line of the error, and returns the status. If writing to `out` failed, the line says so. If the reader closed the
+/// pipe, as `head` does, nothing is said, and the status is 0.
 fn refuse_job<O: Outlet, E: Sink>(
     alloc: Global,
     refusal: Refusal,
@@ -157,7 +157,7 @@ fn refuse_job<O: Outlet, E: Sink>(
     status
 }
 
-/// The status where the task is refused: 2 of `diff`, whose 1 says that something changed, else 1.
+/// The status if the task ends with an error: 2 of `diff`, whose 1 says that something changed, else 1.
 fn refused_status(task: &Task) -> u8
     ensures is { result ≡ refused_status task.now }
     ensures small { result ≤ 2 }
@@ -169,7 +169,7 @@ fn refused_status(task: &Task) -> u8
     }
 }
 
-/// Does the job, and returns the status: 1 where `check`, `test` or `diff` finds something or `--strict` says so, else 0.
+/// Does the job, and returns the status: 1 if `check`, `test` or `diff` finds something or `--strict` says so, else 0.
 fn run_job<D: Machine, I: Source, O: Sink, E: Sink>(
     alloc: Global,
     job: &Job,
@@ -208,7 +208,7 @@ fn run_job<D: Machine, I: Source, O: Sink, E: Sink>(
     run(alloc, job, system, input, out, err)
 }
 
-/// Does the job's task over the files as they are, and returns the status: 1 where `check`, `test` or `diff` finds something or `--strict`
+/// Does the job's task over the files as they are, and returns the status: 1 if `check`, `test` or `diff` finds something or `--strict`
 /// says so, else 0.
 pub fn run<D: Machine, I: Source, O: Sink, E: Sink>(
     alloc: Global,
@@ -350,7 +350,7 @@ pub fn run<D: Machine, I: Source, O: Sink, E: Sink>(
     }
 }
 
-/// What stands in front of the paths of folders and databases.
+/// What is in front of the paths of folders and databases.
 pub fn root_of(job: &Job) -> &str
     ensures { result.now ≡ root_of job.now }
 {

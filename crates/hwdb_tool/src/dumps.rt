@@ -31,7 +31,7 @@ use hwdb_reader::law_one_tree;
 use hwdb_show::push_name;
 use std::alloc::{AllocError, Global};
 
-/// The database at the path, or if none is given the one that is asked, as a text file. `-` is what `input` has left. Refuses bytes
+/// The database at the path, or if none is given the one that is asked, as a text file. `-` is what `input` has left. Errors are bytes
 /// that are no database, and one with an assignment that no text file can say.
 pub fn dump<D: System, I: Source>(
     alloc: Global,
@@ -126,7 +126,7 @@ fn texted(alloc: Global, path: &[u8], bytes: &[u8]) -> Result<Answer, Refusal>
     }
 }
 
-/// What is refused if the bytes at the path can't be dumped.
+/// The error if the bytes at the path can't be dumped.
 fn refusal_of(alloc: Global, error: DumpError, path: &[u8]) -> Refusal
     ensures refusal { IsOfDump error path.now result }
     ensures stops { IsStop (dump_stop path.now error) result }
@@ -140,7 +140,7 @@ fn refusal_of(alloc: Global, error: DumpError, path: &[u8]) -> Refusal
     }
 }
 
-/// The refusal of a database with an assignment of this pattern that no text says.
+/// The error of a database with an assignment of this pattern that no text says.
 fn refused_pattern(alloc: Global, path: &[u8], pattern: &[u8]) -> Refusal
     ensures refusal { IsInWords (unsayable_text path.now pattern.now) result }
     ensures stops { IsStop (Says (unsayable_text path.now pattern.now)) result }

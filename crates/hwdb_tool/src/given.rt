@@ -23,7 +23,7 @@ use std::alloc::Global;
 /// How errors call standard input.
 pub const INPUT: &str = "standard input";
 
-/// Whether a word stands for standard input.
+/// Whether a word means standard input.
 pub fn is_dash(path: &str) -> bool
     ensures { result ≡ is_dash path.now }
 {
@@ -52,7 +52,7 @@ pub fn any_dash(given: &[String]) -> bool
     false
 }
 
-/// What is refused where standard input can't be read.
+/// The error if standard input can't be read.
 fn refusal_of(alloc: Global, error: ToolError, cause: Option<Cause>) -> Refusal
     ensures is { IsOfWholeInput error result }
     ensures stops { IsStop (input_stop error cause.entry) result }
@@ -117,7 +117,7 @@ pub fn read<D: System, I: Source>(
     }
 }
 
-/// What standard input has left, if one of the paths stands for it; else nothing of it is read.
+/// What standard input has left, if one of the paths means it; else nothing of it is read.
 pub fn input_text<I: Source>(
     alloc: Global,
     given: &[String],
@@ -163,7 +163,7 @@ fn file_bytes<D: System>(
     }
 }
 
-/// What a path has, where standard input had this text. A word may name it, or a folder lists it.
+/// What a path has, if standard input had this text. A word may name it, or a folder lists it.
 pub fn bytes_given<D: System>(
     alloc: Global,
     path: &str,

@@ -1,4 +1,4 @@
-//! The text files for which the paths of `check` stand: a path of a folder stands for the text files in it.
+//! The text files that the paths of `check` mean: a path of a folder means the text files in it.
 ghost use Rattle.std.specs.Prelude.{[], ◌∷◌, ◌++◌, false, ◌≡◌, ◌≤◌, ◌⊎◌, ◌<◌, length, map, string_bytes, IfErr, IfOk};
 ghost use Rattle.hwdb_spec.specs.CheckedFiles;
 ghost use Rattle.hwdb_spec.specs.CheckedFiles.{StandFor, StandsFor, is_file};
@@ -63,7 +63,7 @@ fn chosen_of(alloc: Global, all: &[String]) -> Result<Vec<Chosen>, Refusal>
     }
 }
 
-/// What a path stands for, if its folder has these text files.
+/// What a path means, if its folder has these text files.
 pub fn files_in(alloc: Global, path: &str, all: &[String]) -> Result<Vec<String>, Refusal>
     ensures files { IfOk result (λ own. map string_bytes own.items
         ≡ CheckedFiles.files_in path.now (map string_bytes all.now)) }
@@ -81,7 +81,7 @@ pub fn files_in(alloc: Global, path: &str, all: &[String]) -> Result<Vec<String>
     Ok(paths_in(alloc, folder_of(path), &chosen)?)
 }
 
-/// What a path stands for that is no `-`.
+/// What a path means that is no `-`.
 fn files_at<D: System>(alloc: Global, path: &str, system: &D) -> Result<Vec<String>, Refusal>
     ensures files { D.Store.tells → is_dash path.now ≡ false → IfOk result (λ own. StandsFor
         (is_file (D.Store.seen system.now) path.now) (D.Store.seen system.now) path.now
@@ -100,7 +100,7 @@ fn files_at<D: System>(alloc: Global, path: &str, system: &D) -> Result<Vec<Stri
     }
 }
 
-/// What a path stands for.
+/// What a path means.
 fn files_for<D: System>(alloc: Global, path: &str, system: &D) -> Result<Vec<String>, Refusal>
     ensures files { D.Store.tells → IfOk result (λ own. StandsFor
         (is_file (D.Store.seen system.now) path.now) (D.Store.seen system.now) path.now
@@ -130,7 +130,7 @@ fn put_all(paths: &mut Vec<String>, own: Vec<String>) -> Result<(), AllocError>
     Ok(())
 }
 
-/// The text files for which the given paths stand, in their order: those of a folder by name. A path stands for itself if a file is
+/// The text files that the given paths mean, in their order: those of a folder by name. A path means itself if a file is
 /// there, or a folder without text files; `-` does.
 ///
 /// Errors are a folder that can't be listed, and one with more than 65,535 text files: that of the first such path.

@@ -1,4 +1,4 @@
-//! What `update --usr --verbose` says before it updates: where /etc's database, which is asked first, hides the new one.
+//! What `update --usr --verbose` says before it updates, if /etc's database, which is asked first, hides the new one.
 ghost use Rattle.std.specs.Prelude.{◌≡◌, ◌≤◌, ◌++◌, IfOk, IfErr, OnOk, string_bytes};
 ghost use Rattle.hwdb_spec.specs.Flushing.{HandsOn};
 ghost use Rattle.hwdb_spec.specs.Runs.{HasTaken, files_by, told_by};
@@ -51,7 +51,7 @@ fn hiding_line(alloc: Global, root: &str) -> Result<Vec<u8>, AllocError>
     Ok(line)
 }
 
-/// That line, where it is to be said; else nothing.
+/// That line, if it is to be said; else nothing.
 fn hiding_text<D: System>(
     alloc: Global,
     root: &str,
@@ -98,7 +98,7 @@ fn tell_hiding<D: System, E: Sink>(
     say(&text, err)
 }
 
-/// Says it, and then updates, as [`update`] does. After a refusal the old database is as it was, and there is no new file.
+/// Says it, and then updates, as [`update`] does. After an error the old database is as it was, and there is no new file.
 pub fn update_telling<D: System, E: Sink>(
     alloc: Global,
     root: &str,

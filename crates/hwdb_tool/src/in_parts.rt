@@ -2,7 +2,7 @@
 //! are read that the devices need.
 //!
 //! The file is opened once, so that another one that takes its path meanwhile isn't read. None says nothing: the file isn't
-//! accepted, a call failed, memory was refused, or the file itself was changed meanwhile. Then the whole file is read, which
+//! accepted, a call failed, there was no memory, or the file itself was changed meanwhile. Then the whole file is read, which
 //! tells the error if there is one.
 ghost use Rattle.std.specs.Prelude.{◌≡◌, ◌≤◌, ℕ, List, Some, length, map, string_bytes, IfSome};
 ghost use Rattle.hwdb_spec.specs.Asked.{IsAnswered};

@@ -81,7 +81,7 @@ fn watched<D: System>(
     Ok(watch)
 }
 
-/// What is refused where the devices of standard input can't be answered from the database at the path.
+/// The error if the devices of standard input can't be answered from the database at the path.
 fn refusal_of(alloc: Global, error: ToolError, path: &[u8], cause: Option<Cause>) -> Refusal
     ensures { IsOfInput error path.now result }
 {

@@ -23,7 +23,7 @@
 //! | `over_text` | `--text`: the text files in place of a database; `besides`: what `explain` tells of them that no database can |
 //! | `databases` | the database that a command asks for |
 //! | `given` | files that words name, or standard input |
-//! | `given_folders` | the text files for which the paths of `check` stand |
+//! | `given_folders` | the text files that the paths of `check` mean |
 //! | `laws` | what an update and a query after it say together |
 //! | `as_before` | what follows a plan keeps the older promises of its command |
 //! | `one_outcome` | two runs over one input end alike |

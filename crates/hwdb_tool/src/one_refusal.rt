@@ -30,8 +30,8 @@ pub fn errors_are_one<D: System>(first: &D, first_then: &D, second: &D, second_t
     one_ascending_list();
 }
 
-/// So does a run of the program whose words ask for such a task. Its root is entered then, and such words are told nothing but
-/// want of memory.
+/// The same holds for whole runs of the program whose words ask for such a task. Its root is entered then, and such words are told
+/// nothing but want of memory.
 pub fn words_end_in_one<D: System>(first: &D, first_then: &D, second: &D, second_then: &D)
     ensures one { JobEndsInOneError (D.may_fail first.now) (D.may_fail first_then.now)
         (D.may_fail second.now) (D.may_fail second_then.now)

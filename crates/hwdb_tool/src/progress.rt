@@ -125,7 +125,7 @@ fn push_kept_line(
     Ok(())
 }
 
-/// How many assignments a database keeps; none where the bytes are no database.
+/// How many assignments a database keeps; none if the bytes are no database.
 fn kept(alloc: Global, database: &[u8]) -> Result<usize, AllocError>
     ensures { IfOk result (λ n. (m : Map) → IsDatabaseOf m database.now → n ≡ finite.len m) }
 {

@@ -124,7 +124,7 @@ fn database_of_texts(alloc: Global, files: &[TextFile<'_>]) -> Result<Vec<u8>, R
     database_of(alloc, &etc)
 }
 
-/// The same of the text files for which a path stands.
+/// The same of the text files that a path means.
 fn texts_at<D: System>(
     alloc: Global,
     path: &str,

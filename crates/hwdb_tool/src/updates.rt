@@ -85,7 +85,7 @@ fn update_files<S: Store, E: Sink>(
     put_in_place(alloc, &compiled, &said, strict, folder, store, err)
 }
 
-/// The names of /usr/lib's files, where `verbose`.
+/// The names of /usr/lib's files, if `verbose`.
 fn listing(verbose: bool, listed: &[String]) -> Option<&[String]>
     ensures { option_map (λ l. map string_bytes l.now) result
         ≡ given_where verbose (map string_bytes listed.now) }
@@ -94,9 +94,9 @@ fn listing(verbose: bool, listed: &[String]) -> Option<&[String]>
 }
 
 /// Compiles chosen text files of both folders into the database of one, which takes the old one's place once it is whole
-/// on the disk. Their fault lines go to `err`, and before these, where `verbose`, which files they are, which of them mask
-/// others, and how much they assign. If there are none, it says first which database is lost by that. Returns the status: 1 where `strict` and there is a fault, else 0. After a refusal the
-/// old database stands as it was, and no new file.
+/// on the disk. Their fault lines go to `err`, and before these, if `verbose`, which files they are, which of them mask
+/// others, and how much they assign. If there are none, it says first which database is lost by that. Returns the status: 1 if `strict`
+/// and there is a fault, else 0. After an error the old database is as it was, and there is no new file.
 fn update_selected<D: System, E: Sink>(
     alloc: Global,
     root: &str,
@@ -149,7 +149,7 @@ fn update_selected<D: System, E: Sink>(
     }
 }
 
-/// The status where this was said of files that are left out, if it would be this one for the others alone.
+/// The status if this was said of files that are left out, if it would be this one for the others alone.
 fn status_less(strict: bool, said: &[u8], status: u8) -> u8
     ensures is { (root : List ℕ) (left_out : List Choice) → AreTold root left_out said.now
         → result ≡ status_less strict left_out status }
@@ -161,8 +161,8 @@ fn status_less(strict: bool, said: &[u8], status: u8) -> u8
     if strict { 1 } else { status }
 }
 
-/// Compiles the text files of both folders into the database of one, as `update_selected` does. Where `skip`, a chosen one
-/// that can't be read is left out: its line goes to `err` first, and where `strict` the status is 1.
+/// Compiles the text files of both folders into the database of one, as `update_selected` does. If `skip`, a chosen one
+/// that can't be read is left out: its line goes to `err` first, and if `strict` the status is 1.
 pub fn update<D: System, E: Sink>(
     alloc: Global,
     root: &str,

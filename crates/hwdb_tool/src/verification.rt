@@ -30,8 +30,8 @@ use hwdb_print::ToolError;
 use hwdb_reader::DbFault;
 use std::alloc::Global;
 
-/// How much is in the database at the path, or if none is given in the one that is asked. `-` is what `input` has left. Refuses
-/// bytes that are none, and says then what is wrong with them.
+/// How much is in the database at the path, or if none is given in the one that is asked. `-` is what `input` has left. Bytes
+/// that are none are an error, which says what is wrong with them.
 pub fn verify<D: System, I: Source>(
     alloc: Global,
     root: &str,
@@ -123,7 +123,7 @@ fn summed(alloc: Global, path: &[u8], bytes: &[u8]) -> Result<Answer, Refusal>
     }
 }
 
-/// What is refused if the bytes at the path can't be verified.
+/// The error if the bytes at the path can't be verified.
 fn refusal_of(alloc: Global, error: VerifyError, path: &[u8]) -> Refusal
     ensures refusal { IsOfVerify error path.now result }
     ensures stops { IsStop (verify_stop path.now error) result }
@@ -134,7 +134,7 @@ fn refusal_of(alloc: Global, error: VerifyError, path: &[u8]) -> Refusal
     }
 }
 
-/// The refusal of a fault.
+/// The error of a fault.
 fn refused_verdict(alloc: Global, fault: DbFault, path: &[u8]) -> Refusal
     ensures refusal { IsInWords (verdict_text path.now fault) result }
     ensures stops { IsStop (Says (verdict_text path.now fault)) result }

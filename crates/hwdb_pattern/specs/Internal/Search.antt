@@ -16,7 +16,7 @@ AreOpen pattern opens =
 abbrev pub NeverClose : List ℕ → List Bool → Type 0
 NeverClose text table = (k : ℕ) → slice_index_or table k false ≡ true → items_from false 0 (drop k text) ≡ None
 
--- each of the first bytes, so many of them, is a token that stands for itself
+-- each of the first bytes, so many of them, is a token that means itself
 abbrev pub ArePlain : List ℕ → ℕ → Type 0
 ArePlain pattern n = (k : ℕ) → k < n → token_at (drop k pattern) ≡ literal (slice_index pattern k)
 

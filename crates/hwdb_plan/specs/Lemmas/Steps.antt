@@ -55,7 +55,7 @@ stopped path bytes end_of w p next r (Ok y) why is = absurd is
 stopped path bytes end_of w p next r (Err x) (inl memory) is = inl (is ∙ memory)
 stopped path bytes end_of w p next r (Err x) (inr ends) is = inr (subst (λ (y : Refusal). Ends w (p next) (Stops (stop_of y))) (sym is) (ends next))
 
--- an error that says that memory was refused
+-- an error that says that there was no memory
 pub plainly : (r : Refusal) → stop_of r ≡ Plain error.Memory → r ≡ refusal.Plain error.Memory
 plainly (refusal.Plain e) is = let same : e ≡ error.Memory = cc in ap refusal.Plain same
 plainly (refusal.At e p c) is = cc

@@ -1,4 +1,4 @@
-//! The texts of the errors that only callers of the libraries see; the program's are lines of refusals.
+//! The texts of the errors that only callers of the libraries see; the program's are lines.
 use hwdb_compile::CompileError;
 use hwdb_query::{CursorError, PositionError};
 use hwdb_text::{ScanError, SelectError};

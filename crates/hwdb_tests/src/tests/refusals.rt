@@ -1,4 +1,4 @@
-//! The line of each refusal.
+//! The line of each error.
 use hwdb_fs::{Refusal, refuse_for};
 use hwdb_io::Cause;
 use hwdb_io::testing::MemorySink;
@@ -8,7 +8,7 @@ use std::alloc::Global;
 use std::process::Abort;
 use std::test::Fail;
 
-/// Compares the line of a refusal.
+/// Compares the line of an error.
 fn says(rt: &impl Abort, alloc: Global, refusal: &Refusal, line: &str) {
     let mut err: MemorySink<256> = MemorySink::new();
     refuse_for(alloc, refusal, &mut err);
@@ -70,7 +70,7 @@ fn of_a_database(rt: HostRuntime) {
     }
 }
 
-/// Compares the line of a refusal over a path.
+/// Compares the line of an error at a path.
 fn says_of(
     rt: &impl Abort,
     alloc: Global,

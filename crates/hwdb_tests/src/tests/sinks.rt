@@ -79,7 +79,7 @@ impl Sink for FirstFlushFails {
     }
 }
 
-/// A flush that fails is a refusal, though the next one wouldn't fail.
+/// A flush that fails is an error, though the next one wouldn't fail.
 #[test]
 fn first_flush_fails(rt: HostRuntime) -> Result<(), Fail> {
     let alloc = rt.alloc();

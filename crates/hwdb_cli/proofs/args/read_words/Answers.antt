@@ -40,7 +40,7 @@ returns-clause-job c =
     let Q : Option (Text × List Row) → Type 0 = λ sub. IsJobOf (rows_of (found_of c.in-Ok.matches)) sub c.in_ok-job-in-Some.job in
     subst P top_is (subst Q sub_is found)
 
--- a job comes only where the words have no fault
+-- a job comes only if the words have no fault
 pub returns-clause-whole : goal.returns-clause-whole
 returns-clause-whole c =
     let words = map string_bytes c.args.words.now in
