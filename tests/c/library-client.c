@@ -298,6 +298,14 @@ static void calls(const char *path, const char *other) {
         EXPECT(sd_hwdb_seek(last, "a") == 0);
     }
 
+    /* A lookup checks what it enters, and no more: the value of `a` has no priority, or a path that is no string. */
+    for (int i = 0; i < 2; i++) {
+        hwdb = opened(i ? "string" : "priority");
+        EXPECT(sd_hwdb_get(hwdb, "many1", "MANY", &value) == 0);
+        EXPECT(sd_hwdb_get(hwdb, "a", "K", &value) == -EUCLEAN);
+        sd_hwdb_unref(hwdb);
+    }
+
     /* What was read isn't read again, and a file that was overwritten or cut is a database or is refused. */
     hwdb = opened("changed");
     FILE *file = fopen("changed", "r+e");

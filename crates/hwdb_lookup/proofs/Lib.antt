@@ -6,3 +6,4 @@ pub mod TreeLemmas
 pub mod RestLemmas
 pub mod ValueLemmas
 pub mod DescentLemmas
+pub mod SaidLemmas

@@ -90,6 +90,14 @@ place_there l known file i j m is p =
     let below = p.below in
     let size = size_is known file m in (omega (arith, above, is), omega (arith, below, is, size))
 
+-- an offset in the string section is a place of the file
+pub place_found : (l : Layout) (known : Parts) (file : List ℕ) (i j : ℕ) (b : Bool) → MayBeOf known file → i ≡ j → b ≡ true → (IsTrue b ↔ (l.strings ≤ i) × (i < size_of known)) → IsPlace l file j
+place_found l known file i j b m is e h =
+    let there = h.0 e in
+    let above = there.0 in
+    let below = there.1 in
+    let size = size_is known file m in record { above = omega (arith, above, is); below = omega (arith, below, is, size) }
+
 pub refuted : (P : Type 0) (b : Bool) → b ≡ false → (IsTrue b ↔ P) → P → ⊥
 refuted P b e h p = let t : b ≡ true = h.1 p in cc
 

@@ -4,3 +4,4 @@ pub mod Seen
 pub mod Parts
 pub mod Heads
 pub mod Descents
+pub mod Saids

@@ -1,3 +1,4 @@
 pub mod Views
 pub mod Windows
+pub mod Sound
 pub mod Internal

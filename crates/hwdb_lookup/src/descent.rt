@@ -2,16 +2,18 @@
 //!
 //! It is a loop over the nodes whose children aren't all done, on a stack on the heap. Each step enters a node or
 //! closes one. The records that are entered have no more bytes than the file, so it ends: in a database no two records
-//! share a byte, and if nodes are shared the bytes run out.
-ghost use Rattle.std.specs.Prelude.{◌≡◌, ◌≤◌, ◌<◌, ◌+◌, ◌++◌, ◌∷◌, ℕ, List, [], length, filter, map, IfOk, OnOk, IfErr};
+//! share a byte, and where nodes are shared the bytes run out.
+ghost use Rattle.std.specs.Prelude.{◌≡◌, ◌≤◌, ◌<◌, ◌+◌, ◌++◌, ◌∷◌, ℕ, List, [], length, filter, map, option_map, IfOk, OnOk, IfErr};
 ghost use Rattle.hwdb_pattern.specs.Views.{StandsFor};
 ghost use Rattle.hwdb_query.specs.Views.{assignment_of_answer};
 ghost use Rattle.hwdb_spec.specs.Assignment.{Assignment};
 ghost use Rattle.hwdb_spec.specs.Answers.{is_wanted};
 ghost use Rattle.hwdb_lookup.specs.Internal.Parts.{MayBeOf, Halts, size_of};
-ghost use Rattle.hwdb_spec.specs.Tree.{Tree, Value, members_under};
+ghost use Rattle.hwdb_spec.specs.Tree.{Tree, Value, key_of, members_under};
 ghost use Rattle.hwdb_spec.specs.Format.{IsDatabase, layout_of};
 ghost use Rattle.hwdb_lookup.specs.Internal.Heads.{AreValues, own_members, value_of};
+ghost use Rattle.hwdb_lookup.specs.Internal.Saids.{AllLaid, AreSaid, IsFit, IsOffered, StaySaid};
+ghost use Rattle.hwdb_spec.specs.declared.Layout.{Layout};
 ghost use Rattle.hwdb_lookup.specs.Internal.Descents.{AllStand, stack_of, found_in, Comes, ComesOn, Enters, Lands};
 
 use crate::arrivals::{OpenNode, arrive, path_laws};
@@ -26,17 +28,29 @@ use hwdb_spec::DbFault;
 use std::alloc::{AllocError, Global};
 use std::rc::Rc;
 
+/// The key in a stored key, which begins with a space then.
+#[inline(always)]
+fn key_in<'a>(stored: &'a [u8]) -> Option<&'a [u8]>
+    ensures { option_map (λ k. k.now) result ≡ key_of stored.now }
+{
+    match stored {
+        [b' ', key @ ..] => Some(key),
+        _ => None,
+    }
+}
+
 /// Adds what one value assigns at a pattern: nothing if its stored key doesn't begin with a space.
 fn offer<'a>(
     into: &mut Vec<StoredAssignment<'a>>,
     pattern: &Rc<Vec<u8>>,
     value: StoredValue<'a>,
 ) -> Result<(), AllocError>
-    ensures { OnOk result (map assignment_of_answer into.new.items
+    ensures collected { OnOk result (map assignment_of_answer into.new.items
         ≡ map assignment_of_answer into.old.items
         ++ own_members pattern.now.value.items (value_of value.entry ∷ [])) }
+    ensures offered { OnOk result (IsOffered value.entry into.old.items into.new.items) }
 {
-    let [b' ', key @ ..] = value.key else {
+    let Some(key) = key_in(value.key) else {
         return Ok(());
     };
     into.push(StoredAssignment {
@@ -82,6 +96,8 @@ fn collect<'a>(
         → MayBeOf node.entry.known file → AreValues file node.entry values
         → map assignment_of_answer into.new.items
         ≡ map assignment_of_answer into.old.items ++ own_members pattern.now values) }
+    ensures said { OnOk result (IsFit node.entry
+        → StaySaid node.entry.known node.entry.frame.sizes into.old.items into.new.items) }
     ensures stop { IfErr result (λ s. Halts node.entry.known
         (λ file. (values : List Value) × AreValues file node.entry values) s) }
 {
@@ -103,6 +119,8 @@ fn collect_matching<'a>(
         → MayBeOf open.now.node.known file → AreValues file open.now.node values
         → map assignment_of_answer into.new.items ≡ map assignment_of_answer into.old.items
         ++ filter (is_wanted open.now.reach.device) (own_members open.now.path.items values)) }
+    ensures said { OnOk result (IsFit open.now.node → StaySaid open.now.node.known
+        open.now.node.frame.sizes into.old.items into.new.items) }
     ensures stop { IfErr result (λ s. Halts open.now.node.known
         (λ file. (values : List Value) × AreValues file open.now.node values) s) }
 {
@@ -153,6 +171,10 @@ impl<'a, 'd> Descent<'a, 'd> {
         requires all { AllStand known (stack_of self.old) }
         ensures all { OnOk result (AllStand known.entry (stack_of self.new)) }
         ensures lands { OnOk result (Lands open.entry self.old self.new) }
+        ensures said { OnOk result (IsFit open.entry.node → StaySaid known.entry
+            open.entry.node.frame.sizes self.old.found.items self.new.found.items) }
+        ensures laid { OnOk result ((l : Layout) → open.entry.node.frame.sizes ≡ l
+            → AllLaid l (stack_of self.old) → AllLaid l (stack_of self.new)) }
         ensures steps { OnOk result
             (length self.new.stack.items ≤ length self.old.stack.items + 1) }
         ensures left { OnOk result (self.new.left ≡ self.old.left) }
@@ -187,6 +209,10 @@ impl<'a, 'd> Descent<'a, 'd> {
             → MayBeOf known.entry file
             → Enters file frame.sizes levels off path.items reach.entry.device self.old all
             → Comes file reach.entry.device self.new all) }
+        ensures said { OnOk result (StaySaid known.entry frame.sizes
+            self.old.found.items self.new.found.items) }
+        ensures laid { OnOk result ((l : Layout) → frame.sizes ≡ l
+            → AllLaid l (stack_of self.old) → AllLaid l (stack_of self.new)) }
         ensures steps { OnOk result (self.new.left + length self.new.stack.items + 23
             ≤ self.old.left + length self.old.stack.items) }
         ensures stop { IfErr result (λ s. Halts known.entry (λ file. (all : List Assignment)
@@ -218,6 +244,10 @@ impl<'a, 'd> Descent<'a, 'd> {
         ensures comes { OnOk result ((file device : List ℕ) (all : List Assignment)
             → MayBeOf known.entry file
             → Comes file device self.old all → Comes file device self.new all) }
+        ensures said { OnOk result ((l : Layout) → AllLaid l (stack_of self.old)
+            → StaySaid known.entry l self.old.found.items self.new.found.items) }
+        ensures laid { OnOk result ((l : Layout)
+            → AllLaid l (stack_of self.old) → AllLaid l (stack_of self.new)) }
         ensures steps { OnOk result (self.new.left + length self.new.stack.items
             < self.old.left + length self.old.stack.items) }
         ensures stop { IfErr result (λ s. Halts known.entry (λ file. (device : List ℕ)
@@ -250,6 +280,7 @@ pub fn descend<'a>(
         → frame.sizes ≡ layout_of file → IsDatabase file t
         → map assignment_of_answer found.items
         ≡ filter (is_wanted device.now) (members_under [] t)) }
+    ensures said { IfOk result (λ found. AreSaid known.entry frame.sizes found.items) }
     ensures stop { IfErr result (λ s. Halts known.entry
         (λ file. (t : Tree) × (frame.sizes ≡ layout_of file) × IsDatabase file t) s) }
 {

@@ -5,6 +5,7 @@ ghost use Rattle.hwdb_spec.specs.Answers.{effective_of};
 ghost use Rattle.hwdb_spec.specs.Format.{IsDatabase};
 ghost use Rattle.hwdb_query.specs.Views.{pairs_bytes};
 ghost use Rattle.hwdb_lookup.specs.Views.{IsOf, Stops};
+ghost use Rattle.hwdb_lookup.specs.Sound.{AreSound};
 ghost use Rattle.hwdb_lookup.specs.Windows.{IsOfWindows};
 
 use crate::descent::descend;
@@ -35,6 +36,8 @@ pub fn lookup<'a>(
 ) -> Result<Vec<(&'a [u8], &'a [u8])>, Stop>
     ensures answer { IfOk result (λ list. (file : List ℕ) (t : Tree) → IsOf known.entry file
         → IsDatabase file t → pairs_bytes list.items ≡ effective_of (answers device.now t)) }
+    ensures sound { IfOk result (λ list. (file : List ℕ) → IsOf known.entry file
+        → AreSound file (pairs_bytes list.items)) }
     ensures stop { IfErr result
         (λ s. Stops known.entry (λ file. (t : Tree) × IsDatabase file t) s) }
 {

@@ -72,6 +72,8 @@ pub fn enter<'a>(known: Parts<'a>, frame: Frame, off: usize) -> Result<LazyNode<
     ensures node { IfOk result (λ n. (n.known ≡ known.entry) × (n.frame ≡ frame)
         × (n.off ≡ off)) }
     ensures head { IfOk result (λ n. (file : List ℕ) → MayBeOf known.entry file → IsHead file n) }
+    ensures sound { IfOk result
+        (λ n. (file : List ℕ) → MayBeOf known.entry file → Fits frame.sizes file off) }
     ensures stop { IfErr result
         (λ s. Halts known.entry (λ file. Fits frame.sizes file off) s) }
 {
@@ -137,6 +139,11 @@ impl<'a> LazyNode<'a> {
         ensures read { IfOk result (λ v. (file : List ℕ) → MayBeOf self.entry.known file
             → IsHead file self.entry
             → value_of v ≡ value_at file (value_entries self.entry.frame.sizes file self.entry.off
+            + self.entry.frame.sizes.value_size * i)) }
+        ensures sound { IfOk result (λ v. (file : List ℕ) → MayBeOf self.entry.known file
+            → IsHead file self.entry
+            → IsValue self.entry.frame.sizes file
+            (value_entries self.entry.frame.sizes file self.entry.off
             + self.entry.frame.sizes.value_size * i)) }
         ensures stop { IfErr result (λ s. Halts self.entry.known (λ file. IsHead file self.entry
             × IsValue self.entry.frame.sizes file

@@ -5,6 +5,7 @@ use Rattle.hwdb_pattern.specs.Views.{StandsFor}
 use Rattle.hwdb_spec.specs.Assignment.{Assignment}
 use Rattle.hwdb_lookup.specs.declared.descent.Descent.{Descent}
 use Rattle.hwdb_lookup.specs.Internal.Descents.{AllStand, Enters, Comes, IsNext, stack_of, found_in}
+use Rattle.hwdb_lookup.specs.Internal.Saids.{AllLaid, StaySaid}
 use Rattle.hwdb_lookup.proofs.PartsLemmas.{stop_returned}
 use Rattle.hwdb_lookup.proofs.DescentLemmas.{goes_ends, goes_down, goes_from, comes_at, enters_at_path, on_top, changed, taken_off}
 use Rattle.hwdb_lookup.proofs.descent.Descent.go_on.Goals as goal
@@ -107,3 +108,48 @@ returns-clause-stop c =
     let at = enters_at_path file top.node.frame.sizes top.levels k.off (top.path.items ++ k.byte ∷ []) c.in_ok-path.path.items top.reach.device c.in_ok-reach.reach.device now s.1 (sym path) (sym same) e in
     (s.1, at))
     c.visit.result c.visit.ensures.stop
+
+pub returns-in_default-clause-laid : goal.returns-in_default-clause-laid
+returns-in_default-clause-laid c l laid =
+    let d = c.args.self.now in
+    let items = d.stack.items in
+    let i = c.len-last.result - 1 in
+    let size : c.len-last.result ≡ length items = (let e = c.len-last.ensures in let ok = d.stack.ok in omega (arith, e, ok)) in
+    let some = c.requires.some in
+    let last : suc i ≡ length items = omega (arith, size, some) in
+    let top = c.index_mut-open.result.now in
+    let below = reverse (take i items) in
+    let on : stack_of d ≡ top ∷ below = on_top items i top last c.index_mut-open.ensures.value in
+    subst (AllLaid l) (sym (taken_off items c.pop.new.self.items i d.stack.len top last (let ok = d.stack.ok in omega (arith, ok)) c.pop.ensures.rest)) ((subst (AllLaid l) on laid).1)
+
+pub returns-clause-said : goal.returns-clause-said
+returns-clause-said c =
+    let d = c.args.self.now in
+    let items = d.stack.items in
+    let i = c.len-last.result - 1 in
+    let size : c.len-last.result ≡ length items = (let e = c.len-last.ensures in let ok = d.stack.ok in omega (arith, e, ok)) in
+    let some = c.requires.some in
+    let last : suc i ≡ length items = omega (arith, size, some) in
+    let top = c.index_mut-open.result.now in
+    let below = reverse (take i items) in
+    let on : stack_of d ≡ top ∷ below = on_top items i top last c.index_mut-open.ensures.value in
+    on_ok_weaker c.visit.result
+    (λ said l laid. subst (λ m. StaySaid c.args.known m d.found.items c.visit.new.self.found.items) (subst (AllLaid l) on laid).0 said)
+    c.visit.ensures.said
+
+pub returns-clause-laid : goal.returns-clause-laid
+returns-clause-laid c =
+    let d = c.args.self.now in
+    let items = d.stack.items in
+    let i = c.len-last.result - 1 in
+    let size : c.len-last.result ≡ length items = (let e = c.len-last.ensures in let ok = d.stack.ok in omega (arith, e, ok)) in
+    let some = c.requires.some in
+    let last : suc i ≡ length items = omega (arith, size, some) in
+    let top = c.index_mut-open.result.now in
+    let below = reverse (take i items) in
+    let on : stack_of d ≡ top ∷ below = on_top items i top last c.index_mut-open.ensures.value in
+    on_ok_weaker c.visit.result
+    (λ more l laid.
+    let all = subst (AllLaid l) on laid in
+    more l all.0 (subst (AllLaid l) (sym (changed items i (record top { done = (c.in-Some.next).done }) last)) all))
+    c.visit.ensures.laid

@@ -1,4 +1,4 @@
-use Rattle.std.proofs.Common.{◌-◌, List, refl, sym, subst, arith}
+use Rattle.std.proofs.Common.{◌-◌, ◌∙◌, List, ap, refl, sym, subst, arith}
 use Rattle.std.proofs.lemmas.Result.{on_ok_weaker}
 use Rattle.hwdb_spec.specs.Assignment.{Assignment}
 use Rattle.hwdb_spec.specs.Tree.{Value}
@@ -9,6 +9,7 @@ use Rattle.hwdb_lookup.specs.Internal.Descents.{Enters, Comes, HasCome, IsArriva
 use Rattle.hwdb_lookup.proofs.PartsLemmas.{stop_given, stop_returned}
 use Rattle.hwdb_lookup.proofs.TreeLemmas.{no_levels}
 use Rattle.hwdb_lookup.proofs.DescentLemmas.{enters_fits, enters_pays, node_end, visit_passes, visit_lands, kept_left}
+use Rattle.hwdb_lookup.proofs.SaidLemmas.{stays_said}
 use Rattle.hwdb_lookup.proofs.descent.Descent.visit.Goals as goal
 
 pub returns-then-levels-eq0-clause-stop : goal.returns-then-levels-eq0-clause-stop
@@ -77,3 +78,22 @@ returns-clause-stop c =
     (c.in_ok-node.ensures.head file m) m c.if-levels-eq0.false a come refl refl (kept_left c.args.self.now.left size c.if-self-size.false) s.1 in
     (l.values, l.are))
     c.land.result c.land.ensures.stop
+
+pub returns-clause-said : goal.returns-clause-said
+returns-clause-said c =
+    let n = c.in_ok-node.node in
+    let o = c.in-Some.open in
+    let same = c.in_ok-node.ensures.node in
+    let a = subst (IsArrival n (c.args.levels - 1) c.args.reach.device) c.in-Some.is c.in_ok-open.ensures.arrival in
+    on_ok_weaker c.land.result
+    (λ stay. stays_said c.args.known c.args.frame c.args.off n o _ _ same a.node (c.in_ok-node.ensures.head) (c.in_ok-node.ensures.sound) stay)
+    c.land.ensures.said
+
+pub returns-clause-laid : goal.returns-clause-laid
+returns-clause-laid c =
+    let n = c.in_ok-node.node in
+    let same = c.in_ok-node.ensures.node in
+    let a = subst (IsArrival n (c.args.levels - 1) c.args.reach.device) c.in-Some.is c.in_ok-open.ensures.arrival in
+    on_ok_weaker c.land.result
+    (λ laid l is. laid l (ap (λ m. m.frame.sizes) a.node ∙ ap (λ f. f.sizes) same.1 ∙ is))
+    c.land.ensures.laid

@@ -1,6 +1,6 @@
 use Rattle.std.proofs.Common.{◌+◌, ◌*◌, ◌∙◌, ap, refl, arith}
 use Rattle.hwdb_spec.specs.Format.{text_at, value_entries}
-use Rattle.hwdb_lookup.proofs.PartsLemmas.{field_there, place_there, refuted, value_is}
+use Rattle.hwdb_lookup.proofs.PartsLemmas.{field_there, place_found, place_there, refuted, value_is}
 use Rattle.hwdb_lookup.proofs.lazy_node.LazyNode.value.Goals as goal
 
 pub returns-then-not-is_string-clause-stop : goal.returns-then-not-is_string-clause-stop
@@ -56,3 +56,20 @@ returns-clause-read c file m head =
     (c.in_ok-text.ensures.read file m ∙ ap (text_at file) (c.u64_at-key.ensures ∙ there 0 8 e at head.part room (omega arith) head.children n.some_children place (omega arith) (omega arith)))
     (c.in_ok-text-2.ensures.read file m ∙ ap (text_at file) (c.u64_at-value.ensures ∙ there 8 8 (e + 8) (at + 8) head.part room (omega arith) head.children n.some_children place refl refl))
     (c.in_ok-text-3.ensures.read file m ∙ ap (text_at file) (c.u64_at-path.ensures ∙ there 16 8 (e + 16) (at + 16) head.part room (omega arith) head.children n.some_children place refl refl))
+
+pub returns-clause-sound : goal.returns-clause-sound
+returns-clause-sound c file m head =
+    let n = c.args.self in
+    let e = c.value_entry_at-entry.result in
+    let at = value_entries n.frame.sizes file n.off + n.frame.sizes.value_size * c.args.i in
+    let room = c.value_entry_at-entry.ensures.room in
+    let place = c.value_entry_at-entry.ensures.place in
+    let there = field_there n.frame.sizes file n.bytes.now n.off n.children c.args.i e in
+    let priority = c.u16_at-priority.ensures ∙ there 28 2 (e + 28) (at + 28) head.part room (omega arith) head.children n.some_children place refl refl in
+    let some = c.if-priority-eq0.false in
+    record {
+      key = place_found n.frame.sizes n.known file _ _ _ m (c.u64_at-key.ensures ∙ there 0 8 e at head.part room (omega arith) head.children n.some_children place (omega arith) (omega arith)) c.if-not-is_string.false c.is_string.ensures;
+      value = place_found n.frame.sizes n.known file _ _ _ m (c.u64_at-value.ensures ∙ there 8 8 (e + 8) (at + 8) head.part room (omega arith) head.children n.some_children place refl refl) c.if-not-is_string-2.false c.is_string-2.ensures;
+      path = place_found n.frame.sizes n.known file _ _ _ m (c.u64_at-path.ensures ∙ there 16 8 (e + 16) (at + 16) head.part room (omega arith) head.children n.some_children place refl refl) c.if-not-is_string-3.false c.is_string-3.ensures;
+      priority = omega (arith, priority, some);
+    }
