@@ -5,7 +5,7 @@ use Rattle.std.proofs.lemmas.List.{length-append}
 use Rattle.std.proofs.lemmas.List.Elements.{recursion_from_All}
 use Rattle.hwdb_spec.specs.Assignment.{Assignment}
 use Rattle.hwdb_spec.specs.Summary.{depth, depth_of}
-use Rattle.hwdb_spec.specs.Tree.{Children, Map, Tree, Value, assigned_at, key_of, members_under, values_below, values_under}
+use Rattle.hwdb_spec.specs.Tree.{Children, Map, Tree, Value, assigned_at, count, key_of, members_under, values_below, values_under}
 use Rattle.hwdb_spec.specs.Tree.Tree.{Node}
 use Rattle.hwdb_spec.specs.Tree.Children.{NoMore, Child}
 use Rattle.hwdb_spec.specs.Written.{AllKeys, AreTight, IsForked, IsTight, IsTightTree}
@@ -43,7 +43,7 @@ IsBelow n size ks = depth_of ks + suc size ≤ max (suc n) (suc size)
 -- a node that has a value or children
 node : (n : ℕ) (path prefix : List ℕ) (vs : List Value) (ks : Children) → IsForked (Node prefix vs ks) → AllKeys vs
     → AllByRecursion (IsShortAt n) (map (λ (v : Value). (path ++ prefix, v)) vs) → IsBelow n (length (path ++ prefix)) ks → 1 + depth_of ks + length path ≤ suc n
-unfolding depth IsTight
+unfolding count depth IsTight
 node n path prefix [] NoMore forked keys short b = absurd (let f = forked in omega (arith, f))
 node n path prefix (v ∷ vs) NoMore forked keys short b =
     let h = short.0 keys.0 in
