@@ -66,8 +66,8 @@ mutual
   below n path NoMore tight short = omega arith
   below n path (Child byte tree more) tight short =
       let s = split (IsShortAt n) (values_under (path ++ byte ∷ []) tree) (values_below path more) short in
-      let h = bounded n (path ++ byte ∷ []) tree tight.0 tight.1.0 s.0 in
-      let r = below n path more tight.1.1 s.1 in
+      let h = bounded n (path ++ byte ∷ []) tree tight.0 tight.1 s.0 in
+      let r = below n path more tight.2 s.1 in
       let l = length-append path (byte ∷ []) in
       omega (arith, h, l, r)
 
