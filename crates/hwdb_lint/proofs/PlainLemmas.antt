@@ -185,7 +185,7 @@ module _ (file : List ℕ) (f : IsFlat file) (l : Line) where
 
   silent_empty : Silent []
   silent_empty =
-      (refl, (refl, (refl, (refl, (refl, (refl, (refl, (not_repeated, (not_replaced, (refl, (f.unread l.number, (f.unpaired l.number, (judged_none, (refl, tt))))))))))))))
+      (refl, (refl, (refl, (refl, (refl, (refl, (refl, (not_repeated, (not_replaced, (refl, (f.unread l.number, (f.unpaired l.number, (judged_none, (refl, (refl, tt)))))))))))))))
 
   silent_property : (t : List ℕ) → has 13 (32 ∷ t) ≡ false → is_cut l (line_of l.number (32 ∷ t)) ≡ false → IsGiven own IsOwn (line_of l.number (32 ∷ t)) → Silent (32 ∷ t)
   silent_property t h c g =
@@ -212,7 +212,7 @@ module _ (file : List ℕ) (f : IsFlat file) (l : Line) where
                         not_replaced,
                         (
                           misused_by true (has_equals clean) (has_key clean) (is_spaced clean) (misuse (key clean) (value clean)) (p.common.any (value clean)),
-                          (f.unread l.number, (f.unpaired l.number, (judged_property t, (refl, tt)))),
+                          (f.unread l.number, (f.unpaired l.number, (judged_property t, (refl, (refl, tt))))),
                         ),
                       ),
                     ),

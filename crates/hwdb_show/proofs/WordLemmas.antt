@@ -1,6 +1,6 @@
 -- A shell reads a word as the text that it was made of.
 use Rattle.std.proofs.Common.{◌≡◌, ◌∙◌, ap, refl, sym, subst, cond, eqb-true, ℕ, Bool, true, false, List, [], ◌∷◌, ◌++◌, flat_map, Option, Some, None, option_map}
-use Rattle.std.specs.Prelude.{◌==◌, codes}
+use Rattle.std.specs.Prelude.{◌==◌, ◌||◌, codes}
 use Rattle.std.specs.List.{list_all, list_any}
 use Rattle.std.proofs.str.Laws.{both}
 use Rattle.hwdb_spec.specs.Commands.{is_bare_byte, quoted, quoted_byte, shell_word}
@@ -29,11 +29,11 @@ one_more : (b c : ℕ) (cs : List ℕ) → is_bare_byte b ≡ true → list_any 
 one_more b c cs bare none others = go (is_bare_byte c) (c == b) refl refl
   where
     go : (x y : Bool) → is_bare_byte c ≡ x → (c == b) ≡ y → has b (c ∷ cs) ≡ false
-    go true y e f = let bad : true ≡ false = ap (λ (x : Bool). cond x true (list_any is_bare_byte cs)) (sym e) ∙ none in cc
+    go true y e f = let bad : true ≡ false = ap (λ (x : Bool). x || list_any is_bare_byte cs) (sym e) ∙ none in cc
     go false true e f = let bad : false ≡ true = sym e ∙ ap is_bare_byte (eqb-true c b f) ∙ bare in cc
     go false false e f =
-        let rest : list_any is_bare_byte cs ≡ false = ap (λ (x : Bool). cond x true (list_any is_bare_byte cs)) (sym e) ∙ none in
-        ap (λ (x : Bool). cond x true (has b cs)) f ∙ others rest
+        let rest : list_any is_bare_byte cs ≡ false = ap (λ (x : Bool). x || list_any is_bare_byte cs) (sym e) ∙ none in
+        ap (λ (x : Bool). x || has b cs) f ∙ others rest
 
 none_of : (b : ℕ) (cs : List ℕ) → is_bare_byte b ≡ true → list_any is_bare_byte cs ≡ false → has b cs ≡ false
 none_of b [] bare none = refl

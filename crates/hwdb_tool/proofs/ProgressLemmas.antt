@@ -70,7 +70,7 @@ progress_is listed files etc usr bytes text of made told =
     let kept = finite.len (map_of_files etc usr) in
     let given = given_count etc usr in
     let long = flat_map long_of files in
-    told (map_of_files etc usr) made.0 made made.1.0
+    told (map_of_files etc usr) made.0 made made.1
     ∙ ap (λ l. l ++ deep_line (depth made.0))
     (ap (λ cs. (flat_map (chosen_line listed) cs ++ kept_line (length files) given kept) ++ long) of.choices
     ∙ ap (λ n. (flat_map (chosen_line listed) (chosen_of etc usr) ++ kept_line n given kept) ++ long) (sym (length-map files choice_in) ∙ ap length of.choices)

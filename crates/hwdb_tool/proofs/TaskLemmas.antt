@@ -367,7 +367,7 @@ module _ (tree : (bytes : List ℕ) (t u : Tree) → IsDatabase bytes t → IsDa
         let same = form (map_of_files a.of_etc a.of_usr) a.updated.database b.updated.database a.updated.written
         (subst (λ m. IsWritten m b.updated.database) (sym (one_map a.of_etc a.of_usr b.of_etc b.of_usr reading)) b.updated.written) in
         let deep : depth a.updated.compiled.0 ≡ depth b.updated.compiled.0 =
-        ap depth (tree b.updated.database a.updated.compiled.0 b.updated.compiled.0 (subst (λ (bs : List ℕ). IsDatabase bs a.updated.compiled.0) same a.updated.compiled.1.0) b.updated.compiled.1.0) in
+        ap depth (tree b.updated.database a.updated.compiled.0 b.updated.compiled.0 (subst (λ (bs : List ℕ). IsDatabase bs a.updated.compiled.0) same a.updated.compiled.1) b.updated.compiled.1) in
         record {
           one_status = a.updated.answer ∙ one_status a.of_etc a.of_usr b.of_etc b.of_usr reading strict ∙ sym b.updated.answer;
           one_files = one_place (database_folder usr root) a.updated.database b.updated.database old now.files now2.files left left2 same a.updated.stored b.updated.stored;
