@@ -2,7 +2,7 @@
 //!
 //! It is a loop over the nodes whose children aren't all done, on a stack on the heap. Each step enters a node or
 //! closes one. The records that are entered have no more bytes than the file, so it ends: in a database no two records
-//! share a byte, and where nodes are shared the bytes run out.
+//! share a byte, and if nodes are shared the bytes run out.
 ghost use Rattle.std.specs.Prelude.{◌≡◌, ◌≤◌, ◌<◌, ◌+◌, ◌++◌, ◌∷◌, ℕ, List, [], length, filter, map, option_map, IfOk, OnOk, IfErr};
 ghost use Rattle.hwdb_pattern.specs.Views.{StandsFor};
 ghost use Rattle.hwdb_query.specs.Views.{assignment_of_answer};
