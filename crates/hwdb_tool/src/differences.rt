@@ -28,8 +28,7 @@ use hwdb_text::Lines;
 use std::alloc::{AllocError, Global};
 
 /// What is said if standard input would be read twice.
-const TWICE: &str =
-    "only one of OLD, NEW and --devices FILE may be -: standard input is read once";
+const TWICE: &str = "only one of OLD, NEW and --devices FILE may be -: standard input is read once";
 
 /// What changed from the side at one path to that at another, as text or JSON. For the devices of the given files, a line each, it is
 /// what changed in what each of them gets; without a file it is each pattern and key for which the two differ. `-` is what `input` has
@@ -72,8 +71,10 @@ pub fn diff<D: TextsBelow, I: Source>(
 fn names_twice(given: &[String], old_path: &str, new_path: &str) -> bool
     ensures { result ≡ names_twice (map string_bytes given.now) old_path.now new_path.now }
 {
-    let (of_old, of_new) = (is_dash(old_path), is_dash(new_path));
-    (of_old && of_new) || ((of_old || of_new) && any_dash(given))
+    let of_old = is_dash(old_path);
+    let of_new = is_dash(new_path);
+    let of_devices = any_dash(given);
+    (of_old && of_new) || ((of_old || of_new) && of_devices)
 }
 
 /// The error of that.
