@@ -217,10 +217,10 @@ fn status_of(differ: bool) -> u8
 }
 
 /// How errors call the side at a path.
-fn told_path(path: &str) -> &str
+fn told_path(path: &str) -> &[u8]
     ensures { result.now ≡ told_path path.now }
 {
-    if is_dash(path) { INPUT } else { path }
+    if is_dash(path) { INPUT } else { path.as_bytes() }
 }
 
 /// The error if the databases of these sides can't be compared.
@@ -229,12 +229,10 @@ fn refusal_of(alloc: Global, error: DiffError, old_path: &str, new_path: &str) -
 {
     match error {
         DiffError::Old(fault) => {
-            let path = told_path(old_path).as_bytes();
-            Refusal::at(alloc, ToolError::BadDatabase(fault), path, None)
+            Refusal::at(alloc, ToolError::BadDatabase(fault), told_path(old_path), None)
         }
         DiffError::New(fault) => {
-            let path = told_path(new_path).as_bytes();
-            Refusal::at(alloc, ToolError::BadDatabase(fault), path, None)
+            Refusal::at(alloc, ToolError::BadDatabase(fault), told_path(new_path), None)
         }
         DiffError::Memory => Refusal::from(ToolError::Memory),
     }

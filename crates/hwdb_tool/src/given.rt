@@ -22,7 +22,7 @@ use hwdb_print::ToolError;
 use std::alloc::Global;
 
 /// How errors call standard input.
-pub const INPUT: &str = "standard input";
+pub const INPUT: &[u8] = b"standard input";
 
 /// Whether a word stands for standard input.
 pub fn is_dash(path: &str) -> bool
@@ -61,7 +61,7 @@ fn refusal_of(alloc: Global, error: ReadError, cause: Option<Cause>) -> Refusal
     match error {
         ReadError::Failed => read_refusal(alloc, cause),
         ReadError::TooLong => {
-            Refusal::of_cause(alloc, ToolError::TooLong, INPUT.as_bytes(), None)
+            Refusal::of_cause(alloc, ToolError::TooLong, INPUT, None)
         }
         ReadError::Memory => Refusal::from(ToolError::Memory),
     }
@@ -74,7 +74,7 @@ fn read_refusal(alloc: Global, cause: Option<Cause>) -> Refusal
 {
     match cause {
         Some(cause) => refused_for(alloc, cause),
-        None => Refusal::of_cause(alloc, ToolError::Read, INPUT.as_bytes(), None),
+        None => Refusal::of_cause(alloc, ToolError::Read, INPUT, None),
     }
 }
 
@@ -86,7 +86,7 @@ fn refused_for(alloc: Global, cause: Cause) -> Refusal
 {
     match cause {
         Cause::Memory => Refusal::from(ToolError::Memory),
-        cause => Refusal::of_cause(alloc, ToolError::Read, INPUT.as_bytes(), Some(cause)),
+        cause => Refusal::of_cause(alloc, ToolError::Read, INPUT, Some(cause)),
     }
 }
 
