@@ -24,7 +24,8 @@ const AFTER: &str =
     "Exit status: 0 if nothing changed, 1 if something did, 2 on errors.\nExample: hwdb diff --stat debian12/ debian13/";
 
 /// What help says of a side.
-const OLD: &str = "The old side: a database, FILE.hwdb, a folder of such files, or a root";
+const OLD: &str =
+    "The old side: a database, or - for standard input, FILE.hwdb, a folder of such files, or a root";
 
 /// The command.
 pub fn command<'a>(alloc: Global) -> Draft<'a>

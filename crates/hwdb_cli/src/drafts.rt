@@ -133,7 +133,8 @@ pub fn device_argument<'a>(alloc: Global) -> Arg<'a>
 pub fn database_argument<'a>(alloc: Global) -> Arg<'a>
     ensures { IsArgument database_rule result }
 {
-    let help = "A database; without one that of /etc/udev, or of /usr/lib/udev";
+    let help =
+        "A database, or - for standard input; without one that of /etc/udev, or of /usr/lib/udev";
     word(alloc, "DATABASE", help, ArgAction::Set)
 }
 

@@ -103,14 +103,14 @@ of_none Q given (refusal.Plain e) is = cc
 of_none Q given (refusal.At e p c) is = cc
 of_none Q given (refusal.InWords text) is = cc
 
-in_words : (Q : Refusal → Type 0) (text : List ℕ) → ((t : Vec ℕ Global) → t.items ≡ text → Q (refusal.InWords t)) → (r : Refusal) → stop_of r ≡ Says text → Q r
+pub in_words : (Q : Refusal → Type 0) (text : List ℕ) → ((t : Vec ℕ Global) → t.items ≡ text → Q (refusal.InWords t)) → (r : Refusal) → stop_of r ≡ Says text → Q r
 in_words Q text given (refusal.InWords t) is = let same : t.items ≡ text = cc in given t same
 in_words Q text given (refusal.Plain e) is = cc
 in_words Q text given (refusal.At e p c) is = cc
 in_words Q text given refusal.NoDatabase is = cc
 
 -- ---- reading
-module _ (w : Reads) (seen : Contents) (fails : List ℕ → Type 0) (agree : AreReadsOf w seen fails) where
+module _ (w : Reads) (seen : Contents) (fails : List ℕ → Type 0) where
   unread_so : (U : List ℕ → Type 0) (path : List ℕ) (u : Unread) (r : Refusal) → IsSo seen (U path) path u → stop_of r ≡ unread_stop path u → IsUnreadAt seen path r × HasReason U ⊥ seen r
   unread_so U path unread.TooLong r so is =
       over_at (λ x. IsUnreadAt seen path x × HasReason U ⊥ seen x) TooLong path None
@@ -139,69 +139,70 @@ module _ (w : Reads) (seen : Contents) (fails : List ℕ → Type 0) (agree : Ar
   abbrev LeadsOr : (given : Option (List ℕ)) (root : List ℕ) (next : Next) (e : End) → Type 0
   LeadsOr given root next e = Leads given root next e ⊎ ((s : Stop) × (e ≡ Stops s) × Unread' given root s)
 
-  input_leads : (path root : List ℕ) (next : Next) (e : End) (answer : Result (List ℕ) Unread) → w.input path ≡ answer → Ends w (if_read path next answer) e → LeadsOr (Some path) root next e
-  unfolding Ends
-  input_leads path root next e (Ok bytes) told ends =
-      let is = agree.input path bytes told in inl record { path = path; bytes = bytes; at = refl; named = is.0; held = is.0; within = is.1; ends = ends }
-  input_leads path root next e (Err u) told ends =
-      inr (unread_stop path u, ends, λ r says. unread_so (IsUnreadable fails seen) path u r (agree.no_input path u told) says)
+  module _ (agree : AreReadsOf w seen fails) where
+    input_leads : (path root : List ℕ) (next : Next) (e : End) (answer : Result (List ℕ) Unread) → w.input path ≡ answer → Ends w (if_read path next answer) e → LeadsOr (Some path) root next e
+    unfolding Ends
+    input_leads path root next e (Ok bytes) told ends =
+        let is = agree.input path bytes told in inl record { path = path; bytes = bytes; at = refl; named = is.0; held = is.0; within = is.1; ends = ends }
+    input_leads path root next e (Err u) told ends =
+        inr (unread_stop path u, ends, λ r says. unread_so (IsUnreadable fails seen) path u r (agree.no_input path u told) says)
 
-  unfound : (root path : List ℕ) (r : Refusal) → IsAskedPath root seen path → IsUnreadAt seen path r → IsUnfound root seen r
-  unfound root path (refusal.Plain e) asked h = (path, asked, h)
-  unfound root path (refusal.At e p c) asked h = (path, asked, h)
-  unfound root path refusal.NoDatabase asked h = absurd h
-  unfound root path (refusal.InWords text) asked h = (path, asked, h)
+    unfound : (root path : List ℕ) (r : Refusal) → IsAskedPath root seen path → IsUnreadAt seen path r → IsUnfound root seen r
+    unfound root path (refusal.Plain e) asked h = (path, asked, h)
+    unfound root path (refusal.At e p c) asked h = (path, asked, h)
+    unfound root path refusal.NoDatabase asked h = absurd h
+    unfound root path (refusal.InWords text) asked h = (path, asked, h)
 
-  asked_unread : (root path : List ℕ) (u : Unread) → IsAskedPath root seen path → w.database path ≡ Err u → Unread' None root (unread_stop path u)
-  asked_unread root path u asked told r says =
-      let both = unread_so fails path u r (agree.no_database path u told) says in (unfound root path r asked both.0, both.1)
+    asked_unread : (root path : List ℕ) (u : Unread) → IsAskedPath root seen path → w.database path ≡ Err u → Unread' None root (unread_stop path u)
+    asked_unread root path u asked told r says =
+        let both = unread_so fails path u r (agree.no_database path u told) says in (unfound root path r asked both.0, both.1)
 
-  second_leads : (root : List ℕ) (next : Next) (e : End) → bytes_at seen (database_path false root) ≡ None → (answer : Result (Option (List ℕ)) Unread) → w.database (database_path true root) ≡ answer
-      → Ends w (if_there (database_path true root) next (Done (Stops NoDatabase)) answer) e → LeadsOr None root next e
-  unfolding Ends
-  second_leads root next e none (Ok (Some bytes)) told ends =
-      let is = agree.database (database_path true root) (Some bytes) told in
-      inl record {
-        path = database_path true root;
-        bytes = bytes;
-        at = inr (refl, none);
-        named = ap (λ (o : Option (List ℕ)). option_or o (bytes_at seen (database_path true root))) none ∙ is.0;
-        held = is.0;
-        within = is.1;
-        ends = ends;
-      }
-  second_leads root next e none (Ok None) told ends =
-      let is = agree.database (database_path true root) None told in
-      let no : asked_database root seen ≡ None = ap (λ (o : Option (List ℕ)). option_or o (bytes_at seen (database_path true root))) none ∙ is.0 in
-      inr (NoDatabase, ends, λ r says. of_none (λ x. IsUnnamed None root seen x × HasReason fails ⊥ seen x) (no, tt) r says)
-  second_leads root next e none (Err u) told ends =
-      inr (unread_stop (database_path true root) u, ends, asked_unread root (database_path true root) u (inr (refl, none)) told)
+    second_leads : (root : List ℕ) (next : Next) (e : End) → bytes_at seen (database_path false root) ≡ None → (answer : Result (Option (List ℕ)) Unread) → w.database (database_path true root) ≡ answer
+        → Ends w (if_there (database_path true root) next (Done (Stops NoDatabase)) answer) e → LeadsOr None root next e
+    unfolding Ends
+    second_leads root next e none (Ok (Some bytes)) told ends =
+        let is = agree.database (database_path true root) (Some bytes) told in
+        inl record {
+          path = database_path true root;
+          bytes = bytes;
+          at = inr (refl, none);
+          named = ap (λ (o : Option (List ℕ)). option_or o (bytes_at seen (database_path true root))) none ∙ is.0;
+          held = is.0;
+          within = is.1;
+          ends = ends;
+        }
+    second_leads root next e none (Ok None) told ends =
+        let is = agree.database (database_path true root) None told in
+        let no : asked_database root seen ≡ None = ap (λ (o : Option (List ℕ)). option_or o (bytes_at seen (database_path true root))) none ∙ is.0 in
+        inr (NoDatabase, ends, λ r says. of_none (λ x. IsUnnamed None root seen x × HasReason fails ⊥ seen x) (no, tt) r says)
+    second_leads root next e none (Err u) told ends =
+        inr (unread_stop (database_path true root) u, ends, asked_unread root (database_path true root) u (inr (refl, none)) told)
 
-  first_leads : (root : List ℕ) (next : Next) (e : End) (answer : Result (Option (List ℕ)) Unread) → w.database (database_path false root) ≡ answer
-      → Ends w (if_there (database_path false root) next (Database (database_path true root) (if_there (database_path true root) next (Done (Stops NoDatabase)))) answer) e → LeadsOr None root next e
-  unfolding Ends
-  first_leads root next e (Ok (Some bytes)) told ends =
-      let is = agree.database (database_path false root) (Some bytes) told in
-      inl record {
-        path = database_path false root;
-        bytes = bytes;
-        at = inl refl;
-        named = ap (λ (o : Option (List ℕ)). option_or o (bytes_at seen (database_path true root))) is.0;
-        held = is.0;
-        within = is.1;
-        ends = ends;
-      }
-  first_leads root next e (Ok None) told ends =
-      let is = agree.database (database_path false root) None told in
-      second_leads root next e is.0 (w.database (database_path true root)) refl ends
-  first_leads root next e (Err u) told ends =
-      inr (unread_stop (database_path false root) u, ends, asked_unread root (database_path false root) u (inl refl) told)
+    first_leads : (root : List ℕ) (next : Next) (e : End) (answer : Result (Option (List ℕ)) Unread) → w.database (database_path false root) ≡ answer
+        → Ends w (if_there (database_path false root) next (Database (database_path true root) (if_there (database_path true root) next (Done (Stops NoDatabase)))) answer) e → LeadsOr None root next e
+    unfolding Ends
+    first_leads root next e (Ok (Some bytes)) told ends =
+        let is = agree.database (database_path false root) (Some bytes) told in
+        inl record {
+          path = database_path false root;
+          bytes = bytes;
+          at = inl refl;
+          named = ap (λ (o : Option (List ℕ)). option_or o (bytes_at seen (database_path true root))) is.0;
+          held = is.0;
+          within = is.1;
+          ends = ends;
+        }
+    first_leads root next e (Ok None) told ends =
+        let is = agree.database (database_path false root) None told in
+        second_leads root next e is.0 (w.database (database_path true root)) refl ends
+    first_leads root next e (Err u) told ends =
+        inr (unread_stop (database_path false root) u, ends, asked_unread root (database_path false root) u (inl refl) told)
 
-  -- a plan over a named database goes on with it, or ends with an error
-  pub leads : (given : Option (List ℕ)) (root : List ℕ) (next : Next) (e : End) → Ends w (named given root next) e → LeadsOr given root next e
-  unfolding Ends
-  leads None root next e ends = first_leads root next e (w.database (database_path false root)) refl ends
-  leads (Some path) root next e ends = input_leads path root next e (w.input path) refl ends
+    -- a plan over a named database goes on with it, or ends with an error
+    pub leads : (given : Option (List ℕ)) (root : List ℕ) (next : Next) (e : End) → Ends w (named given root next) e → LeadsOr given root next e
+    unfolding Ends
+    leads None root next e ends = first_leads root next e (w.database (database_path false root)) refl ends
+    leads (Some path) root next e ends = input_leads path root next e (w.input path) refl ends
 
   -- ---- want of memory
   memory_unnamed : (given : Option (List ℕ)) (root : List ℕ) → IsUnnamed given root seen (refusal.Plain Memory)
@@ -216,7 +217,7 @@ module _ (w : Reads) (seen : Contents) (fails : List ℕ → Type 0) (agree : Ar
     abbrev Verified : Answer → Type 0
     Verified a = (a.status ≡ 0) × OnOut (IsPrinted given root IsSummary seen) (record { err = a.err.items; out = a.out.items })
 
-    summed : (a : Answer) (path bytes : List ℕ) → named_database given root seen ≡ Some bytes → length bytes ≤ max_file → Ends w (summary path bytes) (end_of a) → Verified a
+    pub summed : (a : Answer) (path bytes : List ℕ) → named_database given root seen ≡ Some bytes → length bytes ≤ max_file → Ends w (summary path bytes) (end_of a) → Verified a
     unfolding Ends
     summed a path bytes is within (inl (t, database, end)) =
         let status : a.status ≡ 0 = cc in
@@ -229,7 +230,7 @@ module _ (w : Reads) (seen : Contents) (fails : List ℕ → Type 0) (agree : Ar
     verified a (inl l) = summed a l.path l.bytes l.named l.within l.ends
     verified a (inr (s, is, why)) = cc
 
-    unsummed : (r : Refusal) (l : Leads given root summary (Stops (stop_of r))) → Ends w (summary l.path l.bytes) (Stops (stop_of r)) → IsVerifyRefused given root seen r × Reason r
+    pub unsummed : (r : Refusal) (l : Leads given root summary (Stops (stop_of r))) → Ends w (summary l.path l.bytes) (Stops (stop_of r)) → IsVerifyRefused given root seen r × Reason r
     unfolding Ends
     unsummed r l (inl (t, database, end)) = cc
     unsummed r l (inr (f, none, end)) =
@@ -255,12 +256,12 @@ module _ (w : Reads) (seen : Contents) (fails : List ℕ → Type 0) (agree : Ar
     unverified r (inr (s, is, why)) = let says : stop_of r ≡ s = cc in let both = why r says in (inl both.0, both.1)
 
     -- what `verify` promised is what follows its plan
-    pub verify_as_before : (result : Result Answer Refusal) → Follows end_of w (verify_plan given root) result
+    pub verify_as_before : (agree : AreReadsOf w seen fails) (result : Result Answer Refusal) → Follows end_of w (verify_plan given root) result
         → IfOk result Verified × IfErr result (IsVerifyRefused given root seen) × IfErr result Reason
-    verify_as_before (Ok a) ends = (verified a (leads given root summary (end_of a) ends), tt, tt)
-    verify_as_before (Err r) (inl memory) =
+    verify_as_before agree (Ok a) ends = (verified a (leads agree given root summary (end_of a) ends), tt, tt)
+    verify_as_before agree (Err r) (inl memory) =
         (tt, subst (IsVerifyRefused given root seen) (sym memory) (inl (memory_unnamed given root)), subst Reason (sym memory) tt)
-    verify_as_before (Err r) (inr ends) = let both = unverified r (leads given root summary (Stops (stop_of r)) ends) in (tt, both.0, both.1)
+    verify_as_before agree (Err r) (inr ends) = let both = unverified r (leads agree given root summary (Stops (stop_of r)) ends) in (tt, both.0, both.1)
 
     -- ---- `dump`
     abbrev Dumped : Answer → Type 0
@@ -287,7 +288,7 @@ module _ (w : Reads) (seen : Contents) (fails : List ℕ → Type 0) (agree : Ar
         )
     said a path bytes t (Some x) is within database all end = cc
 
-    texted : (a : Answer) (path bytes : List ℕ) → named_database given root seen ≡ Some bytes → length bytes ≤ max_file → Ends w (text_form path bytes) (end_of a) → Dumped a
+    pub texted : (a : Answer) (path bytes : List ℕ) → named_database given root seen ≡ Some bytes → length bytes ≤ max_file → Ends w (text_form path bytes) (end_of a) → Dumped a
     unfolding Ends
     texted a path bytes is within (inl (t, database, ends)) = said a path bytes t (first_unsaid (dumped t)) is within database refl ends
     texted a path bytes is within (inr (f, none, end)) = cc
@@ -321,7 +322,7 @@ module _ (w : Reads) (seen : Contents) (fails : List ℕ → Type 0) (agree : Ar
             tt,
           )) r says
 
-      untexted : Ends w (text_form l.path l.bytes) (Stops (stop_of r)) → NotDumped r
+      pub untexted : Ends w (text_form l.path l.bytes) (Stops (stop_of r)) → NotDumped r
       unfolding Ends
       untexted (inl (t, database, ends)) = unsaid_by t (first_unsaid (dumped t)) database refl ends
       untexted (inr (f, none, end)) =
@@ -347,9 +348,9 @@ module _ (w : Reads) (seen : Contents) (fails : List ℕ → Type 0) (agree : Ar
     undumped r (inr (s, is, why)) = let says : stop_of r ≡ s = cc in let both = why r says in (inl both.0, both.1)
 
     -- what `dump` promised is what follows its plan
-    pub dump_as_before : (result : Result Answer Refusal) → Follows end_of w (dump_plan given root) result
+    pub dump_as_before : (agree : AreReadsOf w seen fails) (result : Result Answer Refusal) → Follows end_of w (dump_plan given root) result
         → IfOk result Dumped × IfErr result (IsDumpRefused given root seen) × IfErr result Reason
-    dump_as_before (Ok a) ends = (was_dumped a (leads given root text_form (end_of a) ends), tt, tt)
-    dump_as_before (Err r) (inl memory) =
+    dump_as_before agree (Ok a) ends = (was_dumped a (leads agree given root text_form (end_of a) ends), tt, tt)
+    dump_as_before agree (Err r) (inl memory) =
         (tt, subst (IsDumpRefused given root seen) (sym memory) (inl (memory_unnamed given root)), subst Reason (sym memory) tt)
-    dump_as_before (Err r) (inr ends) = let both = undumped r (leads given root text_form (Stops (stop_of r)) ends) in (tt, both.0, both.1)
+    dump_as_before agree (Err r) (inr ends) = let both = undumped r (leads agree given root text_form (Stops (stop_of r)) ends) in (tt, both.0, both.1)

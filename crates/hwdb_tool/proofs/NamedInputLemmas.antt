@@ -1,24 +1,30 @@
 -- Databases that words name: `-` is standard input.
-use Rattle.std.proofs.Common.{◌≡◌, ◌≤◌, ◌<◌, ◌⊎◌, ◌∙◌, inl, inr, ap, sym, subst, refl, ℕ, Bool, true, false, List, [], length, Option, None, Some, Result, Ok, Err, IfErr, IfOk, IfSome, option_map}
-use Rattle.std.specs.Prelude.{codes, is_some}
+use Rattle.std.proofs.Common.{Global, Vec, arith, ◌≡◌, ◌≢◌, ◌≤◌, ◌<◌, ◌⊎◌, ◌∙◌, inl, inr, ap, sym, subst, refl, ℕ, Bool, true, false, List, [], length, Option, None, Some, Result, Ok, Err, IfErr, IfOk, IfSome, option_map}
+use Rattle.std.specs.Prelude.{codes, is_some, vec_len}
 use Rattle.std.specs.Result.{IsErrAnd}
 use Rattle.hwdb_spec.specs.Asked.{IsDumped, IsPrinted, named_database}
 use Rattle.hwdb_spec.specs.Databases.{IsSayable, IsSummary, IsTextOf}
 use Rattle.hwdb_spec.specs.Dump.{dump_text}
 use Rattle.hwdb_spec.specs.DumpErrors.{IsDumpRefusal}
+use Rattle.hwdb_spec.specs.Failures.{HasFailed}
 use Rattle.hwdb_spec.specs.GivenDatabases.{HasDatabaseReason, OfGiven, OfNamed, names_input, with_input}
 use Rattle.hwdb_spec.specs.NamedDatabases.{IsDumpRefused, IsOfDump, IsOfVerify, IsVerifyRefused}
 use Rattle.hwdb_spec.specs.Reasons.{HasGivenReason}
-use Rattle.hwdb_spec.specs.Refusals.{HasReason, IsAt, IsInWords, IsUnread, IsUnreadAt, IsUnreadable}
+use Rattle.hwdb_spec.specs.Refusals.{HasReason, IsAt, IsInWords, IsOfCause, IsUnread, IsUnreadAt}
 use Rattle.hwdb_spec.specs.Runs.{OnOut}
 use Rattle.hwdb_spec.specs.Store.{Contents}
 use Rattle.hwdb_spec.specs.System.{bytes_at}
 use Rattle.hwdb_spec.specs.Texts.{max_file}
-use Rattle.hwdb_spec.specs.Told.{IsUnreadAs, Reads, stop_of}
+use Rattle.hwdb_spec.specs.Told.{IsStop, IsUnreadAs, Reads, stop_of, unread_stop}
+use Rattle.hwdb_spec.specs.Told.Stop.{Over}
 use Rattle.hwdb_spec.specs.Undone.{IsUnreadableIf}
 use Rattle.hwdb_spec.specs.VerifyErrors.{IsVerifyRefusal}
+use Rattle.hwdb_spec.specs.declared.causes.Cause.{Cause}
+use Rattle.hwdb_spec.specs.declared.causes.Cause.TheVariants as why
 use Rattle.hwdb_spec.specs.declared.errors.DumpError.{DumpError}
 use Rattle.hwdb_spec.specs.declared.errors.DumpError.TheVariants as dumping
+use Rattle.hwdb_spec.specs.declared.errors.ReadError.{ReadError}
+use Rattle.hwdb_spec.specs.declared.errors.ReadError.TheVariants as reading
 use Rattle.hwdb_spec.specs.declared.errors.ToolError.{ToolError}
 use Rattle.hwdb_spec.specs.declared.errors.ToolError.TheVariants.{BadDatabase, BadPosition, Memory, Read, Replace, TooLarge, TooLong, TooManyFiles, TooManyLines, Write}
 use Rattle.hwdb_spec.specs.declared.errors.VerifyError.{VerifyError}
@@ -26,18 +32,65 @@ use Rattle.hwdb_spec.specs.declared.errors.VerifyError.TheVariants as verifying
 use Rattle.hwdb_spec.specs.declared.refusals.Refusal.{Refusal}
 use Rattle.hwdb_spec.specs.declared.refusals.Refusal.TheVariants.{At, InWords, NoDatabase, Plain}
 use Rattle.hwdb_spec.specs.declared.unread.Unread.{Unread}
+use Rattle.hwdb_spec.specs.declared.unread.Unread.TheVariants as unread
 use Rattle.hwdb_plan.specs.Asking.{if_read}
 use Rattle.hwdb_plan.specs.Input.{IsInputTold, OverGiven, OverInput, OverNamed, reads_with}
-use Rattle.hwdb_plan.specs.Lemmas.Steps.{input_told, input_untold}
+use Rattle.hwdb_plan.specs.Lemmas.Steps.{input_told, input_untold, plainly}
 use Rattle.hwdb_plan.specs.Plans.{End, Ends, Follows, Next, Plan}
 use Rattle.hwdb_plan.specs.Plans.End.{Stops}
 use Rattle.hwdb_plan.specs.Plans.Plan.{Input}
+use Rattle.hwdb_tool.specs.Internal.{input_stop}
 use Rattle.hwdb_tool.specs.Views.{texts_in}
 use Rattle.hwdb_tool.specs.declared.answer.Answer.{Answer}
 use Rattle.hwdb_tool.proofs.GivenLemmas.{file_reason}
 
 abbrev pub name : List ℕ
 name = codes "standard input"
+
+-- ---- why it isn't read
+of_cause_stop : (e : ToolError) (path : List ℕ) (cause : Option Cause) (r : Refusal) → IsOfCause e path cause r → IsStop (Over e path cause) r
+of_cause_stop e path cause (Plain x) is = inl (ap Plain is)
+of_cause_stop e path cause (At x at because) is = inr one
+  where
+    error_ : x ≡ e
+    error_ = is.0
+
+    there : at.items ≡ path
+    there = is.1
+
+    why_ : because ≡ cause
+    why_ = is.2
+
+    one : Over x at.items because ≡ Over e path cause
+    one = cc
+of_cause_stop e path cause NoDatabase is = absurd is
+of_cause_stop e path cause (InWords text) is = absurd is
+
+pub no_cause_stop : (r : Refusal) → IsOfCause Read name None r → IsStop (unread_stop name (unread.Failed None)) r
+no_cause_stop r is = of_cause_stop Read name None r is
+
+pub cause_stop : (c : Cause) (r : Refusal) → c ≢ why.Memory → IsOfCause Read name (Some c) r → IsStop (unread_stop name (unread.Failed (Some c))) r
+cause_stop why.Memory r no is = absurd (no refl)
+cause_stop c r no is = of_cause_stop Read name (Some c) r is
+
+pub long_stop : (r : Refusal) → IsOfCause TooLong name None r → IsStop (Over TooLong name None) r
+long_stop r is = of_cause_stop TooLong name None r is
+
+pub within_of : (text : Vec ℕ Global) (most : ℕ) → vec_len text ≤ most → length text.items ≤ most
+within_of text most fits = let same = text.ok.0 in omega (arith, same, fits)
+
+-- an error of `read_all`, as what is told of standard input
+module _ (input : Option (List ℕ)) (n m : ℕ) where
+  memory_told : (r : Refusal) → r ≡ Plain Memory → (answer : Result (List ℕ) Unread) × IsInputTold input n m answer × IsUnreadAs answer name r
+  memory_told r is = (Err unread.Memory, tt, inl is)
+
+  -- by the error of the call, and what is so if it is that
+  pub error_told : (e : ReadError) (cause : Option Cause) (r : Refusal) → (e ≡ reading.Failed → HasFailed n m) → (e ≡ reading.TooLong → IfSome input (λ told. max_file < length told))
+      → IsStop (input_stop e cause) r → (answer : Result (List ℕ) Unread) × IsInputTold input n m answer × IsUnreadAs answer name r
+  error_told e cause r failed long (inl memory) = memory_told r memory
+  error_told reading.Failed cause r failed long (inr says) = (Err (unread.Failed cause), failed refl, inr (unread.Failed cause, refl, says))
+  error_told reading.TooLong cause r failed long (inr says) = (Err unread.TooLong, long refl, inr (unread.TooLong, refl, says))
+  error_told reading.Memory cause r failed long (inr says) = memory_told r (plainly r says)
 
 -- ---- what is so of the named database, if that is standard input, and if it isn't
 pub of_dash : (given input : Option (List ℕ)) (contents : Contents) (Is : Option (List ℕ) → Contents → Type 0) → names_input given ≡ true
@@ -159,17 +212,21 @@ module _ (input : Option (List ℕ)) (bytes : List ℕ) (same : IfSome input (λ
   summed_input (Err r) is = tt
 
   pub unsummed_input : (r : Refusal) → ((e : VerifyError) × IsOfVerify e name r × IsVerifyRefusal bytes e) → OfGiven true [] input seen (λ path files. IsVerifyRefused (Some path) root files r)
-  unsummed_input r why = (bytes, same, inr record {
-    path = name;
-    bytes = bytes;
-    at = refl;
-    named = input_at bytes seen;
-    held = input_at bytes seen;
-    within = within;
-    error = why.0;
-    is = why.1;
-    refused = why.2;
-  })
+  unsummed_input r why = (
+    bytes,
+    same,
+    inr record {
+      path = name;
+      bytes = bytes;
+      at = refl;
+      named = input_at bytes seen;
+      held = input_at bytes seen;
+      within = within;
+      error = why.0;
+      is = why.1;
+      refused = why.2;
+    },
+  )
 
   -- ---- and `dump`
   pub texted_input : (result : Result Answer Refusal) → IfOk result (λ a. OnOut (IsTextOf dump_text bytes) (texts_in a)) → IfOk result (λ _. IsSayable bytes)
@@ -178,17 +235,21 @@ module _ (input : Option (List ℕ)) (bytes : List ℕ) (same : IfSome input (λ
   texted_input (Err r) is all = tt
 
   pub untexted_input : (r : Refusal) → ((e : DumpError) × IsOfDump e name r × IsDumpRefusal bytes e) → OfGiven true [] input seen (λ path files. IsDumpRefused (Some path) root files r)
-  untexted_input r why = (bytes, same, inr record {
-    path = name;
-    bytes = bytes;
-    at = refl;
-    named = input_at bytes seen;
-    held = input_at bytes seen;
-    within = within;
-    error = why.0;
-    is = why.1;
-    refused = why.2;
-  })
+  untexted_input r why = (
+    bytes,
+    same,
+    inr record {
+      path = name;
+      bytes = bytes;
+      at = refl;
+      named = input_at bytes seen;
+      held = input_at bytes seen;
+      within = within;
+      error = why.0;
+      is = why.1;
+      refused = why.2;
+    },
+  )
 
 module _ (input : Option (List ℕ)) (root : List ℕ) (seen : Contents) (r : Refusal) (u : IsUnread name r) where
   pub unread_verify : OfGiven true [] input seen (λ path files. IsVerifyRefused (Some path) root files r)

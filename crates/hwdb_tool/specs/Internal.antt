@@ -17,8 +17,9 @@ use Rattle.hwdb_spec.specs.TaskRefusals.{IsNotDone}
 use Rattle.hwdb_spec.specs.Told.{Stop, unread_stop}
 use Rattle.hwdb_spec.specs.Told.Stop.{Over, Plain}
 use Rattle.hwdb_spec.specs.declared.causes.Cause.{Cause}
-use Rattle.hwdb_spec.specs.declared.errors.ToolError.{ToolError}
-use Rattle.hwdb_spec.specs.declared.errors.ToolError.TheVariants.{Read, TooLong}
+use Rattle.hwdb_spec.specs.declared.errors.ReadError.{ReadError}
+use Rattle.hwdb_spec.specs.declared.errors.ReadError.TheVariants as reading
+use Rattle.hwdb_spec.specs.declared.errors.ToolError.TheVariants.{Memory, TooLong}
 use Rattle.hwdb_spec.specs.declared.unread.Unread.TheVariants.{Failed}
 use Rattle.hwdb_spec.specs.declared.job.Job.{Job}
 use Rattle.hwdb_spec.specs.declared.refusals.Refusal.{Refusal}
@@ -72,7 +73,7 @@ pub record IsAskedFile (root : List ℕ) (contents : Contents) (path : List ℕ)
   pub asked : asked_database root contents ≡ Some bytes
 
 -- why standard input isn't read, by the error of the call and its cause
-abbrev pub input_stop : ToolError → Option Cause → Stop
-input_stop Read cause = unread_stop (codes "standard input") (Failed cause)
-input_stop TooLong cause = Over TooLong (codes "standard input") None
-input_stop error cause = Plain error
+abbrev pub input_stop : ReadError → Option Cause → Stop
+input_stop reading.Failed cause = unread_stop (codes "standard input") (Failed cause)
+input_stop reading.TooLong cause = Over TooLong (codes "standard input") None
+input_stop reading.Memory cause = Plain Memory

@@ -28,8 +28,7 @@ use hwdb_text::Lines;
 use std::alloc::{AllocError, Global};
 
 /// What is said if standard input would be read twice.
-const TWICE: &str =
-    "only one of OLD, NEW and --devices FILE may be -: standard input is read once";
+const TWICE: &str = "only one of OLD, NEW and --devices FILE may be -: standard input is read once";
 
 /// What changed from the side at one path to that at another, as text or JSON. For the devices of the given files, a line each, it is
 /// what changed in what each of them gets; without a file it is each pattern and key for which the two differ. `-` is what `input` has
@@ -72,8 +71,10 @@ pub fn diff<D: TextsBelow, I: Source>(
 fn names_twice(given: &[String], old_path: &str, new_path: &str) -> bool
     ensures { result ≡ names_twice (map string_bytes given.now) old_path.now new_path.now }
 {
-    let (of_old, of_new) = (is_dash(old_path), is_dash(new_path));
-    (of_old && of_new) || ((of_old || of_new) && any_dash(given))
+    let of_old = is_dash(old_path);
+    let of_new = is_dash(new_path);
+    let of_devices = any_dash(given);
+    (of_old && of_new) || ((of_old || of_new) && of_devices)
 }
 
 /// The error of that.
@@ -216,10 +217,10 @@ fn status_of(differ: bool) -> u8
 }
 
 /// How errors call the side at a path.
-fn told_path(path: &str) -> &str
+fn told_path(path: &str) -> &[u8]
     ensures { result.now ≡ told_path path.now }
 {
-    if is_dash(path) { INPUT } else { path }
+    if is_dash(path) { INPUT } else { path.as_bytes() }
 }
 
 /// The error if the databases of these sides can't be compared.
@@ -228,12 +229,10 @@ fn refusal_of(alloc: Global, error: DiffError, old_path: &str, new_path: &str) -
 {
     match error {
         DiffError::Old(fault) => {
-            let path = told_path(old_path).as_bytes();
-            Refusal::at(alloc, ToolError::BadDatabase(fault), path, None)
+            Refusal::at(alloc, ToolError::BadDatabase(fault), told_path(old_path), None)
         }
         DiffError::New(fault) => {
-            let path = told_path(new_path).as_bytes();
-            Refusal::at(alloc, ToolError::BadDatabase(fault), path, None)
+            Refusal::at(alloc, ToolError::BadDatabase(fault), told_path(new_path), None)
         }
         DiffError::Memory => Refusal::from(ToolError::Memory),
     }

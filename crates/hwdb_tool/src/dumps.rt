@@ -82,7 +82,7 @@ fn dump_input<I: Source>(alloc: Global, input: &mut I) -> Result<Answer, Refusal
         (I.left input.old) (I.failures input.old) (I.failures input.new)) }
 {
     let bytes = read_input(alloc, input)?;
-    texted(alloc, INPUT.as_bytes(), &bytes)
+    texted(alloc, INPUT, &bytes)
 }
 
 /// The same of the database at the path, or if none is given of the one that is asked.

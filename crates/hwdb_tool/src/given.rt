@@ -2,6 +2,7 @@
 ghost use Rattle.std.specs.Prelude.{◌≡◌, ◌≤◌, ◌⊎◌, ℕ, List, Result, Some, true, false, codes, map, option_map, string_bytes, length, IfOk, IfErr, IfSome};
 ghost use Rattle.hwdb_spec.specs.Given.{IsGiven, is_dash, any_dash};
 ghost use Rattle.hwdb_spec.specs.System.{bytes_at};
+ghost use Rattle.hwdb_spec.specs.Errors.{refusal_of_read};
 ghost use Rattle.hwdb_spec.specs.GivenDatabases.{names_input};
 ghost use Rattle.hwdb_spec.specs.Refusals.{HasReason, IsAt, IsUnread, IsUnreadAt, IsUnreadable};
 ghost use Rattle.hwdb_spec.specs.Told.{IsReadTo, IsStop, unread_stop};
@@ -16,12 +17,12 @@ ghost use Rattle.hwdb_spec.specs.Undone.{IsGivenUnread, IsUnreadGiven, told_path
 ghost use Rattle.hwdb_spec.specs.declared.refusals.Refusal.TheVariants.{Plain};
 
 use hwdb_fs::{Refusal, System};
-use hwdb_io::{Cause, MAX_BYTES, Source, read_all};
+use hwdb_io::{Cause, MAX_BYTES, ReadError, Source, read_all};
 use hwdb_print::ToolError;
 use std::alloc::Global;
 
 /// How errors call standard input.
-pub const INPUT: &str = "standard input";
+pub const INPUT: &[u8] = b"standard input";
 
 /// Whether a word means standard input.
 pub fn is_dash(path: &str) -> bool
@@ -53,14 +54,16 @@ pub fn any_dash(given: &[String]) -> bool
 }
 
 /// The error if standard input can't be read.
-fn refusal_of(alloc: Global, error: ToolError, cause: Option<Cause>) -> Refusal
-    ensures is { IsOfWholeInput error result }
+fn refusal_of(alloc: Global, error: ReadError, cause: Option<Cause>) -> Refusal
+    ensures is { IsOfWholeInput (refusal_of_read error) result }
     ensures stops { IsStop (input_stop error cause.entry) result }
 {
     match error {
-        ToolError::Read => read_refusal(alloc, cause),
-        ToolError::TooLong => Refusal::of_cause(alloc, error, INPUT.as_bytes(), None),
-        error => Refusal::from(error),
+        ReadError::Failed => read_refusal(alloc, cause),
+        ReadError::TooLong => {
+            Refusal::of_cause(alloc, ToolError::TooLong, INPUT, None)
+        }
+        ReadError::Memory => Refusal::from(ToolError::Memory),
     }
 }
 
@@ -70,8 +73,20 @@ fn read_refusal(alloc: Global, cause: Option<Cause>) -> Refusal
     ensures stops { IsStop (unread_stop (codes "standard input") (Failed cause.entry)) result }
 {
     match cause {
-        Some(Cause::Memory) => Refusal::from(ToolError::Memory),
-        cause => Refusal::of_cause(alloc, ToolError::Read, INPUT.as_bytes(), cause),
+        Some(cause) => refused_for(alloc, cause),
+        None => Refusal::of_cause(alloc, ToolError::Read, INPUT, None),
+    }
+}
+
+/// The same for this cause: memory that was refused is told as that.
+fn refused_for(alloc: Global, cause: Cause) -> Refusal
+    ensures is { IsAt ToolError.Read (codes "standard input") result }
+    ensures stops { IsStop (unread_stop (codes "standard input") (Failed (Some cause.entry)))
+        result }
+{
+    match cause {
+        Cause::Memory => Refusal::from(ToolError::Memory),
+        cause => Refusal::of_cause(alloc, ToolError::Read, INPUT, Some(cause)),
     }
 }
 
@@ -89,7 +104,7 @@ pub fn read_input<I: Source>(alloc: Global, input: &mut I) -> Result<Vec<u8>, Re
 {
     match read_all(alloc, input, MAX_BYTES) {
         Ok(text) => Ok(text),
-        Err(error) => Err(refusal_of(alloc, ToolError::from(error), input.cause())),
+        Err(error) => Err(refusal_of(alloc, error, input.cause())),
     }
 }
 

@@ -81,7 +81,7 @@ fn verify_input<I: Source>(alloc: Global, input: &mut I) -> Result<Answer, Refus
         (I.left input.old) (I.failures input.old) (I.failures input.new)) }
 {
     let bytes = read_input(alloc, input)?;
-    summed(alloc, INPUT.as_bytes(), &bytes)
+    summed(alloc, INPUT, &bytes)
 }
 
 /// The same of the database at the path, or if none is given of the one that is asked.

@@ -27,7 +27,7 @@ returns-in_err-new-clause-refused g c = λ tells one.
       c.in_ok-old.old.items,
       c.in_ok-old.ensures.side tells,
       ⊎_elim (λ plain. subst (λ i. IsGivenSideError fails seen (g.I.Source.left i) (g.I.Source.failures i) now new_path r) (c.in_ok-old.ensures.unread plain) error)
-      (λ plain. error_any fails seen new_path r (g.I.Source.left c.side-old.new.input) (g.I.Source.left c.args.input.now) (g.I.Source.failures c.side-old.new.input) now (g.I.Source.failures c.args.input.now) now plain error) one,
+          (λ plain. error_any fails seen new_path r (g.I.Source.left c.side-old.new.input) (g.I.Source.left c.args.input.now) (g.I.Source.failures c.side-old.new.input) now (g.I.Source.failures c.args.input.now) now plain error) one,
     )))
 
 pub returns-clause-refused : goal.returns-clause-refused

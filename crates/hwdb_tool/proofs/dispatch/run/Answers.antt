@@ -1,13 +1,13 @@
-use Rattle.std.proofs.Common.{◌≡◌, ◌⊎◌, ap, inl, inr, ⊎_elim, refl, string_bytes, subst, sym, ◌==◌, length, map, not, IfOk, IfErr}
+use Rattle.std.proofs.Common.{◌∷◌, ◌≡◌, ◌⊎◌, false, ap, inl, inr, ⊎_elim, refl, string_bytes, subst, sym, ◌==◌, length, map, not, IfOk, IfErr}
 use Rattle.std.specs.Prelude.{option_map}
 use Rattle.hwdb_spec.specs.declared.job.Task.TheVariants.{Ask, Check, Device, Diff, Dump, Near, Status, Test, Update, Verify}
 use Rattle.hwdb_spec.specs.Asked.{IsAnswered, IsDumped, IsListFrom, IsPrinted}
 use Rattle.hwdb_spec.specs.Databases.{IsSummary}
-use Rattle.hwdb_spec.specs.GivenDatabases.{HasDatabaseReason, OfNamed}
+use Rattle.hwdb_spec.specs.GivenDatabases.{HasDatabaseReason, OfNamed, names_input}
 use Rattle.hwdb_spec.specs.NamedDatabases.{IsDumpRefused, IsVerifyRefused}
 use Rattle.hwdb_spec.specs.CheckedFiles.{AreCheckedFiles, IsChecked}
 use Rattle.hwdb_spec.specs.Done.{IsAsked, IsLeftByUpdateLess, OldOrUpdatedLess}
-use Rattle.hwdb_spec.specs.Given.{is_dash}
+use Rattle.hwdb_spec.specs.Given.{any_dash, is_dash}
 use Rattle.hwdb_spec.specs.Outputs.{TookOne}
 use Rattle.hwdb_spec.specs.Status.{IsStatus}
 use Rattle.hwdb_spec.specs.StatusErrors.{IsStatusRefused}
@@ -20,7 +20,7 @@ use Rattle.hwdb_spec.specs.Tested.{IsTested}
 use Rattle.hwdb_spec.specs.TestErrors.{HasTestReason, IsTestRefused}
 use Rattle.hwdb_spec.specs.DeviceAsked.{IsDevicePrinted, device_form}
 use Rattle.hwdb_spec.specs.DeviceErrors.{IsDeviceRefused, asked_names}
-use Rattle.hwdb_spec.specs.Program.{IsAnswerOf, IsDeviceAnswer, IsTaskDone, OldOrDone, root_of, skips}
+use Rattle.hwdb_spec.specs.Program.{IsAnswerOf, IsDeviceAnswer, IsTaskDone, OldOrDone, reads_input, root_of, skips}
 use Rattle.hwdb_spec.specs.CheckedReasons.{HasCheckedReason}
 use Rattle.hwdb_spec.specs.Reasons.{HasFilesReason, HasGivenReason}
 use Rattle.hwdb_spec.specs.Undone.{AreUncheckable, IsAskRefused, IsCheckRefused}
@@ -448,6 +448,26 @@ returns-in-Dump-clause-refused g c = λ tells.
     (subst (λ d. IfErr answer (λ e. OfNamed d input seen (λ g f. IsDumpRefused g root f e))) of_given (c.dump-answer.ensures.refused tells)))
     is (subst (λ d. IfErr answer (HasDatabaseReason d fails seen input n m)) of_given c.dump-answer.ensures.reason)
     (write_named given fails seen input n m) c.printed-in-Dump.ensures.refused))
+
+pub returns-in-Diff-clause-unread : goal.returns-in-Diff-clause-unread
+returns-in-Diff-clause-unread g c = λ none.
+    let old = string_bytes c.in-Diff.old in
+    let new = string_bytes c.in-Diff.new in
+    let new_path = c.as_str-new.result.now in
+    let paths = map string_bytes c.deref-in-Diff.result.now in
+    let plain : any_dash (old ∷ new ∷ map string_bytes c.in-Diff.devices.items) ≡ false = subst (λ t. reads_input t ≡ false) c.in-Diff.is none in
+    c.diff-answer.ensures.unread
+    (subst (λ p. any_dash (p ∷ new_path ∷ paths) ≡ false) (sym c.as_str-old.ensures.value)
+    (subst (λ p. any_dash (old ∷ p ∷ paths) ≡ false) (sym c.as_str-new.ensures.value)
+    (subst (λ l. any_dash (old ∷ new ∷ map string_bytes l) ≡ false) (sym c.deref-in-Diff.ensures.value) plain)))
+
+pub returns-in-Verify-clause-unread : goal.returns-in-Verify-clause-unread
+returns-in-Verify-clause-unread g c = λ none.
+    c.verify-answer.ensures.unread (subst (λ d. names_input d ≡ false) (sym c.text_of-given.ensures) (subst (λ t. reads_input t ≡ false) c.in-Verify.is none))
+
+pub returns-in-Dump-clause-unread : goal.returns-in-Dump-clause-unread
+returns-in-Dump-clause-unread g c = λ none.
+    c.dump-answer.ensures.unread (subst (λ d. names_input d ≡ false) (sym c.text_of-given.ensures) (subst (λ t. reads_input t ≡ false) c.in-Dump.is none))
 
 pub returns-in-Device-clause-refused : goal.returns-in-Device-clause-refused
 returns-in-Device-clause-refused g c = λ tells.

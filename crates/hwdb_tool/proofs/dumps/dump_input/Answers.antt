@@ -19,39 +19,39 @@ use Rattle.hwdb_tool.proofs.dumps.dump_input.Goals as goal
 
 pub returns-in_err-bytes-clause-follows : goal.returns-in_err-bytes-clause-follows
 returns-in_err-bytes-clause-follows g c = λ root reads.
-    input_unread end_of (g.I.left c.args.input.now) (g.I.failures c.args.input.now) (g.I.failures c.read_input.new.input) text_form c.in_err-bytes.field-0.0 c.from_residual.result c.in_err-bytes.ensures.told c.from_residual.ensures.1 reads
+    input_unread end_of (g.I.Source.left c.args.input.now) (g.I.Source.failures c.args.input.now) (g.I.Source.failures c.read_input.new.input) text_form c.in_err-bytes.field-0.0 c.from_residual.result c.in_err-bytes.ensures.told c.from_residual.ensures.1 reads
 
 pub returns-in_err-bytes-clause-refused : goal.returns-in_err-bytes-clause-refused
 returns-in_err-bytes-clause-refused g c = λ root seen.
     let r = c.in_err-bytes.field-0.0 in
-    given_error r (λ x. OfGiven true [] (g.I.left c.args.input.now) seen (λ path files. IsDumpRefused (Some path) root files x)) c.from_residual.result c.from_residual.ensures.1
-    (unread_dump (g.I.left c.args.input.now) root seen r c.in_err-bytes.ensures.refused)
+    given_error r (λ x. OfGiven true [] (g.I.Source.left c.args.input.now) seen (λ path files. IsDumpRefused (Some path) root files x)) c.from_residual.result c.from_residual.ensures.1
+    (unread_dump (g.I.Source.left c.args.input.now) root seen r c.in_err-bytes.ensures.refused)
 
 pub returns-in_err-bytes-clause-reason : goal.returns-in_err-bytes-clause-reason
 returns-in_err-bytes-clause-reason g c = λ fails seen.
     let r = c.in_err-bytes.field-0.0 in
-    let input = g.I.left c.args.input.now in
-    let before = g.I.failures c.args.input.now in
-    let now = g.I.failures c.read_input.new.input in
+    let input = g.I.Source.left c.args.input.now in
+    let before = g.I.Source.failures c.args.input.now in
+    let now = g.I.Source.failures c.read_input.new.input in
     given_error r (HasGivenReason true fails seen input before now) c.from_residual.result c.from_residual.ensures.1 (input_reason fails seen input before now r c.in_err-bytes.ensures.reason)
 
 pub returns-clause-follows : goal.returns-clause-follows
 returns-clause-follows g c = λ root reads.
-    input_read end_of (g.I.left c.args.input.now) (g.I.failures c.args.input.now) (g.I.failures c.read_input.new.input) text_form c.in_ok-bytes.bytes.items c.texted.result c.in_ok-bytes.ensures.told
+    input_read end_of (g.I.Source.left c.args.input.now) (g.I.Source.failures c.args.input.now) (g.I.Source.failures c.read_input.new.input) text_form c.in_ok-bytes.bytes.items c.texted.result c.in_ok-bytes.ensures.told
     (λ w. subst (λ (b : List ℕ). Follows end_of w (text_form (codes "standard input") b) c.texted.result) c.deref.ensures.value (c.texted.ensures.follows w)) reads
 
 pub returns-clause-dumped : goal.returns-clause-dumped
 returns-clause-dumped g c = λ root seen.
-    texted_input (g.I.left c.args.input.now) c.in_ok-bytes.bytes.items c.in_ok-bytes.ensures.whole c.in_ok-bytes.ensures.within root seen c.texted.result
+    texted_input (g.I.Source.left c.args.input.now) c.in_ok-bytes.bytes.items c.in_ok-bytes.ensures.whole c.in_ok-bytes.ensures.within root seen c.texted.result
     (subst (λ (b : List ℕ). IfOk c.texted.result (λ a. OnOut (IsTextOf dump_text b) (texts_in a))) c.deref.ensures.value c.texted.ensures.texted) (subst (λ (b : List ℕ). IfOk c.texted.result (λ _. IsSayable b)) c.deref.ensures.value c.texted.ensures.sayable)
 
 pub returns-clause-refused : goal.returns-clause-refused
 returns-clause-refused g c = λ root seen.
     IfErr-weaker c.texted.result _ _
-    (λ r why. untexted_input (g.I.left c.args.input.now) c.in_ok-bytes.bytes.items c.in_ok-bytes.ensures.whole c.in_ok-bytes.ensures.within root seen r
+    (λ r why. untexted_input (g.I.Source.left c.args.input.now) c.in_ok-bytes.bytes.items c.in_ok-bytes.ensures.whole c.in_ok-bytes.ensures.within root seen r
     (why.0, why.1, subst (λ (b : List ℕ). IsDumpRefusal b why.0) c.deref.ensures.value why.2)) c.texted.ensures.refused
 
 pub returns-clause-reason : goal.returns-clause-reason
 returns-clause-reason g c = λ fails seen.
     IfErr-weaker c.texted.result _ _
-    (λ r why. dump_reason fails seen (g.I.left c.args.input.now) (g.I.failures c.args.input.now) (g.I.failures c.read_input.new.input) (codes "standard input") why.0 r why.1) c.texted.ensures.refused
+    (λ r why. dump_reason fails seen (g.I.Source.left c.args.input.now) (g.I.Source.failures c.args.input.now) (g.I.Source.failures c.read_input.new.input) (codes "standard input") why.0 r why.1) c.texted.ensures.refused

@@ -4,12 +4,12 @@ use Rattle.hwdb_tool.proofs.PlanLemmas.{summed, unsummed}
 use Rattle.hwdb_tool.proofs.verification.summed.Goals as goal
 
 pub returns-in-Ok-clause-follows : goal.returns-in-Ok-clause-follows
-returns-in-Ok-clause-follows g c = λ w.
+returns-in-Ok-clause-follows c = λ w.
     let a = c.new.result in
     summed w c.args.path.now c.args.bytes.now a.status a.err.items a.out.items c.new.ensures.status c.new.ensures.err (subst (λ (t : List ℕ). IsSummary c.args.bytes.now t) (sym c.new.ensures.out) c.in-Ok.ensures.text)
 
 pub returns-clause-follows : goal.returns-clause-follows
-returns-clause-follows g c = λ w. unsummed w c.args.path.now c.args.bytes.now c.in-Err.error c.refusal_of.result c.in-Err.ensures.errors c.refusal_of.ensures.stops
+returns-clause-follows c = λ w. unsummed w c.args.path.now c.args.bytes.now c.in-Err.error c.refusal_of.result c.in-Err.ensures.errors c.refusal_of.ensures.stops
 
 pub returns-clause-refused : goal.returns-clause-refused
-returns-clause-refused g c = (c.in-Err.error, c.refusal_of.ensures.refusal, c.in-Err.ensures.errors)
+returns-clause-refused c = (c.in-Err.error, c.refusal_of.ensures.refusal, c.in-Err.ensures.errors)
