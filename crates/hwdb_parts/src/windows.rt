@@ -1,5 +1,5 @@
 //! The windows of a file that were read.
-ghost use Rattle.std.specs.Prelude.{◌≡◌, ℕ, List, IsTrue, OnOk, length};
+ghost use Rattle.std.specs.Prelude.{◌≡◌, ◌≤◌, ◌<◌, ◌+◌, ◌++◌, ◌∷◌, ℕ, List, [], IsTrue, OnOk, length};
 ghost use Rattle.hwdb_lookup.specs.Windows.{IsOfWindows};
 ghost use Rattle.hwdb_passes.specs.Views.{IsPart};
 ghost use Rattle.hwdb_parts.specs.Views.{AreOf, IsKept};
@@ -38,8 +38,10 @@ impl ReadWindows {
     /// Takes one more window.
     fn push(&mut self, window: &[u8], place: usize) -> Result<(), AllocError>
         requires { length window.now ≡ 4096 }
-        ensures { OnOk result ((file : List ℕ) → IsPart file place window.now
+        ensures of { OnOk result ((file : List ℕ) → IsPart file place window.now
             → AreOf self.old file → AreOf self.new file) }
+        ensures place { OnOk result
+            (self.new.places.items ≡ self.old.places.items ++ place ∷ []) }
     {
         self.bytes.extend_from_slice(window)?;
         self.places.push(place)?;
@@ -49,8 +51,11 @@ impl ReadWindows {
     /// Reads one more window, which has the byte at a place. Every other one begins there, so that a long record is in it.
     /// The rest begin before it: a node's children come before the node.
     pub fn add<P: Places>(&mut self, places: &P, size: usize, place: usize) -> bool
-        ensures { IsTrue result → (file : List ℕ) → P.is_of places.now file
+        ensures of { IsTrue result → (file : List ℕ) → P.is_of places.now file
             → AreOf self.old file → AreOf self.new file }
+        ensures window { IsTrue result → place < size → (first : ℕ)
+            × (self.new.places.items ≡ self.old.places.items ++ first ∷ [])
+            × (first ≤ place) × (place < first + 4096) }
     {
         let mut window = [0u8; WINDOW];
         let before = if self.places.len() % 2 == 0 {
