@@ -1,5 +1,5 @@
 -- What was read of a file, in either form.
-use Rattle.std.proofs.Common.{Result, Ok, Err, IfErr, IsTrue, ◌↔◌, ◌≡◌, ◌≤◌, ◌<◌, ◌-◌, ◌+◌, ◌*◌, ℕ, zero, suc, List, [], ◌∷◌, length, take, drop, slice_index, Bool, true, false, refl, sym, ◌∙◌, ap, subst, arith}
+use Rattle.std.proofs.Common.{Result, Ok, Err, IfErr, IsTrue, ◌↔◌, ◌≡◌, ◌≤◌, ◌<◌, ◌-◌, ◌+◌, ◌*◌, ℕ, zero, suc, List, [], ◌∷◌, length, take, drop, slice_index, Bool, true, false, refl, sym, ◌∙◌, ap, subst, arith, ◌≢◌}
 use Rattle.std.specs.Result.{IsErrAnd}
 use Rattle.std.proofs.lemmas.Grind.{common_steps}
 use Rattle.std.proofs.lemmas.List.{length-drop}
@@ -9,7 +9,9 @@ use Rattle.hwdb_spec.specs.Format.{number_at, text_at, value_at, IsPlace, record
 use Rattle.hwdb_passes.specs.Views.{IsPart}
 use Rattle.hwdb_passes.specs.Lemmas.Parts.{byte_is, number_is, slice_index_drop}
 use Rattle.hwdb_lookup.specs.Views.{Stops}
-use Rattle.hwdb_lookup.specs.Windows.{IsPause}
+use Rattle.hwdb_lookup.specs.Windows.{IsOfWindows, StopsOf}
+use Rattle.hwdb_lookup.specs.Internal.Seen.{IsPause, IsSeen}
+use Rattle.hwdb_lookup.specs.declared.windows.Windows.{Windows as ReadWindows}
 use Rattle.hwdb_lookup.specs.declared.seen.Seen.{Seen}
 use Rattle.hwdb_lookup.specs.Internal.Agreement.{AgreeIn}
 use Rattle.hwdb_lookup.specs.Internal.Parts.{MayBeOf, Halts, size_of}
@@ -178,9 +180,29 @@ blocks_back known P (Err (Fault fault)) h = h
 blocks_back known P (Err LongPath) h = h
 blocks_back known P (Err Memory) h = h
 
-pub windows_back : {A : Type 0} (w : Seen) (P : List ℕ → Type 0) (r : Result A Stop) → IfErr r (λ s. IsPause s) → IfErr r (λ s. Halts (Windows w) P s)
+pub windows_back : {A : Type 0} (w : Seen) (P : List ℕ → Type 0) (r : Result A Stop) → IfErr r (λ s. IsPause w s) → IfErr r (λ s. Halts (Windows w) P s)
 windows_back w P (Ok x) h = tt
-windows_back w P (Err (Missing block)) h = tt
+windows_back w P (Err (Missing block)) h = h
 windows_back w P (Err (Fault fault)) h = absurd h
 windows_back w P (Err LongPath) h = tt
 windows_back w P (Err Memory) h = tt
+
+-- of windows it is why a lookup of them stops
+pub windows_stop : (windows : ReadWindows) (w : Seen) (P : List ℕ → Type 0) (s : Stop) → w.bytes ≡ windows.bytes → w.places ≡ windows.places → ((file : List ℕ) → IsOfWindows windows file → IsSeen w file)
+    → Halts (Windows w) P s → StopsOf windows P s
+windows_stop windows w P (Missing at) bytes places seen h = λ k below whole. subst (λ p. slice_index p.now k ≢ at) places (h k (subst (λ p. k < length p.now) (sym places) below) (subst (λ b. k * 4096 + 4096 ≤ length b.now) (sym bytes) whole))
+windows_stop windows w P (Fault fault) bytes places seen h = λ file is said. h file (seen file is) said
+windows_stop windows w P LongPath bytes places seen h = h
+windows_stop windows w P Memory bytes places seen h = h
+
+of_weaker : (windows : ReadWindows) (P Q : List ℕ → Type 0) → ((file : List ℕ) → IsOfWindows windows file → Q file → P file) → (s : Stop) → StopsOf windows P s → StopsOf windows Q s
+of_weaker windows P Q more (Missing at) h = h
+of_weaker windows P Q more (Fault fault) h = λ file is q. h file is (more file is q)
+of_weaker windows P Q more LongPath h = h
+of_weaker windows P Q more Memory h = h
+
+pub windows_given : {A : Type 0} (windows : ReadWindows) (w : Seen) (P Q : List ℕ → Type 0) → w.bytes ≡ windows.bytes → w.places ≡ windows.places → ((file : List ℕ) → IsOfWindows windows file → IsSeen w file)
+    → ((file : List ℕ) → IsOfWindows windows file → Q file → P file) → (s : Stop) (r : Result A Stop) → IsErrAnd r (λ t. t ≡ s) → Halts (Windows w) P s → IfErr r (λ t. StopsOf windows Q t)
+windows_given windows w P Q bytes places seen more s (Ok x) is h = tt
+windows_given windows w P Q bytes places seen more s (Err t) is h =
+    of_weaker windows P Q more t (windows_stop windows w P t bytes places seen (subst (Halts (Windows w) P) (sym is) h))

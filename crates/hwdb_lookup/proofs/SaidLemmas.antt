@@ -1,5 +1,5 @@
 -- What is found is what sound records say: one value more, and the nodes that are open.
-use Rattle.std.proofs.Common.{◌≡◌, ◌∙◌, ◌+◌, ◌*◌, ◌<◌, ◌++◌, ◌∷◌, List, [], ap, arith, inl, inr, map, refl, subst, sym, ℕ}
+use Rattle.std.proofs.Common.{◌≡◌, ◌∙◌, ◌+◌, ◌*◌, ◌<◌, ◌∷◌, List, [], ap, arith, inl, inr, map, subst, sym, ℕ}
 use Rattle.std.specs.List.{All}
 use Rattle.std.proofs.lemmas.List.Elements.{All-append, All-cons, All-head, All-nil, All-tail}
 use Rattle.hwdb_query.specs.declared.answer.StoredAssignment.{StoredAssignment}

@@ -6,7 +6,7 @@ ghost use Rattle.hwdb_spec.specs.Format.{IsDatabase};
 ghost use Rattle.hwdb_query.specs.Views.{pairs_bytes};
 ghost use Rattle.hwdb_lookup.specs.Views.{IsOf, Stops};
 ghost use Rattle.hwdb_lookup.specs.Sound.{AreSound};
-ghost use Rattle.hwdb_lookup.specs.Windows.{IsOfWindows};
+ghost use Rattle.hwdb_lookup.specs.Windows.{IsOfWindows, StopsOf};
 
 use crate::descent::descend;
 use crate::known::Known;
@@ -59,6 +59,8 @@ pub fn lookup_windows<'a>(
     ensures answer { IfOk result (λ list. (file : List ℕ) (t : Tree)
         → IsOfWindows windows.entry file → IsDatabase file t
         → pairs_bytes list.items ≡ effective_of (answers device.now t)) }
+    ensures stop { IfErr result
+        (λ s. StopsOf windows.entry (λ file. (t : Tree) × IsDatabase file t) s) }
 {
     let frame = windows.outline.frame;
     if frame.sizes.strings > windows.outline.size {

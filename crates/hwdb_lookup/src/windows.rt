@@ -2,8 +2,8 @@
 ghost use Rattle.std.specs.Prelude.{◌≡◌, ◌≤◌, ◌<◌, ◌+◌, ◌-◌, ℕ, List, length, take, IfOk, IfErr};
 ghost use Rattle.hwdb_spec.specs.Format.{text_at};
 ghost use Rattle.hwdb_passes.specs.Views.{IsPart};
-ghost use Rattle.hwdb_lookup.specs.Windows.{IsOfWindows, IsPause};
-ghost use Rattle.hwdb_lookup.specs.Internal.Seen.{IsSeen};
+ghost use Rattle.hwdb_lookup.specs.Windows.{IsOfWindows};
+ghost use Rattle.hwdb_lookup.specs.Internal.Seen.{IsPause, IsSeen};
 
 use crate::seen::Seen;
 use crate::stop::Stop;
@@ -28,6 +28,8 @@ pub struct Windows<'a> {
 pub fn seen_of(windows: Windows<'_>) -> Seen<'_>
     ensures seen { (file : List ℕ) → IsOfWindows windows.entry file → IsSeen result file }
     ensures size { result.size ≡ windows.entry.outline.size }
+    ensures bytes { result.bytes ≡ windows.entry.bytes }
+    ensures places { result.places ≡ windows.entry.places }
 {
     Seen {
         size: windows.outline.size,
@@ -44,7 +46,7 @@ impl<'a> Seen<'a> {
         ensures long { IfOk result (λ p. length p.now ≡ to - from) }
         ensures read { IfOk result (λ p. (file : List ℕ) → IsSeen self.entry file
             → IsPart file from p.now) }
-        ensures stop { IfErr result (λ s. IsPause s) }
+        ensures stop { IfErr result (λ s. IsPause self.entry s) }
     {
         let size = to - from;
         if size > WINDOW {
@@ -68,7 +70,7 @@ impl<'a> Seen<'a> {
         requires { i < self.size }
         ensures read { IfOk result (λ s. (file : List ℕ) → IsSeen self.entry file
             → s.now ≡ text_at file i) }
-        ensures stop { IfErr result (λ s. IsPause s) }
+        ensures stop { IfErr result (λ s. IsPause self.entry s) }
     {
         let first = self.size - self.strings.len();
         if i < first {
@@ -83,7 +85,7 @@ impl<'a> Seen<'a> {
         ensures read { IfOk result (λ s. (file : List ℕ) → IsSeen self.entry file
             → s.now ≡ take most (text_at file i)) }
         ensures within { IfOk result (λ s. i + length s.now ≤ self.entry.size) }
-        ensures stop { IfErr result (λ s. IsPause s) }
+        ensures stop { IfErr result (λ s. IsPause self.entry s) }
     {
         let first = self.size - self.strings.len();
         if i < first {

@@ -1,4 +1,4 @@
-use Rattle.std.proofs.Common.{◌∙◌, ap, inl, inr, option_map, refl, sym}
+use Rattle.std.proofs.Common.{◌∙◌, ap, inr, option_map, refl, sym}
 use Rattle.hwdb_lookup.proofs.descent.offer.Goals as goal
 
 pub returns-clause-offered : goal.returns-clause-offered
