@@ -6,7 +6,7 @@ use crate::opened::OpenedBytes;
 use crate::raw::{Kind, RawFiles};
 use hwdb_io::{Cause, MAX_BYTES};
 use hwdb_spec::Unread;
-use std::alloc::Global;
+use std::alloc::{AllocError, Global};
 
 /// What is at each place: its kind, and its bytes. No folder is there.
 #[derive(Drop)]
@@ -45,7 +45,7 @@ impl RawFiles for OneFile {
     fn place_of(&self, path: &str) -> Result<String, Cause> {
         match String::from_str(self.alloc, path) {
             Ok(place) => Ok(place),
-            Err(_) => Err(Cause::Memory),
+            Err(AllocError) => Err(Cause::Memory),
         }
     }
 
@@ -67,7 +67,7 @@ impl RawFiles for OneFile {
         }
         match self.bytes.to_vec(alloc) {
             Ok(bytes) => Ok(bytes),
-            Err(_) => Err(Unread::Memory),
+            Err(AllocError) => Err(Unread::Memory),
         }
     }
 

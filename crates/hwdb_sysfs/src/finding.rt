@@ -361,7 +361,7 @@ fn why_none<F: DeviceFiles>(
     match first_unread(alloc, files, sys, paths) {
         Ok(Some(unread)) => Unfound::Untold(unread.path, unread.cause),
         Ok(None) => why_not_there(alloc, files, root, given),
-        Err(_) => Unfound::Memory,
+        Err(AllocError) => Unfound::Memory,
     }
 }
 
@@ -376,7 +376,7 @@ fn why_not_there<F: DeviceFiles>(alloc: Global, files: &F, root: &[u8], given: &
     }
     match absolute(alloc, root, given) {
         Ok(path) => why_nowhere(alloc, files, &path),
-        Err(_) => Unfound::Memory,
+        Err(AllocError) => Unfound::Memory,
     }
 }
 
