@@ -20,6 +20,7 @@
 //! | `endings` | tokens that end in a star, which matches all that is left |
 //! | `rows` | the rows of a form |
 //! | `cells` | the same of numbers, which answer many questions at once |
+//! | `longest` | how far a pattern goes along a form |
 //! | `judging` | what is said of a pattern |
 //! | `expecting` | what can be written at a place of a pattern |
 //! | `likeness` | which prefix was meant by one that nobody asks |
@@ -35,6 +36,7 @@ mod judging;
 mod laws;
 mod leads;
 mod likeness;
+mod longest;
 mod pieces;
 mod plain;
 mod rows;

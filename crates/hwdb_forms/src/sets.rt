@@ -78,6 +78,7 @@ fn bracket_meets(text: &[u8], set: ByteSet) -> bool
 }
 
 /// Whether the token that begins the text takes a byte of the set; a star does.
+#[inline(always)]
 pub(crate) fn meets(text: &[u8], set: ByteSet) -> bool
     ensures { result ≡ Forms.meets (token_at text.now) set }
 {

@@ -13,7 +13,7 @@ use std::alloc::{AllocError, Global};
 const LONGEST_FRONT: usize = 256;
 
 /// The bytes below this are looked at first. Where any byte may be, these are of more runs than are named.
-const FIRST: u8 = 64;
+const FIRST: u8 = 128;
 
 /// What is said of a clean text, if it is a pattern. The only error, here and below, is `AllocError`.
 #[tactic(auto, unfolding(hwdb_spec::specs::Unmatched::judgement_of))]

@@ -1,6 +1,6 @@
 use Rattle.std.proofs.Common.{add-one, arith, refl, ◌+◌}
 use Rattle.hwdb_forms.proofs.AfterLemmas.{bytes_next, bytes_none}
-use Rattle.hwdb_forms.proofs.cells.bytes_of.Goals as goal
+use Rattle.hwdb_forms.proofs.cells.tried_bytes.Goals as goal
 
 pub loop-at-init : goal.loop-at-init
 loop-at-init c = record { within = omega arith; done = bytes_none c.args.set c.args.first }

@@ -1,6 +1,6 @@
 use Rattle.std.proofs.Common.{◌≡◌, ◌≤◌, ◌-◌}
 use Rattle.hwdb_forms.specs.Internal.{bytes_of}
-use Rattle.hwdb_forms.proofs.cells.bytes_of.Given as goal
+use Rattle.hwdb_forms.proofs.cells.tried_bytes.Given as goal
 
 abbrev pub invariant-loop-at : goal.invariant-loop-at
 invariant-loop-at l = record {
