@@ -1,5 +1,5 @@
 //! What can be written at a place of a pattern.
-ghost use Rattle.std.specs.Prelude.{◌≡◌, ℕ, ◌+◌, ◌<◌, ◌≤◌, ◌++◌, ◌∷◌, [], false, filter, map, IfOk};
+ghost use Rattle.std.specs.Prelude.{◌≡◌, ℕ, ◌+◌, ◌-◌, ◌<◌, ◌≤◌, ◌++◌, ◌∷◌, [], false, filter, map, IfOk};
 ghost use Rattle.hwdb_spec.specs.Patterns.{tokens};
 ghost use Rattle.hwdb_spec.specs.Forms;
 ghost use Rattle.hwdb_spec.specs.FormTable;
@@ -189,10 +189,19 @@ fn put_expected(
 pub fn expected(alloc: Global, front: &[u8]) -> Result<Vec<u8>, AllocError>
     ensures { IfOk result (λ bytes. bytes.items ≡ Forms.expected asked front.now) }
 {
+    let bytes = expected_from(alloc, front, 0)?;
+    Ok(bytes)
+}
+
+/// As `expected`, of the bytes from a first one on.
+pub fn expected_from(alloc: Global, front: &[u8], first: u8) -> Result<Vec<u8>, AllocError>
+    ensures { IfOk result (λ bytes. bytes.items
+        ≡ filter (Forms.is_expected asked front.now) (Forms.all_bytes_from (256 - first) first)) }
+{
     let known = known_after(alloc, front)?;
-    let mut last = word_after(alloc, &known, front, 0)?;
+    let mut last = word_after(alloc, &known, front, first / 128 * 128)?;
     let mut bytes = Vec::new(alloc);
-    let mut byte = 0u8;
+    let mut byte = first;
     while byte < u8::MAX {
         put_expected(alloc, &known, front, &mut last, byte, &mut bytes)?;
         byte += 1;

@@ -45,7 +45,7 @@ mod table;
 mod templates;
 
 pub use beginnings::is_asked;
-pub use expecting::{expected, expected_below};
+pub use expecting::{expected, expected_below, expected_from};
 pub use judging::{judge, prefix_of};
 pub use laws::{examples_fit, forms_are_tested, fronts_are_longest, fronts_are_tested};
 pub use likeness::likely_prefix;

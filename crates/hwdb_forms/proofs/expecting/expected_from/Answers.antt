@@ -2,7 +2,7 @@ use Rattle.std.proofs.Common.{arith, add-one, ◌-◌, ◌+◌}
 use Rattle.hwdb_spec.specs.FormTable.{asked}
 use Rattle.hwdb_spec.specs.Forms.{is_expected}
 use Rattle.hwdb_forms.proofs.ExpectedLemmas.{byte_done, last_done}
-use Rattle.hwdb_forms.proofs.expecting.expected.Goals as goal
+use Rattle.hwdb_forms.proofs.expecting.expected_from.Goals as goal
 
 pub loop-byte-preserved : goal.loop-byte-preserved
 loop-byte-preserved c = record {
