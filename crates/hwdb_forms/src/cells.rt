@@ -11,7 +11,7 @@ ghost use Rattle.hwdb_forms.specs.Internal;
 
 use crate::leads::{Passed, lead_of, pass_fixed};
 use crate::pieces::{FormRow, Piece};
-use crate::sets::{has, meets};
+use crate::sets::{differs, has, meets};
 use hwdb_pattern::begins_star;
 use hwdb_spec::ByteSet;
 use std::alloc::{AllocError, Global};
@@ -203,6 +203,19 @@ fn byte_cell(kind: Kind, set: ByteSet, token: &[u8], here: u128, behind: u128, n
     when(meets(token, set), taken)
 }
 
+/// As `byte_cell`, of this byte alone. Most tokens are other bytes.
+#[inline(always)]
+fn own_cell(kind: Kind, own: u8, token: &[u8], here: u128, behind: u128, next: u128) -> u128
+    ensures { result
+        ≡ Internal.byte_number kind (is_star (token_at token.now)) (Forms.meets
+        (token_at token.now) (Only own)) here behind next }
+{
+    if differs(token, own) {
+        return 0;
+    }
+    byte_cell(kind, ByteSet::Only(own), token, here, behind, next)
+}
+
 /// The cell of any number of bytes.
 #[inline(always)]
 fn many_cell(kind: Kind, set: ByteSet, token: &[u8], here: u128, next: u128) -> u128
@@ -244,6 +257,30 @@ fn byte_cells(kind: Kind, set: ByteSet, tokens: &[&[u8]], cells: Cells) -> Cells
     }
 }
 
+/// As `byte_cells`, of this byte alone.
+#[inline(always)]
+fn own_cells(kind: Kind, own: u8, tokens: &[&[u8]], cells: Cells) -> Cells
+    requires kind { Internal.IsKind kind }
+    requires row { length cells.row.items ≡ length tokens.now + 1 }
+    requires room { length cells.room.items ≡ length tokens.now + 1 }
+    ensures row { result.row.items
+        ≡ Internal.byte_numbers kind (Only own) (views tokens.now) cells.row.items }
+    ensures long { length result.row.items ≡ length tokens.now + 1 }
+    ensures room { length result.room.items ≡ length tokens.now + 1 }
+{
+    let Cells { row, room: mut new } = cells;
+    let mut at = tokens.len();
+    new[at] = last_cell(kind, ByteSet::Only(own));
+    while at > 0 {
+        at -= 1;
+        new[at] = own_cell(kind, own, tokens[at], row[at], row[at + 1], new[at + 1]);
+    }
+    Cells {
+        row: new,
+        room: row,
+    }
+}
+
 /// As `byte_cells`. Each kind gets a loop of its own.
 fn byte_row(kind: Kind, set: ByteSet, tokens: &[&[u8]], cells: Cells) -> Cells
     requires kind { Internal.IsKind kind }
@@ -260,7 +297,7 @@ fn byte_row(kind: Kind, set: ByteSet, tokens: &[&[u8]], cells: Cells) -> Cells
     }
 }
 
-/// As `byte_row`, of this byte alone.
+/// As `own_cells`. Each kind gets a loop of its own.
 fn own_row(kind: Kind, own: u8, tokens: &[&[u8]], cells: Cells) -> Cells
     requires kind { Internal.IsKind kind }
     requires row { length cells.row.items ≡ length tokens.now + 1 }
@@ -271,8 +308,8 @@ fn own_row(kind: Kind, own: u8, tokens: &[&[u8]], cells: Cells) -> Cells
     ensures room { length result.room.items ≡ length tokens.now + 1 }
 {
     match kind {
-        Kind::Longest => byte_cells(Kind::Longest, ByteSet::Only(own), tokens, cells),
-        Kind::After(first) => byte_cells(Kind::After(first), ByteSet::Only(own), tokens, cells),
+        Kind::Longest => own_cells(Kind::Longest, own, tokens, cells),
+        Kind::After(first) => own_cells(Kind::After(first), own, tokens, cells),
     }
 }
 

@@ -118,3 +118,17 @@ pub(crate) fn meets_byte(text: &[u8], byte: u8) -> bool
     }
     is_own(byte, first)
 }
+
+/// Whether it is seen at once that the token that begins the text doesn't take the byte: it is another byte.
+#[inline(always)]
+pub(crate) fn differs(text: &[u8], byte: u8) -> bool
+    ensures { result ≡ true → Forms.meets (token_at text.now) (Only byte) ≡ false }
+{
+    if text.is_empty() {
+        return false;
+    }
+    if text[0] == b'[' {
+        return false;
+    }
+    !meets_byte(text, byte)
+}
