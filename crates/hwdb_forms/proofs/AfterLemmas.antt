@@ -1,6 +1,6 @@
 -- Which bytes may come after all tokens.
 use Rattle.std.proofs.Common.{◌≡◌, ℕ, ◌+◌, ◌<◌, ◌≤◌, ◌==◌, ◌||◌, ◌⊎◌, ◌*◌, ◌%◌, ◌^◌, Bool, true, false, List, [], ◌∷◌, ◌++◌, refl, sym, ap, subst, ◌∙◌, inl, inr, append_assoc, arith, cond, drop, eq-eqb, eqb-true, get_or, length, map, suc, zero, Bor}
-use Rattle.std.specs.Prelude.{filter, if◌then◌else◌, max}
+use Rattle.std.specs.Prelude.{if◌then◌else◌, max}
 use Rattle.std.proofs.Math.Seq.{drop-cons}
 use Rattle.std.proofs.lemmas.List.{drop_all}
 use Rattle.std.specs.Int.{bit_at}
@@ -9,19 +9,19 @@ use Rattle.std.proofs.lemmas.Nat.{one_shl}
 use Rattle.std.proofs.lemmas.Nat.Bits.{bit_at-lt, bit_at-pow_other, bit_at-pow_same, bit_at-zero, bit_at_or}
 use Rattle.hwdb_spec.specs.declared.ByteSet.{ByteSet}
 use Rattle.hwdb_spec.specs.declared.ByteSet.TheVariants.{Only}
-use Rattle.hwdb_spec.specs.Lines.{has}
-use Rattle.hwdb_spec.specs.Patterns.{Token, literal, one, star, token_at, tokens, tokens_from}
+use Rattle.hwdb_spec.specs.Patterns.{Token, literal, one, star, token_at, tokens}
 use Rattle.hwdb_spec.specs.Forms.{Form, Piece, can_begin, can_match, fields_row, head, is_in, is_wild, meets_form}
+use Rattle.hwdb_pattern.specs.Laws.{StaysClosed, TokensAreThePattern}
 use Rattle.hwdb_spec.specs.FormTable.{asked, free, free_prefixes, known}
 use Rattle.hwdb_forms.specs.declared.cells.Kind.TheVariants.{After}
 use Rattle.hwdb_forms.specs.declared.leads.Lead.{Lead}
 use Rattle.hwdb_forms.specs.declared.leads.Passed.TheVariants.{No, Yes}
 use Rattle.hwdb_forms.specs.declared.leads.Passed.{Passed}
 use Rattle.hwdb_forms.specs.declared.pieces.Piece as Rust
-use Rattle.hwdb_forms.specs.Internal.{AreEnough, Every, HasWays, HaveWays, Leads, bytes_of, fields_numbers, fields_of, first_cell, followed, form_number, has_bit, passed_fixed, piece_of, pieces_numbers, way_met}
+use Rattle.hwdb_forms.specs.Internal.{Every, HasWays, HaveWays, Leads, Stays, bytes_of, fields_numbers, fields_of, first_cell, followed, form_number, has_bit, passed_fixed, piece_of, pieces_numbers, way_met}
 use Rattle.hwdb_forms.proofs.MeetLemmas.{own_in, own_span}
 use Rattle.hwdb_forms.proofs.CellLemmas.{Asks, IsQuestion, fields_told, form_told, way_told}
-use Rattle.hwdb_forms.proofs.FollowLemmas.{tokens_after}
+use Rattle.hwdb_forms.proofs.KeptLemmas.{kept_front}
 use Rattle.hwdb_forms.proofs.LeadLemmas.{fields_family, fixed_stays, form_no, form_yes, if_alive, rest_more, way_dead}
 
 -- ---- bits
@@ -205,40 +205,20 @@ plain_token : (b : ℕ) → is_wild b ≡ false → token_at (b ∷ []) ≡ lite
 unfolding token_at
 plain_token b e = plain_by (b == 42) (b == 63) (b == 91) b _ e
 
-begun_by : (forms : List Form) (front : List ℕ) (ts : List Token) (b : ℕ) → ((byte : ℕ) → tokens (front ++ byte ∷ []) ≡ ts ++ token_at (byte ∷ []) ∷ []) → is_wild b ≡ false
-    → can_begin forms (tokens (front ++ b ∷ [])) ≡ can_match forms (ts ++ literal b ∷ star ∷ [])
-begun_by forms front ts b plain w =
-    ap (can_begin forms) (plain b ∙ ap (λ (t : Token). ts ++ t ∷ []) (plain_token b w))
-    ∙ ap (can_match forms) (append_assoc ts (literal b ∷ []) (star ∷ []))
+begun_by : (front : List ℕ) (ts : List Token) (b : ℕ) → tokens (front ++ b ∷ []) ≡ ts ++ token_at (b ∷ []) ∷ [] → is_wild b ≡ false → can_begin asked (tokens (front ++ b ∷ [])) ≡ can_match asked (ts ++ literal b ∷ star ∷ [])
+begun_by front ts b kept w =
+    ap (can_begin asked) (kept ∙ ap (λ (t : Token). ts ++ t ∷ []) (plain_token b w))
+    ∙ ap (can_match asked) (append_assoc ts (literal b ∷ []) (star ∷ []))
 
-pub word_told : (forms : List Form) (front : List ℕ) (ts : List Token) (first bits : ℕ) → AreEnough forms front → ((byte : ℕ) → tokens (front ++ byte ∷ []) ≡ ts ++ token_at (byte ∷ []) ∷ [])
+pub word_told : StaysClosed → TokensAreThePattern → (forms : List Form) (front : List ℕ) (ts : List Token) (first bits : ℕ) → forms ≡ asked → ts ≡ tokens front
     → ((i : ℕ) → i < 128 → has_bit bits i ≡ can_match forms (followed ts (first + i)))
-    → (i : ℕ) → i < 128 → is_wild (first + i) ≡ false → has_bit bits i ≡ can_begin asked (tokens (front ++ (first + i) ∷ []))
-word_told forms front ts first bits enough plain told i h w = told i h ∙ sym (begun_by forms front ts (first + i) plain w) ∙ enough (first + i)
-
--- all forms
-pub enough_all : (forms : List Form) (front : List ℕ) → forms ≡ asked → AreEnough forms front
-enough_all forms front e = λ byte. ap (λ (fs : List Form). can_begin fs (tokens (front ++ byte ∷ []))) e
-
-pub plain_front : (front : List ℕ) (ts : List Token) → has 91 front ≡ false → ts ≡ tokens front → (byte : ℕ) → tokens (front ++ byte ∷ []) ≡ ts ++ token_at (byte ∷ []) ∷ []
-unfolding tokens_from
-plain_front front ts plain e byte = tokens_after front (byte ∷ []) plain ∙ ap (λ (l : List Token). l ++ token_at (byte ∷ []) ∷ []) (sym e)
+    → (i : ℕ) → i < 128 → is_wild (first + i) ≡ false → Stays front (first + i) → has_bit bits i ≡ can_begin asked (tokens (front ++ (first + i) ∷ []))
+word_told stays cut forms front ts first bits e same told i h w k =
+    told i h
+    ∙ ap (λ (fs : List Form). can_match fs (followed ts (first + i))) e
+    ∙ sym (begun_by front ts (first + i) (kept_front stays cut front ts (first + i) same k) w)
 
 -- ---- each form has ways
-kept_one : (A : Type 0) (p : A → Bool) (x : A) (l : List A) → p x ≡ true → filter p (x ∷ l) ≡ x ∷ filter p l
-kept_one A p x l t = rw t refl
-
-left_one : (A : Type 0) (p : A → Bool) (x : A) (l : List A) → p x ≡ false → filter p (x ∷ l) ≡ filter p l
-left_one A p x l t = rw t refl
-
-pub every_kept : (A : Type 0) (Told : A → Type 0) (p : A → Bool) (l : List A) → Every A Told l → Every A Told (filter p l)
-every_kept A Told p [] e = tt
-every_kept A Told p (x ∷ l) e = by (p x) (every_kept A Told p l e.1) refl
-  where
-    by : (b : Bool) → Every A Told (filter p l) → p x ≡ b → Every A Told (filter p (x ∷ l))
-    by true more k = subst (λ (r : List A). Every A Told r) (sym (kept_one A p x l k)) (e.0, more)
-    by false more k = subst (λ (r : List A). Every A Told r) (sym (left_one A p x l k)) more
-
 every_joined : (A : Type 0) (Told : A → Type 0) (a b : List A) → Every A Told a → Every A Told b → Every A Told (a ++ b)
 every_joined A Told [] b e k = k
 every_joined A Told (x ∷ a) b e k = (e.0, every_joined A Told a b e.1 k)

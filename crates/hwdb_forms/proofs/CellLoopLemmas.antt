@@ -7,7 +7,7 @@ use Rattle.std.specs.Int.Bits.{or_zero_r}
 use Rattle.std.specs.Prelude.{if◌then◌else◌}
 use Rattle.hwdb_spec.specs.declared.ByteSet.{ByteSet}
 use Rattle.hwdb_spec.specs.declared.ByteSet.TheVariants.{Only}
-use Rattle.hwdb_spec.specs.Patterns.{Token, star, token_at}
+use Rattle.hwdb_spec.specs.Patterns.{Token, bracket, literal, one, star, token_at}
 use Rattle.hwdb_spec.specs.Forms.{Piece, is_star, meets}
 use Rattle.hwdb_forms.specs.declared.cells.Kind.{Kind}
 use Rattle.hwdb_forms.specs.declared.cells.Kind.TheVariants.{After, Longest}
@@ -49,6 +49,13 @@ first_written new n cell e = written new n cell (omega (arith, e)) ∙ ap (λ r.
 pub first_at : (cells : List ℕ) (c : ℕ) → 0 < length cells → c ≡ get_or cells 0 c → c ≡ first_cell cells
 first_at [] c h e = absurd (omega arith)
 first_at (x ∷ cells) c h e = e
+
+-- the cell of a token that doesn't take the byte
+pub unmet_cell : (kind : Kind) (t : Token) (own : ByteSet) (here behind next : ℕ) → meets t own ≡ false → 0 ≡ byte_number kind (is_star t) (meets t own) here behind next
+unmet_cell kind star own here behind next e = cc
+unmet_cell kind one own here behind next e = cc
+unmet_cell kind (literal byte) own here behind next e = ap (λ (m : Bool). if m then earlier kind behind else 0) (sym e)
+unmet_cell kind (bracket found) own here behind next e = ap (λ (m : Bool). if m then earlier kind behind else 0) (sym e)
 
 -- cells of which not all is asked
 pub star_cell : (kind : Kind) (starred met : Bool) (here behind next result : ℕ) → starred ≡ true → result ≡ either kind (earlier kind next) here → result ≡ byte_number kind starred met here behind next

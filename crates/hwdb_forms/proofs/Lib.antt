@@ -9,11 +9,12 @@ pub mod TemplateLemmas
 pub mod AnswerLemmas
 pub mod ExampleLemmas
 pub mod FrontLemmas
-pub mod FollowLemmas
 pub mod ExpectedLemmas
 pub mod LikeLemmas
 pub mod GuessLemmas
 pub mod CellLemmas
+pub mod OpenLemmas
+pub mod KeptLemmas
 pub mod CellLoopLemmas
 pub mod AfterLemmas
 pub mod LongestLemmas

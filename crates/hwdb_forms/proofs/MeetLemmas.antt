@@ -1,5 +1,5 @@
 -- Whether a token takes a byte of a set.
-use Rattle.std.proofs.Common.{◌≡◌, ℕ, ◌+◌, ◌<◌, ◌≤◌, Bool, true, false, IsTrue, List, [], ◌∷◌, refl, sym, ap, subst, ◌∙◌, ◌⊎◌, inl, inr, arith, ◌-◌, nat_eq, nat_le, eqb-true, eq-eqb, ne_eqb, ◌||◌, suc, zero, length, get_or, Option, None, Some}
+use Rattle.std.proofs.Common.{◌≡◌, ℕ, ◌+◌, ◌<◌, ◌≤◌, Bool, true, false, IsTrue, List, [], ◌∷◌, refl, sym, ap, subst, ◌∙◌, ◌⊎◌, inl, inr, arith, ◌-◌, nat_eq, nat_le, eqb-true, eq-eqb, ne_eqb, ◌||◌, not, suc, zero, length, get_or, Option, None, Some}
 use Rattle.std.proofs.lemmas.Bool.{le-leb, leb-true}
 use Rattle.std.specs.List.{list_any}
 use Rattle.std.specs.Prelude.{if◌then◌else◌}
@@ -277,3 +277,7 @@ last_byte p n b found all e l h = e ∙ or_none (p b) ∙ sym (ap (λ (i : ℕ).
 pub some_left : (n : ℕ) → false ≡ nat_eq n 0 → 0 < n
 some_left zero e = let t : false ≡ true = e in cc
 some_left (suc n) e = omega arith
+
+pub not_true : (b : Bool) → not b ≡ true → b ≡ false
+not_true true e = cc
+not_true false e = refl

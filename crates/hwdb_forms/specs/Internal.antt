@@ -1,10 +1,11 @@
 -- What the proofs of this crate speak of: forms and languages as they are computed, from the left to the right.
 use Rattle.std.specs.Prelude.{ℕ, Bool, false, true, List, [], ◌∷◌, ◌++◌, IsTrue, ◌≡◌, ◌≤◌, ◌<◌, ◌⊎◌, ◌==◌, ◌+◌, ◌^◌, if◌then◌else◌, drop, length, map, max, nat_lt, suc, take, zero}
 use Rattle.std.proofs.Common.{Bor}
+use Rattle.std.specs.List.{list_any}
 use Rattle.std.specs.Int.{bit_at}
 use Rattle.std.specs.Int.Bits.{bit_or}
 use Rattle.hwdb_spec.specs.FormTable.{asked}
-use Rattle.hwdb_spec.specs.Lines.{has}
+use Rattle.hwdb_spec.specs.Tree.{is_open}
 use Rattle.hwdb_spec.specs.Patterns.{Token, admits_byte, literal, Matches, star, token_at, tokens}
 use Rattle.hwdb_spec.specs.Forms.{Piece, Form, fixed, counted, repeated, is_in, is_star}
 use Rattle.hwdb_spec.specs.Forms
@@ -113,10 +114,6 @@ passed (fixed bytes) ts = passed_fixed bytes ts
 passed (counted set n) ts = passed_counted set n ts
 passed (repeated set) ts = Unknown
 
--- After this front no other forms matter.
-abbrev pub AreEnough : List Forms.Form → (front : List ℕ) → Type 0
-AreEnough forms front = (byte : ℕ) → Forms.can_begin forms (tokens (front ++ byte ∷ [])) ≡ Forms.can_begin asked (tokens (front ++ byte ∷ []))
-
 -- each of some things is as told
 abbrev pub Every : (A : Type 0) → (A → Type 0) → List A → Type 0
 Every A Told [] = Unit {0}
@@ -132,11 +129,14 @@ HaveWays ((way ∷ ways) ∷ more) = HaveWays more
 abbrev pub HasWays : Forms.Form → Type 0
 HasWays form = HaveWays form.fields
 
--- What is known of the beginning of a pattern: the forms that matter after it, and its tokens if no bracket is in it.
+-- What is known of the beginning of a pattern: its tokens, and whether no `[` is open.
 pub record IsAfter (front : List ℕ) (f : Following) : Type 0 where
-  pub ways : Every Forms.Form HasWays (map form_of f.forms.items)
-  pub enough : AreEnough (map form_of f.forms.items) front
-  pub plain : f.is_plain ≡ true → (byte : ℕ) → tokens (front ++ byte ∷ []) ≡ views f.tokens.items ++ token_at (byte ∷ []) ∷ []
+  pub same : views f.tokens.items ≡ tokens front
+  pub closed : f.is_closed ≡ true → list_any is_open (tokens front) ≡ false
+
+-- A byte after a front doesn't change its tokens: it is no `]`, or no `[` is open there.
+abbrev pub Stays : (front : List ℕ) → ℕ → Type 0
+Stays front byte = byte ≡ 93 → list_any is_open (tokens front) ≡ false
 
 -- how many bytes a piece has, if each of its texts has as many
 abbrev pub piece_size : Forms.Piece → ℕ
@@ -218,7 +218,7 @@ has_bit n i = bit_at n i == 1
 -- What is told of 128 bytes, from the first one on: whether each that means itself may be written after a front.
 pub record IsWordAfter (front : List ℕ) (w : Word) : Type 0 where
   pub within : w.first ≤ 128
-  pub told : (i : ℕ) → i < 128 → Forms.is_wild (w.first + i) ≡ false → has_bit w.bits i ≡ Forms.can_begin asked (tokens (front ++ (w.first + i) ∷ []))
+  pub told : (i : ℕ) → i < 128 → Forms.is_wild (w.first + i) ≡ false → Stays front (w.first + i) → has_bit w.bits i ≡ Forms.can_begin asked (tokens (front ++ (w.first + i) ∷ []))
 
 -- Pieces are led through by the first tokens to a place among both.
 abbrev pub LedTo : List Forms.Piece → List Token → ℕ → ℕ → Type 0

@@ -6,12 +6,12 @@ ghost use Rattle.hwdb_spec.specs.Forms.{head, is_star};
 ghost use Rattle.hwdb_spec.specs.Forms;
 ghost use Rattle.hwdb_spec.specs.Patterns.{token_at};
 ghost use Rattle.hwdb_spec.specs.declared.ByteSet.TheVariants.{Only};
-ghost use Rattle.hwdb_forms.specs.Internal.{HasWays, HaveWays, fields_of, followed, form_of, has_bit, piece_of, views, way_met};
+ghost use Rattle.hwdb_forms.specs.Internal.{HasWays, HaveWays, fields_of, first_cell, followed, form_of, has_bit, piece_of, views, way_met};
 ghost use Rattle.hwdb_forms.specs.Internal;
 
 use crate::leads::{Passed, lead_of, pass_fixed};
 use crate::pieces::{FormRow, Piece};
-use crate::sets::{has, meets};
+use crate::sets::{differs, has, meets};
 use hwdb_pattern::begins_star;
 use hwdb_spec::ByteSet;
 use std::alloc::{AllocError, Global};
@@ -100,14 +100,11 @@ fn bit_of(own: u8, first: u8) -> u128
     bit(at)
 }
 
-/// Which of 128 bytes, from the first one on, are of the set.
-fn bytes_of(set: ByteSet, first: u8) -> u128
+/// Which of 128 bytes, from the first one on, are of the set. Each is tried.
+fn tried_bytes(set: ByteSet, first: u8) -> u128
     requires { first ≤ 128 }
     ensures { result ≡ Internal.bytes_of set first 128 }
 {
-    if let ByteSet::Only(own) = set {
-        return bit_of(own, first);
-    }
     let mut bytes = 0u128;
     let mut at = 0u8;
     while at < 128 {
@@ -115,6 +112,66 @@ fn bytes_of(set: ByteSet, first: u8) -> u128
         at += 1;
     }
     bytes
+}
+
+/// Which of the first 128 bytes are of the set.
+#[tactic(auto, unfolding(crate::specs::Internal::bytes_of))]
+fn low_bytes(set: ByteSet) -> u128
+    ensures { result ≡ Internal.bytes_of set 0 128 }
+{
+    match set {
+        ByteSet::Only(own) => bit_of(own, 0),
+        ByteSet::UpperHex => 0x00000000_0000007e_03ff0000_00000000,
+        ByteSet::LowerHex => 0x0000007e_00000000_03ff0000_00000000,
+        ByteSet::AnyHex => 0x0000007e_0000007e_03ff0000_00000000,
+        ByteSet::HexOrBlank => 0x0000007e_00000000_03ff0001_00000000,
+        ByteSet::InputBits => 0x008c3862_0000007e_03ff1000_00000000,
+        ByteSet::Units => 0x0100007e_00000000_07ff0001_00000000,
+        ByteSet::Name => 0x07fffffe_87fffffe_03ff2000_00000000,
+        ByteSet::Names => 0x07fffffe_87fffffe_07ff2000_00000000,
+        ByteSet::Dmi => 0x7fffffff_ffffffff_fbfffffe_00000000,
+        ByteSet::DmiLeft => 0x07fffffe_97ffffff_a3fff838_00000000,
+        ByteSet::Left => 0x07fffffe_97ffffff_a7fff839_00000000,
+        ByteSet::LeftButColon => 0x07fffffe_97ffffff_a3fff839_00000000,
+        ByteSet::Any => 0xffffffff_ffffffff_ffffffff_fffffffe,
+    }
+}
+
+/// Which of the last 128 bytes are of the set.
+#[tactic(auto, unfolding(crate::specs::Internal::bytes_of))]
+fn high_bytes(set: ByteSet) -> u128
+    ensures { result ≡ Internal.bytes_of set 128 128 }
+{
+    match set {
+        ByteSet::Only(own) => bit_of(own, 128),
+        ByteSet::Left => u128::MAX,
+        ByteSet::LeftButColon => u128::MAX,
+        ByteSet::Any => u128::MAX,
+        ByteSet::UpperHex => 0,
+        ByteSet::LowerHex => 0,
+        ByteSet::AnyHex => 0,
+        ByteSet::HexOrBlank => 0,
+        ByteSet::InputBits => 0,
+        ByteSet::Units => 0,
+        ByteSet::Name => 0,
+        ByteSet::Names => 0,
+        ByteSet::Dmi => 0,
+        ByteSet::DmiLeft => 0,
+    }
+}
+
+/// Which of 128 bytes, from the first one on, are of the set.
+fn bytes_of(set: ByteSet, first: u8) -> u128
+    requires { first ≤ 128 }
+    ensures { result ≡ Internal.bytes_of set first 128 }
+{
+    if first == 0 {
+        return low_bytes(set);
+    }
+    if first == 128 {
+        return high_bytes(set);
+    }
+    tried_bytes(set, first)
 }
 
 /// The last cell of a row, before a byte of the set.
@@ -144,6 +201,19 @@ fn byte_cell(kind: Kind, set: ByteSet, token: &[u8], here: u128, behind: u128, n
         return 0;
     }
     when(meets(token, set), taken)
+}
+
+/// As `byte_cell`, of this byte alone. Most tokens are other bytes.
+#[inline(always)]
+fn own_cell(kind: Kind, own: u8, token: &[u8], here: u128, behind: u128, next: u128) -> u128
+    ensures { result
+        ≡ Internal.byte_number kind (is_star (token_at token.now)) (Forms.meets
+        (token_at token.now) (Only own)) here behind next }
+{
+    if differs(token, own) {
+        return 0;
+    }
+    byte_cell(kind, ByteSet::Only(own), token, here, behind, next)
 }
 
 /// The cell of any number of bytes.
@@ -187,6 +257,30 @@ fn byte_cells(kind: Kind, set: ByteSet, tokens: &[&[u8]], cells: Cells) -> Cells
     }
 }
 
+/// As `byte_cells`, of this byte alone.
+#[inline(always)]
+fn own_cells(kind: Kind, own: u8, tokens: &[&[u8]], cells: Cells) -> Cells
+    requires kind { Internal.IsKind kind }
+    requires row { length cells.row.items ≡ length tokens.now + 1 }
+    requires room { length cells.room.items ≡ length tokens.now + 1 }
+    ensures row { result.row.items
+        ≡ Internal.byte_numbers kind (Only own) (views tokens.now) cells.row.items }
+    ensures long { length result.row.items ≡ length tokens.now + 1 }
+    ensures room { length result.room.items ≡ length tokens.now + 1 }
+{
+    let Cells { row, room: mut new } = cells;
+    let mut at = tokens.len();
+    new[at] = last_cell(kind, ByteSet::Only(own));
+    while at > 0 {
+        at -= 1;
+        new[at] = own_cell(kind, own, tokens[at], row[at], row[at + 1], new[at + 1]);
+    }
+    Cells {
+        row: new,
+        room: row,
+    }
+}
+
 /// As `byte_cells`. Each kind gets a loop of its own.
 fn byte_row(kind: Kind, set: ByteSet, tokens: &[&[u8]], cells: Cells) -> Cells
     requires kind { Internal.IsKind kind }
@@ -200,6 +294,22 @@ fn byte_row(kind: Kind, set: ByteSet, tokens: &[&[u8]], cells: Cells) -> Cells
     match kind {
         Kind::Longest => byte_cells(Kind::Longest, set, tokens, cells),
         Kind::After(first) => byte_cells(Kind::After(first), set, tokens, cells),
+    }
+}
+
+/// As `own_cells`. Each kind gets a loop of its own.
+fn own_row(kind: Kind, own: u8, tokens: &[&[u8]], cells: Cells) -> Cells
+    requires kind { Internal.IsKind kind }
+    requires row { length cells.row.items ≡ length tokens.now + 1 }
+    requires room { length cells.room.items ≡ length tokens.now + 1 }
+    ensures row { result.row.items
+        ≡ Internal.byte_numbers kind (Only own) (views tokens.now) cells.row.items }
+    ensures long { length result.row.items ≡ length tokens.now + 1 }
+    ensures room { length result.room.items ≡ length tokens.now + 1 }
+{
+    match kind {
+        Kind::Longest => own_cells(Kind::Longest, own, tokens, cells),
+        Kind::After(first) => own_cells(Kind::After(first), own, tokens, cells),
     }
 }
 
@@ -227,7 +337,25 @@ fn many_cells(kind: Kind, set: ByteSet, tokens: &[&[u8]], cells: Cells) -> Cells
     }
 }
 
-/// As `many_cells`. Each kind gets a loop of its own.
+/// As `many_cells`. The sets that most forms have get a loop of their own.
+#[inline(always)]
+fn set_cells(kind: Kind, set: ByteSet, tokens: &[&[u8]], cells: Cells) -> Cells
+    requires kind { Internal.IsKind kind }
+    requires row { length cells.row.items ≡ length tokens.now + 1 }
+    requires room { length cells.room.items ≡ length tokens.now + 1 }
+    ensures row { result.row.items
+        ≡ Internal.many_numbers kind set (views tokens.now) cells.row.items }
+    ensures long { length result.row.items ≡ length tokens.now + 1 }
+    ensures room { length result.room.items ≡ length tokens.now + 1 }
+{
+    match set {
+        ByteSet::DmiLeft => many_cells(kind, ByteSet::DmiLeft, tokens, cells),
+        ByteSet::Left => many_cells(kind, ByteSet::Left, tokens, cells),
+        _ => many_cells(kind, set, tokens, cells),
+    }
+}
+
+/// As `set_cells`. Each kind gets loops of its own.
 fn many_row(kind: Kind, set: ByteSet, tokens: &[&[u8]], cells: Cells) -> Cells
     requires kind { Internal.IsKind kind }
     requires row { length cells.row.items ≡ length tokens.now + 1 }
@@ -238,8 +366,8 @@ fn many_row(kind: Kind, set: ByteSet, tokens: &[&[u8]], cells: Cells) -> Cells
     ensures room { length result.room.items ≡ length tokens.now + 1 }
 {
     match kind {
-        Kind::Longest => many_cells(Kind::Longest, set, tokens, cells),
-        Kind::After(first) => many_cells(Kind::After(first), set, tokens, cells),
+        Kind::Longest => set_cells(Kind::Longest, set, tokens, cells),
+        Kind::After(first) => set_cells(Kind::After(first), set, tokens, cells),
     }
 }
 
@@ -257,7 +385,7 @@ fn fixed_row(kind: Kind, bytes: &[u8], tokens: &[&[u8]], cells: Cells) -> Cells
     let mut at = bytes.len();
     while at > 0 {
         at -= 1;
-        cells = byte_row(kind, ByteSet::Only(bytes[at]), tokens, cells);
+        cells = own_row(kind, bytes[at], tokens, cells);
     }
     cells
 }
@@ -519,6 +647,40 @@ pub(crate) fn cell_of(
     Ok(cells.row[0])
 }
 
+/// The first cell of the row of fields in order.
+pub(crate) fn fields_cell(
+    alloc: Global,
+    kind: Kind,
+    fields: &[&[&[Piece]]],
+    tokens: &[&[u8]],
+) -> Result<u128, AllocError>
+    requires { Internal.IsKind kind }
+    ensures { IfOk result (λ cell. cell
+        ≡ first_cell (Internal.fields_numbers kind (fields_of fields.now) (views tokens.now))) }
+{
+    let row = fields_row(alloc, kind, fields, tokens)?;
+    Ok(row[0])
+}
+
+/// The same of pieces in order, and of fields after them.
+pub(crate) fn way_cell(
+    alloc: Global,
+    kind: Kind,
+    way: &[Piece],
+    fields: &[&[&[Piece]]],
+    tokens: &[&[u8]],
+) -> Result<u128, AllocError>
+    requires { Internal.IsKind kind }
+    ensures { IfOk result (λ cell. cell ≡ first_cell (Internal.pieces_numbers kind
+        (map piece_of way.now) (views tokens.now)
+        (Internal.fields_numbers kind (fields_of fields.now) (views tokens.now)))) }
+{
+    let row = fields_row(alloc, kind, fields, tokens)?;
+    let cells = with_room(alloc, row)?;
+    let cells = pieces_row(kind, way, tokens, cells);
+    Ok(cells.row[0])
+}
+
 /// Which of 128 bytes, from the first one on, may come after all tokens, in a text of the way and the fields after it.
 fn way_bits(
     alloc: Global,
@@ -538,11 +700,8 @@ fn way_bits(
     }
     let left = &way[lead.pieces..];
     let rest = &tokens[lead.tokens..];
-    let kind = Kind::After(first);
-    let row = fields_row(alloc, kind, fields, rest)?;
-    let cells = with_room(alloc, row)?;
-    let cells = pieces_row(kind, left, rest, cells);
-    Ok(cells.row[0])
+    let bits = way_cell(alloc, Kind::After(first), left, fields, rest)?;
+    Ok(bits)
 }
 
 /// The same, in a text of the fields.
@@ -564,8 +723,8 @@ fn fields_bits(
             return Ok(bits);
         }
     }
-    let row = fields_row(alloc, Kind::After(first), fields, tokens)?;
-    Ok(row[0])
+    let bits = fields_cell(alloc, Kind::After(first), fields, tokens)?;
+    Ok(bits)
 }
 
 /// The same, in a text of the form.

@@ -1,7 +1,6 @@
 //! What can be written at a place of a pattern.
-ghost use Rattle.std.specs.Prelude.{◌≡◌, ℕ, ◌+◌, ◌<◌, ◌≤◌, ◌++◌, ◌∷◌, [], false, true, drop, filter, length, map, take, IfOk};
-ghost use Rattle.hwdb_spec.specs.Lines.{has};
-ghost use Rattle.hwdb_spec.specs.Patterns.{star, token_at, tokens};
+ghost use Rattle.std.specs.Prelude.{◌≡◌, ℕ, ◌+◌, ◌-◌, ◌<◌, ◌≤◌, ◌++◌, ◌∷◌, [], false, filter, map, IfOk};
+ghost use Rattle.hwdb_spec.specs.Patterns.{tokens};
 ghost use Rattle.hwdb_spec.specs.Forms;
 ghost use Rattle.hwdb_spec.specs.FormTable;
 ghost use Rattle.hwdb_spec.specs.FormTable.{asked};
@@ -9,12 +8,11 @@ ghost use Rattle.hwdb_forms.specs.Internal.{Every, HasWays, IsAfter, IsWordAfter
 
 use crate::beginnings::{free, free_prefixes};
 use crate::cells::form_bits;
-use crate::judging::match_one;
+use crate::judging::can_begin;
 use crate::pieces::FormRow;
 use crate::plain::is_wild;
-use crate::rows::meets_form;
 use crate::table::known;
-use hwdb_pattern::token_texts;
+use hwdb_pattern::{closed_bracket_stays, open_place, token_texts, tokens_are_the_pattern};
 use std::alloc::{AllocError, Global};
 
 /// How many tokens there is room for at first. Most patterns have fewer.
@@ -23,24 +21,9 @@ pub(crate) const ROOM: usize = 64;
 /// What is known of the beginning of a pattern: it is the same for each byte after it.
 #[derive(Drop)]
 struct Following<'a> {
-    /// The forms that matter: all, or those of which a text begins with what is before the first bracket.
-    forms: Vec<FormRow>,
-    /// The tokens before the first bracket.
     tokens: Vec<&'a [u8]>,
-    /// Whether these are all tokens, since no bracket begins.
-    is_plain: bool,
-}
-
-/// How many bytes are before the first `[` of a text.
-fn plain_size(text: &[u8]) -> usize
-    ensures plain { has 91 (take result text.now) ≡ false }
-    ensures within { result ≤ length text.now }
-{
-    let mut at = 0;
-    while at < text.len() && text[at] != b'[' {
-        at += 1;
-    }
-    at
+    /// Whether no `[` is open. Else a `]` after them may close one, and no other byte changes them.
+    is_closed: bool,
 }
 
 /// Some forms, and those of which only the prefix is said.
@@ -67,89 +50,24 @@ pub(crate) fn all_forms(alloc: Global) -> Result<Vec<FormRow>, AllocError>
     Ok(forms)
 }
 
-/// Those of the forms of which the tokens match a text.
-fn matched_forms(
-    alloc: Global,
-    forms: &[FormRow],
-    tokens: &[&[u8]],
-) -> Result<Vec<FormRow>, AllocError>
-    ensures { IfOk result (λ matched. map form_of matched.items
-        ≡ filter (Forms.meets_form (views tokens.now)) (map form_of forms.now)) }
-{
-    let mut matched = Vec::new(alloc);
-    for form in forms {
-        if meets_form(alloc, *form, tokens)? {
-            matched.push(*form)?;
-        }
-    }
-    Ok(matched)
-}
-
-/// The forms of which a text begins with what the tokens match.
-fn forms_after(alloc: Global, tokens: &[&[u8]]) -> Result<Vec<FormRow>, AllocError>
-    ensures ways { IfOk result (λ forms. Every Forms.Form HasWays (map form_of forms.items)) }
-    ensures matched { IfOk result (λ forms. map form_of forms.items
-        ≡ filter (Forms.meets_form (views tokens.now ++ star ∷ [])) asked) }
-{
-    let mut starred = tokens.to_vec(alloc)?;
-    starred.push(b"*")?;
-    let forms = all_forms(alloc)?;
-    let matched = matched_forms(alloc, &forms, &starred)?;
-    Ok(matched)
-}
-
-/// What is known of the beginning of a pattern in which no bracket begins.
-fn known_plainly(alloc: Global, front: &[u8]) -> Result<Following<'_>, AllocError>
-    requires { has 91 front.now ≡ false }
-    ensures { IfOk result (IsAfter front.now) }
-{
-    let tokens = token_texts(alloc, front)?;
-    let forms = all_forms(alloc)?;
-    Ok(Following {
-        forms,
-        tokens,
-        is_plain: true,
-    })
-}
-
-/// The same of one with brackets, by what is before the first one.
-fn known_before(alloc: Global, front: &[u8], size: usize) -> Result<Following<'_>, AllocError>
-    requires within { size ≤ length front.now }
-    requires plain { has 91 (take size front.now) ≡ false }
-    ensures { IfOk result (IsAfter front.now) }
-{
-    let tokens = token_texts(alloc, &front[..size])?;
-    let forms = forms_after(alloc, &tokens)?;
-    Ok(Following {
-        forms,
-        tokens,
-        is_plain: false,
-    })
-}
-
 /// What is known of the beginning of a pattern.
 fn known_after(alloc: Global, front: &[u8]) -> Result<Following<'_>, AllocError>
     ensures { IfOk result (IsAfter front.now) }
 {
-    let size = plain_size(front);
-    if size == front.len() {
-        let known = known_plainly(alloc, front)?;
-        return Ok(known);
-    }
-    let known = known_before(alloc, front, size)?;
-    Ok(known)
+    let tokens = token_texts(alloc, front)?;
+    let is_closed = open_place(front) == front.len();
+    Ok(Following { tokens, is_closed })
 }
 
-/// Whether a text of one of the forms begins with what the beginning of a pattern and the byte after it match.
-fn begins_anew(alloc: Global, forms: &[FormRow], front: &[u8], byte: u8) -> Result<bool, AllocError>
+/// Whether a text that is asked begins with what the beginning of a pattern and the byte after it match.
+fn begins_anew(alloc: Global, front: &[u8], byte: u8) -> Result<bool, AllocError>
     ensures { IfOk result (λ met. met
-        ≡ Forms.can_begin (map form_of forms.now) (tokens (front.now ++ byte ∷ []))) }
+        ≡ Forms.can_begin asked (tokens (front.now ++ byte ∷ []))) }
 {
     let mut text = front.to_vec(alloc)?;
     text.push(byte)?;
-    let mut tokens = token_texts(alloc, &text)?;
-    tokens.push(b"*")?;
-    let met = match_one(alloc, forms, &tokens)?;
+    let tokens = token_texts(alloc, &text)?;
+    let met = can_begin(alloc, &tokens)?;
     Ok(met)
 }
 
@@ -182,7 +100,7 @@ fn bits_after(
     Ok(bits)
 }
 
-/// Which of 128 bytes, from the first one on, may be written there.
+/// Which of 128 bytes, from the first one on, may be written there. Of a `]` nothing is told if a `[` is open.
 fn word_after(
     alloc: Global,
     known: &Following<'_>,
@@ -190,25 +108,15 @@ fn word_after(
     first: u8,
 ) -> Result<Word, AllocError>
     requires known { IsAfter front.now known.now }
-    requires plain { known.now.is_plain ≡ true }
     requires first { first ≤ 128 }
     ensures told { IfOk result (IsWordAfter front.now) }
     ensures first { IfOk result (λ word. word.first ≡ first) }
 {
-    let bits = bits_after(alloc, &known.forms, &known.tokens, first)?;
+    closed_bracket_stays();
+    tokens_are_the_pattern();
+    let forms = all_forms(alloc)?;
+    let bits = bits_after(alloc, &forms, &known.tokens, first)?;
     Ok(Word { first, bits })
-}
-
-/// What is told of the first 128 bytes, if no bracket is in the beginning of the pattern.
-fn first_word(alloc: Global, known: &Following<'_>, front: &[u8]) -> Result<Word, AllocError>
-    requires { IsAfter front.now known.now }
-    ensures { IfOk result (λ word. known.now.is_plain ≡ true → IsWordAfter front.now word) }
-{
-    if known.is_plain {
-        let word = word_after(alloc, known, front, 0)?;
-        return Ok(word);
-    }
-    Ok(Word { first: 0, bits: 0 })
 }
 
 /// Whether the number has the bit.
@@ -229,16 +137,17 @@ fn begins(
     byte: u8,
 ) -> Result<bool, AllocError>
     requires known { IsAfter front.now known.now }
-    requires last { known.now.is_plain ≡ true → IsWordAfter front.now last.old }
+    requires last { IsWordAfter front.now last.old }
     requires plain { Forms.is_wild byte ≡ false }
-    ensures last { IfOk result
-        (λ met. known.now.is_plain ≡ true → IsWordAfter front.now last.new) }
+    ensures last { IfOk result (λ met. IsWordAfter front.now last.new) }
     ensures met { IfOk result (λ met. met
         ≡ Forms.can_begin asked (tokens (front.now ++ byte ∷ []))) }
 {
-    if !known.is_plain {
-        let met = begins_anew(alloc, &known.forms, front, byte)?;
-        return Ok(met);
+    if byte == b']' {
+        if !known.is_closed {
+            let met = begins_anew(alloc, front, byte)?;
+            return Ok(met);
+        }
     }
     let first = byte / 128 * 128;
     if last.first != first {
@@ -258,9 +167,8 @@ fn put_expected(
     bytes: &mut Vec<u8>,
 ) -> Result<(), AllocError>
     requires known { IsAfter front.now known.now }
-    requires last { known.now.is_plain ≡ true → IsWordAfter front.now last.old }
-    ensures last { IfOk result
-        (λ done. known.now.is_plain ≡ true → IsWordAfter front.now last.new) }
+    requires last { IsWordAfter front.now last.old }
+    ensures last { IfOk result (λ done. IsWordAfter front.now last.new) }
     ensures bytes { IfOk result (λ done. bytes.new.items
         ≡ bytes.old.items ++ filter (Forms.is_expected asked front.now) (byte ∷ [])) }
 {
@@ -281,10 +189,19 @@ fn put_expected(
 pub fn expected(alloc: Global, front: &[u8]) -> Result<Vec<u8>, AllocError>
     ensures { IfOk result (λ bytes. bytes.items ≡ Forms.expected asked front.now) }
 {
+    let bytes = expected_from(alloc, front, 0)?;
+    Ok(bytes)
+}
+
+/// As `expected`, of the bytes from a first one on.
+pub fn expected_from(alloc: Global, front: &[u8], first: u8) -> Result<Vec<u8>, AllocError>
+    ensures { IfOk result (λ bytes. bytes.items
+        ≡ filter (Forms.is_expected asked front.now) (Forms.all_bytes_from (256 - first) first)) }
+{
     let known = known_after(alloc, front)?;
-    let mut last = first_word(alloc, &known, front)?;
+    let mut last = word_after(alloc, &known, front, first / 128 * 128)?;
     let mut bytes = Vec::new(alloc);
-    let mut byte = 0u8;
+    let mut byte = first;
     while byte < u8::MAX {
         put_expected(alloc, &known, front, &mut last, byte, &mut bytes)?;
         byte += 1;
@@ -299,7 +216,7 @@ pub fn expected_below(alloc: Global, front: &[u8], end: u8) -> Result<Vec<u8>, A
         ≡ filter (Forms.is_expected asked front.now) (Forms.all_bytes_from end 0)) }
 {
     let known = known_after(alloc, front)?;
-    let mut last = first_word(alloc, &known, front)?;
+    let mut last = word_after(alloc, &known, front, 0)?;
     let mut bytes = Vec::new(alloc);
     let mut byte = 0u8;
     while byte < end {

@@ -1,5 +1,5 @@
 //! What is said of a pattern.
-ghost use Rattle.std.specs.Prelude.{◌≡◌, ◌↔◌, ◌≤◌, ◌++◌, ◌∷◌, List, [], length, map, true, IfOk};
+ghost use Rattle.std.specs.Prelude.{◌≡◌, ◌↔◌, ◌≤◌, ◌++◌, ◌∷◌, List, [], length, map, take, true, IfOk};
 ghost use Rattle.hwdb_spec.specs.Patterns.{star, tokens as tokens_of};
 ghost use Rattle.hwdb_spec.specs.Forms.{CanMatch, judged};
 ghost use Rattle.hwdb_spec.specs.Forms;
@@ -8,9 +8,10 @@ ghost use Rattle.hwdb_spec.specs.Surroundings;
 ghost use Rattle.hwdb_forms.specs.Internal.{Every, HasWays, IsFront, form_of, views};
 
 use crate::beginnings::{free, free_prefixes};
-use crate::cells::{Kind, cell_of};
 use crate::expecting::{ROOM, all_forms};
 use crate::guesses::is_fine_at_once;
+use crate::leads::{Passed, pass_fixed};
+use crate::longest::longest_of;
 use crate::pieces::FormRow;
 use crate::rows::meets_form;
 use crate::table::known;
@@ -18,12 +19,11 @@ use hwdb_pattern::{front_size, token_texts};
 use hwdb_spec::Judgement;
 use std::alloc::{AllocError, Global};
 
+/// How many tokens more are looked at first, to see whether a form goes wrong there.
+const MORE: usize = 12;
+
 /// Whether the tokens match a text of one of these forms.
-pub(crate) fn match_one(
-    alloc: Global,
-    forms: &[FormRow],
-    tokens: &[&[u8]],
-) -> Result<bool, AllocError>
+fn match_one(alloc: Global, forms: &[FormRow], tokens: &[&[u8]]) -> Result<bool, AllocError>
     ensures { IfOk result (λ met. met
         ≡ Forms.can_match (map form_of forms.now) (views tokens.now)) }
 {
@@ -79,6 +79,9 @@ fn begins(alloc: Global, form: FormRow, front: &[&[u8]]) -> Result<bool, AllocEr
     ensures { IfOk result (λ met. met
         ≡ Forms.meets_form (views front.now ++ star ∷ []) (form_of form)) }
 {
+    if let Passed::No = pass_fixed(form.prefix, front) {
+        return Ok(false);
+    }
     let mut tokens = Vec::with_capacity(alloc, ROOM)?;
     tokens.extend_from_slice(front)?;
     tokens.push(b"*")?;
@@ -86,13 +89,30 @@ fn begins(alloc: Global, form: FormRow, front: &[&[u8]]) -> Result<bool, AllocEr
     Ok(met)
 }
 
-/// How many of the tokens, at most, a text of the form begins with, if it begins with one.
-fn longest_of(alloc: Global, form: FormRow, tokens: &[&[u8]]) -> Result<usize, AllocError>
-    requires { HasWays (form_of form) }
+/// As `longest_of`. Most forms go wrong a few tokens after those that are begun with already: then the others don't matter.
+fn longest_after(
+    alloc: Global,
+    form: FormRow,
+    tokens: &[&[u8]],
+    few: usize,
+) -> Result<usize, AllocError>
+    requires few { few ≤ length tokens.now }
+    requires ways { HasWays (form_of form) }
+    requires begun { Forms.meets_form (take few (views tokens.now) ++ star ∷ []) (form_of form)
+        ≡ true }
     ensures { IfOk result (IsFront (form_of form ∷ []) (views tokens.now)) }
 {
-    let cell = cell_of(alloc, Kind::Longest, form, tokens)?;
-    Ok(cell.min(tokens.len() as u128) as usize)
+    if tokens.len() - few <= MORE {
+        let front = longest_of(alloc, form, tokens, few)?;
+        return Ok(front);
+    }
+    let some = few + MORE;
+    if begins(alloc, form, &tokens[..some])? {
+        let front = longest_of(alloc, form, tokens, some)?;
+        return Ok(front);
+    }
+    let front = longest_of(alloc, form, &tokens[..some], few)?;
+    Ok(front)
 }
 
 /// How many of the tokens, at most, a text of the form or of those before it begins with. `low` is what is found of those.
@@ -112,7 +132,7 @@ fn front_with(
     if !begins(alloc, form, &tokens[..low + 1])? {
         return Ok(low);
     }
-    let front = longest_of(alloc, form, tokens)?;
+    let front = longest_after(alloc, form, tokens, low + 1)?;
     Ok(front)
 }
 

@@ -20,6 +20,7 @@
 //! | `endings` | tokens that end in a star, which matches all that is left |
 //! | `rows` | the rows of a form |
 //! | `cells` | the same of numbers, which answer many questions at once |
+//! | `longest` | how far a pattern goes along a form |
 //! | `judging` | what is said of a pattern |
 //! | `expecting` | what can be written at a place of a pattern |
 //! | `likeness` | which prefix was meant by one that nobody asks |
@@ -35,6 +36,7 @@ mod judging;
 mod laws;
 mod leads;
 mod likeness;
+mod longest;
 mod pieces;
 mod plain;
 mod rows;
@@ -43,7 +45,7 @@ mod table;
 mod templates;
 
 pub use beginnings::is_asked;
-pub use expecting::{expected, expected_below};
+pub use expecting::{expected, expected_below, expected_from};
 pub use judging::{judge, prefix_of};
 pub use laws::{examples_fit, forms_are_tested, fronts_are_longest, fronts_are_tested};
 pub use likeness::likely_prefix;

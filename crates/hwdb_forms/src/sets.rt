@@ -78,6 +78,7 @@ fn bracket_meets(text: &[u8], set: ByteSet) -> bool
 }
 
 /// Whether the token that begins the text takes a byte of the set; a star does.
+#[inline(always)]
 pub(crate) fn meets(text: &[u8], set: ByteSet) -> bool
     ensures { result ≡ Forms.meets (token_at text.now) set }
 {
@@ -116,4 +117,18 @@ pub(crate) fn meets_byte(text: &[u8], byte: u8) -> bool
         return meets(text, ByteSet::Only(byte));
     }
     is_own(byte, first)
+}
+
+/// Whether it is seen at once that the token that begins the text doesn't take the byte: it is another byte.
+#[inline(always)]
+pub(crate) fn differs(text: &[u8], byte: u8) -> bool
+    ensures { result ≡ true → Forms.meets (token_at text.now) (Only byte) ≡ false }
+{
+    if text.is_empty() {
+        return false;
+    }
+    if text[0] == b'[' {
+        return false;
+    }
+    !meets_byte(text, byte)
 }

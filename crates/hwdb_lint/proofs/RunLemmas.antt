@@ -62,18 +62,27 @@ unnamed : (rs : List (ℕ × ℕ)) → 3 < length rs → runs_hint rs ≡ compar
 unnamed [] h = absurd (omega (arith, h))
 unnamed (run ∷ more) h = picked (nat_lt 2 (length more)) compare_hint _ (lt-ltb 2 (length more) (omega (arith, h)))
 
-split_bytes : all_bytes_from 256 0 ≡ all_bytes_from 64 0 ++ all_bytes_from 192 64
+split_bytes : all_bytes_from 256 0 ≡ all_bytes_from 128 0 ++ all_bytes_from 128 128
 unfolding all_bytes_from
 split_bytes = refl
 
-pub unnamed_first : (front : List ℕ) (bytes : List ℕ) (first : List (ℕ × ℕ)) → bytes ≡ filter (is_expected asked front) (all_bytes_from 64 0) → first ≡ runs bytes
+pub unnamed_first : (front : List ℕ) (bytes : List ℕ) (first : List (ℕ × ℕ)) → bytes ≡ filter (is_expected asked front) (all_bytes_from 128 0) → first ≡ runs bytes
     → 3 < length first → runs_hint first ≡ runs_hint (runs (expected_after front))
 unfolding expected_after
 unnamed_first front bytes first e f h =
     let p : ℕ → Bool = is_expected asked front in
-    let after : List ℕ = filter p (all_bytes_from 192 64) in
+    let after : List ℕ = filter p (all_bytes_from 128 128) in
     let all : filter p (all_bytes_from 256 0) ≡ bytes ++ after =
-    ap (filter p) split_bytes ∙ filter-append p (all_bytes_from 64 0) (all_bytes_from 192 64) ∙ ap (λ (l : List ℕ). l ++ after) (sym e) in
+    ap (filter p) split_bytes ∙ filter-append p (all_bytes_from 128 0) (all_bytes_from 128 128) ∙ ap (λ (l : List ℕ). l ++ after) (sym e) in
     let same : length first ≡ length (runs bytes) = ap (λ (l : List (ℕ × ℕ)). length l) f in
     let few = more_runs bytes after in
     unnamed first h ∙ sym (ap (λ (l : List ℕ). runs_hint (runs l)) all ∙ unnamed (runs (bytes ++ after)) (omega (arith, h, same, few)))
+
+-- the first bytes and the others are all
+pub joined_bytes : (front first others bytes : List ℕ) → first ≡ filter (is_expected asked front) (all_bytes_from 128 0) → others ≡ filter (is_expected asked front) (all_bytes_from 128 128) → bytes ≡ first ++ others
+    → bytes ≡ expected_after front
+unfolding expected_after
+joined_bytes front first others bytes e f b =
+    let p : ℕ → Bool = is_expected asked front in
+    b ∙ ap (λ (l : List ℕ). l ++ others) e ∙ ap (λ (l : List ℕ). filter p (all_bytes_from 128 0) ++ l) f
+    ∙ sym (ap (filter p) split_bytes ∙ filter-append p (all_bytes_from 128 0) (all_bytes_from 128 128))

@@ -1,10 +1,12 @@
 //! Patterns that match no text that udev asks.
-ghost use Rattle.std.specs.Prelude.{◌≡◌, ◌<◌, ◌++◌, List, ℕ, ◌∷◌, length, map, take, IfOk, OnOk};
+ghost use Rattle.std.specs.Prelude.{◌≡◌, ◌++◌, List, ℕ, ◌∷◌, filter, map, take, IfOk, OnOk};
 ghost use Rattle.std.specs.Option.{option_map};
+ghost use Rattle.hwdb_spec.specs.FormTable.{asked};
+ghost use Rattle.hwdb_spec.specs.Forms.{all_bytes_from, is_expected};
 ghost use Rattle.hwdb_spec.specs.Unmatched;
 
 use crate::runs::{push_runs, runs_of};
-use hwdb_forms::{expected, expected_below, judge, likely_prefix};
+use hwdb_forms::{expected_below, expected_from, judge, likely_prefix};
 use hwdb_spec::Judgement;
 use hwdb_text::{LONGEST_MATCH, begins_with};
 use std::alloc::{AllocError, Global};
@@ -13,7 +15,7 @@ use std::alloc::{AllocError, Global};
 const LONGEST_FRONT: usize = 256;
 
 /// The bytes below this are looked at first. If any byte may be there, these are of more runs than are named.
-const FIRST: u8 = 64;
+const FIRST: u8 = 128;
 
 /// What is said of a clean text, if it is a pattern. The only error, here and below, is `AllocError`.
 #[tactic(auto, unfolding(hwdb_spec::specs::Unmatched::judgement_of))]
@@ -68,35 +70,35 @@ fn front_of(text: &[u8], size: usize) -> &[u8]
     }
 }
 
-/// The bytes that could be after a front.
-#[tactic(auto, unfolding(hwdb_spec::specs::Unmatched::expected_after))]
-fn expected_after(alloc: Global, front: &[u8]) -> Result<Vec<u8>, AllocError>
-    ensures { IfOk result (λ bytes. bytes.items ≡ Unmatched.expected_after front.now) }
+/// Those of the bytes that could be after a front which are looked at first.
+fn first_expected(alloc: Global, front: &[u8]) -> Result<Vec<u8>, AllocError>
+    ensures { IfOk result (λ bytes. bytes.items
+        ≡ filter (is_expected asked front.now) (all_bytes_from 128 0)) }
 {
-    expected(alloc, front)
+    expected_below(alloc, front, FIRST)
 }
 
-/// The runs of the first bytes that could be after a front. If they are too many to be named, so are all.
-#[tactic(auto, unfolding(hwdb_spec::specs::Unmatched::expected_after))]
-fn first_runs(alloc: Global, front: &[u8]) -> Result<Vec<(u8, u8)>, AllocError>
-    ensures { IfOk result (λ first. 3 < length first.items → Unmatched.runs_hint first.items
-        ≡ Unmatched.runs_hint (Unmatched.runs (Unmatched.expected_after front.now))) }
+/// The other ones.
+fn other_expected(alloc: Global, front: &[u8]) -> Result<Vec<u8>, AllocError>
+    ensures { IfOk result (λ bytes. bytes.items
+        ≡ filter (is_expected asked front.now) (all_bytes_from 128 128)) }
 {
-    let bytes = expected_below(alloc, front, FIRST)?;
-    let first = runs_of(alloc, &bytes)?;
-    Ok(first)
+    expected_from(alloc, front, FIRST)
 }
 
-/// Adds what to do about a pattern that goes wrong after this front, which isn't too long.
+/// Adds what to do about a pattern that goes wrong after this front, which isn't too long. If the first bytes are of too many runs to
+/// be named, so are all.
 fn push_expected(alloc: Global, text: &mut Vec<u8>, front: &[u8]) -> Result<(), AllocError>
     ensures { OnOk result (text.new.items ≡ text.old.items
         ++ Unmatched.runs_hint (Unmatched.runs (Unmatched.expected_after front.now))) }
 {
-    let first = first_runs(alloc, front)?;
+    let mut bytes = first_expected(alloc, front)?;
+    let first = runs_of(alloc, &bytes)?;
     if first.len() > 3 {
         return push_runs(text, &first);
     }
-    let bytes = expected_after(alloc, front)?;
+    let others = other_expected(alloc, front)?;
+    bytes.extend_from_slice(&others)?;
     let runs = runs_of(alloc, &bytes)?;
     push_runs(text, &runs)
 }

@@ -1,8 +1,7 @@
-use Rattle.std.proofs.Common.{arith, length, ◌+◌}
+use Rattle.std.proofs.Common.{length, refl, ◌+◌}
 use Rattle.std.proofs.lemmas.List.{take_rest}
 use Rattle.hwdb_forms.specs.Internal.{fields_of, followed, views}
-use Rattle.hwdb_forms.proofs.AfterLemmas.{fields_bits, rest_ways}
-use Rattle.hwdb_forms.proofs.CellLoopLemmas.{first_at}
+use Rattle.hwdb_forms.proofs.AfterLemmas.{fields_bits}
 use Rattle.hwdb_forms.proofs.LeadLemmas.{single_field}
 use Rattle.hwdb_forms.proofs.MeetLemmas.{some_left}
 use Rattle.hwdb_forms.proofs.cells.fields_bits.Goals as goal
@@ -13,5 +12,4 @@ returns-then-fields-eq1 c = λ i h.
 
 pub returns : goal.returns
 returns c = λ i h.
-    fields_bits (fields_of c.args.fields.now) (views c.args.tokens.now) c.args.first i c.index.result.now c.in_ok-row.row.items c.requires.ways h c.in_ok-row.ensures.row
-    (first_at c.in_ok-row.row.items c.index.result.now (omega (arith, c.in_ok-row.ensures.long)) c.index.ensures)
+    fields_bits (fields_of c.args.fields.now) (views c.args.tokens.now) c.args.first i c.in_ok-bits-2.bits _ c.requires.ways h refl c.in_ok-bits-2.ensures

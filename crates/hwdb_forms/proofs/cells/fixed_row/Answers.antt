@@ -14,7 +14,7 @@ loop-at-init c = record {
 pub loop-at-preserved : goal.loop-at-preserved
 loop-at-preserved c = record {
   within = omega arith;
-  long = c.byte_row-cells.ensures.long;
-  room = c.byte_row-cells.ensures.room;
-  done = fixed_kept c.args.kind c.args.bytes.now (views c.args.tokens.now) c.args.cells.row.items c.loop-at.cells.row.items c.byte_row-cells.result.row.items c.loop-at.at (c.loop-at.at - 1) _ (omega arith) (omega arith) refl c.loop-at.invariant.done c.byte_row-cells.ensures.row;
+  long = c.own_row-cells.ensures.long;
+  room = c.own_row-cells.ensures.room;
+  done = fixed_kept c.args.kind c.args.bytes.now (views c.args.tokens.now) c.args.cells.row.items c.loop-at.cells.row.items c.own_row-cells.result.row.items c.loop-at.at (c.loop-at.at - 1) _ (omega arith) (omega arith) refl c.loop-at.invariant.done c.own_row-cells.ensures.row;
 }

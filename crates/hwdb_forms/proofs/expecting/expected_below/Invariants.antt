@@ -1,4 +1,4 @@
-use Rattle.std.proofs.Common.{◌≡◌, ◌≤◌, ◌-◌, ◌++◌, true}
+use Rattle.std.proofs.Common.{◌≡◌, ◌≤◌, ◌-◌, ◌++◌}
 use Rattle.std.specs.Prelude.{filter}
 use Rattle.hwdb_spec.specs.FormTable.{asked}
 use Rattle.hwdb_spec.specs.Forms.{all_bytes_from, is_expected}
@@ -8,7 +8,7 @@ use Rattle.hwdb_forms.proofs.expecting.expected_below.Given as goal
 abbrev pub invariant-loop-byte : goal.invariant-loop-byte
 invariant-loop-byte l = record {
   within : l.byte ≤ l.end;
-  last : l.known.is_plain ≡ true → IsWordAfter l.front l.last;
+  last : IsWordAfter l.front l.last;
   done : l.bytes.items ++ filter (is_expected asked l.front) (all_bytes_from (l.end - l.byte) l.byte) ≡ filter (is_expected asked l.front) (all_bytes_from l.end 0);
 }
 
