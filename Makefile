@@ -125,9 +125,14 @@ demo: kit
 check: kit
 	tests/gate
 
+# `make check-edits SHARE=3/10` tries the third tenth of all wrong bodies, whatever their crates.
 check-edits:
+ifneq ($(SHARE),)
+	tests/proofs/wrong-bodies --share $(SHARE)
+else
 	tests/proofs/wrong-bodies $(CRATES)
 	tests/proofs/definitions $(CRATES)
+endif
 
 # Wrong bodies that are proved: a script of tests/ sees each. And what `make unproved` builds.
 check-survivors:
