@@ -15,6 +15,7 @@ MAKES = {
     "btrfs": ["mkfs.btrfs", "-q"],
 }
 
+# With beside=yes another process syncs all the time, so that what an update has done until then is on the disk, and the rest isn't.
 # Each disk is looked at, and updated if something was left beside its database. The last one stays mounted, and is updated until the
 # power is cut. Text files are in memory, so that an update's own calls are all that writes to the disk.
 INIT = """#!/bin/sh
@@ -56,6 +57,7 @@ for disk in a b c d e f g h; do
     {anew}
 done
 echo "@READY"
+case $(cat /proc/cmdline) in *beside=yes*) while :; do sync; done & ;; esac
 while :; do
     said $i
     echo "@BEGIN $i"
@@ -132,12 +134,13 @@ class Guest:
             if made.wait():
                 raise SystemExit("cpio failed")
 
-    def start(self, socket, disks, following):
+    def start(self, socket, disks, following, is_beside):
         """Starts it over so many disks of the server at this socket. Its console is the standard output."""
         last = "abcdefgh"[disks - 1]
         words = ["qemu-system-x86_64", "-nodefaults", "-display", "none", "-serial", "stdio", "-no-reboot", "-accel", "tcg", "-cpu", "Nehalem"]
         words += ["-m", "384", "-kernel", self.kernel, "-initrd", self.folder + "/initramfs"]
-        words += ["-append", "console=ttyS0 quiet panic=-1 mitigations=off nokaslr no_timer_check tsc=reliable last=%s next=%d" % (last, following)]
+        words += ["-append", "console=ttyS0 quiet panic=-1 mitigations=off nokaslr no_timer_check tsc=reliable last=%s next=%d beside=%s" % (
+            last, following, "yes" if is_beside else "no")]
         for number in range(disks):
             drive = "driver=raw,file.driver=nbd,file.server.type=unix,file.server.path=%s,file.export=%d,if=virtio,cache.direct=on"
             words += ["-drive", drive % (socket, number)]
