@@ -4,8 +4,10 @@
 # `make completions` writes the completions and README's table of commands from the program's help.
 # `make demo` asks a file of our own, by the proved program if it is built, else by the one without proofs; it takes three minutes at most.
 # `make check` is the whole gate, `make check-edits` tries more wrong bodies,
-# `make check-survivors` those that the prover accepts, `make check-peer` compares with Debian's own files, `make bench` measures on them.
-# `make fuzz` gives the C library's calls changed files for five minutes, or for as long as SECONDS says.
+# `make check-survivors` those that the prover accepts, `make check-peer` compares with Debian's own files and releases, `make bench` measures
+# on them. `make check-power` cuts the power of a guest while it updates, and `make check-power-edits` tries wrong bodies so.
+# `make fuzz` gives changed files to the C library's calls, and changed text files to the program: each for five minutes, or for as long as
+# SECONDS says.
 # `make install` and `make uninstall` go by the folders below and need no toolchain, `make deb` makes Debian packages in out/, `make
 # dist` an archive of the sources, and `make check-package` tries all but the last; it installs what it needs with apt-get.
 VERSION := $(shell cat VERSION)
@@ -32,8 +34,10 @@ LIBRARY ?= out/libhwdb.so.0
 CC ?= cc
 CFLAGS ?= -O2
 LIBRARIES ?= out
-# How long `make fuzz` runs.
+# How long each part of `make fuzz` runs.
 SECONDS ?= 300
+# How often `make check-power` cuts the power on each file system.
+CUTS ?= 40
 # What `make demo` and `make unproved` ask.
 ASKED := ask examples/workshop.hwdb usb:v1209p0007d0101
 # What is installed, each as PACKAGE:MODE:SOURCE:PLACE. The names in @ of a source that ends in `.in` are filled in; a link's source is
@@ -59,7 +63,7 @@ FILLED = 's|@bindir@|$(BINDIR)|; s|@prefix@|$(PREFIX)|; s|@libdir@|$(LIBDIR)|; s
 WARNINGS := -std=c11 -Wall -Wextra -Werror
 HARDENED := -Wl,-z,relro -Wl,-z,now -Wl,-z,noexecstack -Wl,--no-undefined
 
-.PHONY: all program lib linked-lib hardened-lib kit unproved completions demo check check-edits check-survivors fuzz check-peer check-package bench \
+.PHONY: all program lib linked-lib hardened-lib kit unproved completions demo check check-edits check-survivors fuzz check-peer check-power check-power-edits check-package bench \
 	install uninstall files deb dist clean
 
 # The library over what the program's proofs built; c/over-proved proves its calls.
@@ -139,9 +143,10 @@ check-survivors:
 	tests/proofs/unproved --judge
 	tests/proofs/caught $(EDITS)
 
-# It keeps what it finds, and what is new to it, in out/.
+# The first keeps what is new to it in out/, and both what they find.
 fuzz: $(PROGRAM) out/libhwdb.so.0
 	tests/hostile/fuzz '$(PROGRAM)' $(SECONDS)
+	tests/random/fuzz-texts '$(PROGRAM)' $(SECONDS)
 
 check-peer: $(PROGRAM) out/libhwdb.so.0
 	tests/proofs/key-names
@@ -151,9 +156,20 @@ check-peer: $(PROGRAM) out/libhwdb.so.0
 	tests/peer/device out/hwdb
 	tests/peer/near out/hwdb
 	tests/peer/parse-hwdb
+	tests/peer/machines out/hwdb
+	tests/peer/releases out/hwdb out/libhwdb.so.0
+	tests/power/power out/hwdb 1
 
+# Both need root, for apt-get.
+check-power: $(PROGRAM)
+	tests/power/power '$(PROGRAM)' $(CUTS)
+
+check-power-edits: kit
+	tests/power/seen
+
+# `tests/peer/speed-page out/speed.tsv` writes the tables of pages of it.
 bench: all
-	tests/peer/bench out/hwdb
+	tests/peer/bench out/hwdb out
 
 # Only where there is no program yet, so that root needs no toolchain to install what a user built.
 out/hwdb:

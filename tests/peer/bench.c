@@ -1,10 +1,11 @@
 /* The measuring program of tests/peer/bench.
  *
  *   bench time RUNS COMMAND.. :: COMMAND.. ..   runs each command once, then each once more, and so on, RUNS times, with
- *                 standard output and error thrown away. A line for each: the least and the middle wall time in
- *                 microseconds, and the greatest memory that a run held, in KiB. If a command's status isn't 0: `failed`, and it
- *                 isn't run again. A command may have status 1 if `!` is before it. With `*N` before it, it is run N times in a
- *                 row for one time, which is their sum divided by N
+ *                 standard output and error thrown away. A line for each: of its wall times in microseconds the least, the middle
+ *                 one, and those at a quarter and at three quarters; and the greatest memory that a run held, in KiB. If a command's
+ *                 status isn't 0: `failed`, and it isn't run again. A command may have status 1 if `!` is before it. With `*N`
+ *                 before it, it is run N times in a row for one time, which is their sum divided by N. If BENCH_SAMPLES names a folder,
+ *                 the times of earlier calls with the same words, and the same BENCH_OF, are kept there, and count too
  *   bench processor SECONDS RUNS COMMAND.. :: COMMAND.. ..   the same, with the time that the processor spent on the
  *                 command, its own and the system's, in place of wall time; a run that takes more than SECONDS of it has failed
  *   bench links FILE FOLDER COUNT               gives the file so many names in the folder, each ending in .hwdb
@@ -25,7 +26,7 @@
 #include <time.h>
 #include <unistd.h>
 
-enum { MOST_COMMANDS = 8, MOST_RUNS = 1000, PIECE = 65536 };
+enum { MOST_COMMANDS = 8, MOST_RUNS = 1000, MOST_TIMES = 10000, PIECE = 65536 };
 
 static void fail(const char *what) { perror(what); exit(1); }
 
@@ -60,7 +61,7 @@ static struct bytes lines_of(const char *path) {
     return text;
 }
 
-struct command { char **words; long times[MOST_RUNS]; long memory; int most_status; int in_a_row; int has_failed; };
+struct command { char **words; long times[MOST_TIMES]; int count; long memory; int most_status; int in_a_row; int has_failed; };
 static struct command commands[MOST_COMMANDS];
 
 static int most_seconds;
@@ -99,8 +100,31 @@ static long run_in_a_row(struct command *command) {
 
 static int by_time(const void *a, const void *b) { return (*(long *)a > *(long *)b) - (*(long *)a < *(long *)b); }
 
+/* Where the times of these words are kept: a name made of all of them. */
+static const char *kept_at(char **words) {
+    static char path[4096];
+    unsigned long sum = 14695981039346656037UL ^ (unsigned long)most_seconds;
+    const char *folder = getenv("BENCH_SAMPLES"), *of = getenv("BENCH_OF");
+    if (!folder) return NULL;
+    for (const char *word = of ? of : ""; word; word = *words++) {
+        const char *at = word;
+        do sum = (sum ^ (unsigned char)*at) * 1099511628211UL;
+        while (*at++);
+    }
+    snprintf(path, sizeof path, "%s/%016lx", folder, sum);
+    return path;
+}
+
+/* A line of that file: a command's number, a time and a memory. */
+static void add(int i, long time, long memory) {
+    struct command *command = &commands[i];
+    if (memory > command->memory) command->memory = memory;
+    if (command->count < MOST_TIMES) command->times[command->count++] = time;
+}
+
 static int time_all(int runs, char **words) {
     int count = 0;
+    const char *path = kept_at(words);
     if (runs < 1 || runs > MOST_RUNS) return 1;
     while (*words && count < MOST_COMMANDS) {
         struct command *command = &commands[count++];
@@ -111,13 +135,27 @@ static int time_all(int runs, char **words) {
         while (*words && strcmp(*words, "::")) words++;
         if (*words) *words++ = 0;
     }
+    FILE *kept = path ? fopen(path, "a+") : NULL;
+    int i;
+    long time, memory;
+    if (kept) rewind(kept);
+    while (kept && fscanf(kept, "%d %ld %ld", &i, &time, &memory) == 3)
+        if (i >= 0 && i < count) add(i, time, memory);
     for (int run = 0; run < runs; run++)
-        for (int i = 0; i < count; i++)
-            if (!commands[i].has_failed) commands[i].times[run] = run_in_a_row(&commands[i]);
-    for (int i = 0; i < count; i++) {
-        qsort(commands[i].times, runs, sizeof(long), by_time);
-        if (commands[i].has_failed) printf("failed\n");
-        else printf("%ld %ld %ld\n", commands[i].times[0], commands[i].times[runs / 2], commands[i].memory);
+        for (i = 0; i < count; i++) {
+            if (commands[i].has_failed) continue;
+            time = run_in_a_row(&commands[i]);
+            if (commands[i].has_failed) continue;
+            add(i, time, commands[i].memory);
+            if (kept) fprintf(kept, "%d %ld %ld\n", i, time, commands[i].memory);
+        }
+    if (kept && fclose(kept)) fail(path);
+    for (i = 0; i < count; i++) {
+        struct command *command = &commands[i];
+        qsort(command->times, command->count, sizeof(long), by_time);
+        if (command->has_failed || !command->count) printf("failed\n");
+        else printf("%ld %ld %ld %ld %ld\n", command->times[0], command->times[command->count / 2],
+                    command->times[command->count / 4], command->times[command->count * 3 / 4], command->memory);
     }
     return 0;
 }
