@@ -79,4 +79,4 @@ from_root n (Node prefix vs ks) tight short =
     omega (arith, b)
 
 pub short_are_shallow : ShortLinesAreShallow
-short_are_shallow m t is short = from_root 2047 t is.tight (at_values 2047 (values_under [] t) (recursion_from_All (members_under [] t) short))
+short_are_shallow m t is short = from_root 2047 t is.tight (at_values 2047 (values_under [] t) (recursion_from_All (IsShort 2047) (members_under [] t) short))
