@@ -26,4 +26,3 @@ pub mod AlikeLemmas
 pub mod ChangeLemmas
 pub mod GiftLemmas
 pub mod ReportLemmas
-pub mod LongLemmas

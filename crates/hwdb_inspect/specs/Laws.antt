@@ -1,5 +1,5 @@
 -- What the laws say of a tree and its map, and of its dump.
-use Rattle.std.specs.Prelude.{◌≡◌, ◌≤◌, [], All, length, map, List, ℕ, None}
+use Rattle.std.specs.Prelude.{◌≡◌, [], map, List, ℕ, None}
 use Rattle.std.specs.FinMap as finite
 use Rattle.hwdb_spec.specs.Answers.{effective_of}
 use Rattle.hwdb_spec.specs.Assignment.{Assignment}
@@ -8,10 +8,7 @@ use Rattle.hwdb_spec.specs.Dump.{dumped, dump_text, first_unsaid}
 use Rattle.hwdb_spec.specs.Records.{Origin, assignments}
 use Rattle.hwdb_spec.specs.Texts.{query_text, last_values_text}
 use Rattle.hwdb_spec.specs.LoneFile.{lone}
-use Rattle.hwdb_spec.specs.Summary.{deepest_for_udev, depth}
-use Rattle.hwdb_spec.specs.Tree.{Map, Tree, IsTree, answers, members_under, map_of, entry_of}
-use Rattle.hwdb_spec.specs.Warnings.{longest_line}
-use Rattle.hwdb_spec.specs.Written.{IsTightTree}
+use Rattle.hwdb_spec.specs.Tree.{Tree, IsTree, answers, members_under, map_of, entry_of}
 
 -- What a tree assigns, from its root on, is its map from the first entry to the last.
 abbrev pub MembersAreTheMap : Type 0
@@ -33,8 +30,3 @@ DumpTells = (t : Tree) (device : List ℕ) → IsTree t → first_unsaid (dumped
 -- What a database gives a device, by key, is what `query` tells it.
 abbrev pub GiftsAreEffective : Type 0
 GiftsAreEffective = (device : List ℕ) (t : Tree) → map (λ e. (e.0.1, e.1.value)) (finite.entries (gifts device t)) ≡ effective_of (answers device t)
-
--- A tree that is written is not too deep for udev if each of its patterns has at most so many bytes that `check` doesn't warn of it.
-abbrev pub ShortLinesAreShallow : Type 0
-ShortLinesAreShallow =
-    (m : Map) (t : Tree) → IsTightTree m t → All (λ a. length a.position.pattern ≤ longest_line) (members_under [] t) → depth t ≤ deepest_for_udev

@@ -1,5 +1,5 @@
 //! Laws of databases. Each function holds no code: its contract is a law of the definitions of `hwdb_spec`.
-ghost use Rattle.hwdb_inspect.specs.Laws.{MembersAreTheMap, DumpSays, DumpTells, GiftsAreEffective, ShortLinesAreShallow};
+ghost use Rattle.hwdb_inspect.specs.Laws.{MembersAreTheMap, DumpSays, DumpTells, GiftsAreEffective};
 ghost use Rattle.hwdb_inspect.specs.Rows.{DeviceStatRows, EtcRows, NameRows, StatJsonRows, StatRows, TextRows};
 
 use hwdb_query::explained_are_effective;
@@ -7,12 +7,6 @@ use hwdb_query::explained_are_effective;
 /// All that a tree assigns, in the order of its nodes and values, is the tree's map, by pattern and key.
 pub fn members_are_the_map()
     ensures { MembersAreTheMap }
-{}
-
-/// A database that is written of match lines without a warning of their length is not too deep for udev.
-#[tactic(auto, using(crate::proofs::LongLemmas::short_are_shallow))]
-pub fn short_lines_are_shallow()
-    ensures { ShortLinesAreShallow }
 {}
 
 /// The text of a dump, read as a file, says what the database assigns, each assignment once and in the dump's order.

@@ -35,12 +35,12 @@ pub(crate) fn update_words(alloc: Global, usr: bool, root: &str) -> Result<Vec<u
 fn no_option(alloc: Global, path: &[u8]) -> Result<Vec<u8>, AllocError>
     ensures { IfOk result (λ plain. plain.items ≡ no_option path.now) }
 {
-    let mut plain = Vec::new(alloc);
     if begins_with(b'-', path) {
-        plain.extend_from_slice(b"./")?;
+        let mut plain = Vec::from_slice(alloc, b"./")?;
+        plain.extend_from_slice(path)?;
+        return Ok(plain);
     }
-    plain.extend_from_slice(path)?;
-    Ok(plain)
+    Vec::from_slice(alloc, path)
 }
 
 /// The command that removes the database of /etc.

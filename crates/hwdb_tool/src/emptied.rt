@@ -1,5 +1,7 @@
 //! What `update` says if there are no text files: which database that may assign something is replaced by an empty one, or hidden by it.
-ghost use Rattle.std.specs.Prelude.{◌≡◌, ◌≤◌, ◌++◌, List, Some, false, length, option_map, IfErr, IfOk, IfSome, OnOk};
+ghost use Rattle.std.specs.Prelude.{◌≡◌, ◌≤◌, ◌++◌, List, Some, codes, false, length, option_map, true, IfErr, IfOk, IfSome, OnOk};
+ghost use Rattle.hwdb_spec.specs.Asked;
+ghost use Rattle.hwdb_spec.specs.Commands.{removing_words};
 ghost use Rattle.hwdb_spec.specs.Emptied;
 ghost use Rattle.hwdb_spec.specs.Emptied.{IsLoss, IsLossOf, IsLossUnseen, IsLost, IsOneUnseen, line_if};
 ghost use Rattle.hwdb_spec.specs.Folders.{Choice};
@@ -88,17 +90,37 @@ fn emptied_words(alloc: Global, root: &str, usr: bool) -> Result<Vec<u8>, AllocE
     Ok(words)
 }
 
+/// Adds that there are no text files, and the command that removes the empty database.
+fn push_to_use(alloc: Global, words: &mut Vec<u8>, root: &str) -> Result<(), AllocError>
+    ensures { OnOk result (words.new.items ≡ words.old.items
+        ++ (codes ": there are no text files. To use that one, run: "
+        ++ removing_words root.now)) }
+{
+    let command = removing_words(alloc, root)?;
+    words.extend_from_slice(TO_USE.as_bytes())?;
+    words.extend_from_slice(&command)?;
+    Ok(())
+}
+
+/// Adds that it hides the one of /usr/lib, and the same.
+fn push_hides(alloc: Global, words: &mut Vec<u8>, root: &str) -> Result<(), AllocError>
+    ensures { OnOk result (words.new.items ≡ words.old.items
+        ++ (codes " is empty and hides " ++ (Asked.database_path true root.now
+        ++ (codes ": there are no text files. To use that one, run: "
+        ++ removing_words root.now)))) }
+{
+    let usr = database_path(alloc, root, true)?;
+    words.extend_from_slice(HIDES.as_bytes())?;
+    words.extend_from_slice(usr.as_bytes())?;
+    push_to_use(alloc, words, root)
+}
+
 /// What is said of a database of /usr/lib that an empty one hides.
 fn hidden_words(alloc: Global, root: &str) -> Result<Vec<u8>, AllocError>
     ensures { IfOk result (λ words. words.items ≡ Emptied.hidden_words root.now) }
 {
-    let command = removing_words(alloc, root)?;
-    let usr = database_path(alloc, root, true)?;
     let mut words = database_path(alloc, root, false)?.into_bytes();
-    words.extend_from_slice(HIDES.as_bytes())?;
-    words.extend_from_slice(usr.as_bytes())?;
-    words.extend_from_slice(TO_USE.as_bytes())?;
-    words.extend_from_slice(&command)?;
+    push_hides(alloc, &mut words, root)?;
     Ok(words)
 }
 

@@ -8,7 +8,7 @@ ghost use Rattle.hwdb_spec.specs.Refusals.{HasReason, IsUnreadAt};
 ghost use Rattle.hwdb_spec.specs.Status;
 ghost use Rattle.hwdb_spec.specs.Assignment.{ascending};
 ghost use Rattle.hwdb_spec.specs.Reading.{AreUnread};
-ghost use Rattle.hwdb_spec.specs.Status.{IsAmount, IsStatus, has_database, hidden_database, is_well, masked_of, root_words};
+ghost use Rattle.hwdb_spec.specs.Status.{IsAmount, IsStatus, has_database, hidden_database, is_well, masked_of};
 ghost use Rattle.hwdb_inspect.specs.Views.{amount_shown, report_shown, state_shown};
 ghost use Rattle.hwdb_spec.specs.Asked;
 ghost use Rattle.hwdb_spec.specs.Commands;
@@ -328,7 +328,7 @@ fn path_hidden(
 
 /// The command that makes the database of /usr/lib anew, and removes the one that hides it.
 fn update_and_remove(alloc: Global, root: &str) -> Result<Vec<u8>, AllocError>
-    ensures { IfOk result (λ words. words.items ≡ Status.update_words true root.now
+    ensures { IfOk result (λ words. words.items ≡ Commands.update_words true root.now
         ++ (codes " && " ++ Commands.removing_words root.now)) }
 {
     let removing = removing_words(alloc, root)?;

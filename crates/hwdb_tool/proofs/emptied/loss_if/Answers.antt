@@ -1,6 +1,6 @@
 use Rattle.std.proofs.Common.{sym, ◌∙◌}
 use Rattle.hwdb_spec.specs.Emptied.{IsLossOf, IsLossUnseen}
-use Rattle.hwdb_tool.proofs.EmptyingLemmas.{loss_bare, loss_none, unseen_bare}
+use Rattle.hwdb_tool.proofs.EmptyingLemmas.{loss_bare, unseen_bare}
 use Rattle.hwdb_tool.proofs.emptied.loss_if.Goals as goal
 use Rattle.hwdb_spec.specs.Lemmas.Calls.{each_error, each_value}
 
@@ -17,7 +17,3 @@ returns-then-bare-clause-refused g c = λ chosen is tells.
     let seen = g.D.Store.seen c.args.system.now in
     each_error _ (IsLossUnseen chosen root seen) c.loss_of_empty.result
     (λ r unseen. unseen_bare chosen root seen r (sym c.if-bare.true ∙ is) unseen) (c.loss_of_empty.ensures.refused tells)
-
-pub returns-clause-loss : goal.returns-clause-loss
-returns-clause-loss g c = λ chosen is tells.
-    loss_none chosen c.args.root.now c.args.usr (g.D.Store.seen c.args.system.now) c.new.result.items (sym c.if-bare.false ∙ is) c.new.ensures.items
