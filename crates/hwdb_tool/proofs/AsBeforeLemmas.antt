@@ -23,6 +23,7 @@ use Rattle.hwdb_spec.specs.Texts.{max_file}
 use Rattle.hwdb_spec.specs.Tree.{Tree}
 use Rattle.hwdb_spec.specs.Undone.{IsUnfound, IsUnreadableIf}
 use Rattle.hwdb_spec.specs.Verdicts.{verdict_text}
+use Rattle.hwdb_spec.specs.Visible.{shown_name}
 use Rattle.hwdb_spec.specs.declared.causes.Cause.{Cause}
 use Rattle.hwdb_spec.specs.declared.causes.Cause.TheVariants as why
 use Rattle.hwdb_spec.specs.declared.errors.ToolError.{ToolError}
@@ -75,7 +76,7 @@ pattern_vec text pattern path is = record {
     within =
         let shows = shown_longer pattern in
         let all = ap length is in
-        let one = length-append path (said ++ shown pattern) in
+        let one = length-append (shown_name path) (said ++ shown pattern) in
         let two = length-append said (shown pattern) in
         omega (arith, shows, all, one, two, text.ok.0, text.ok.1, text.small)
 

@@ -101,10 +101,10 @@ module _ (header : OneHeader) (fails : List ℕ → Type 0) (U : Type 0) (root :
     where
       names : IsVerifyRefused (Some name) root (with_input told files) r → Names r
       names (inl un) = of_unnamed root (with_input told files) r un
-      names (inr no) = of_verify root files no.error no.path r no.is
+      names (inr un) = of_verify root files un.error un.path r un.is
 
       by : IsVerifyRefused (Some name) root (with_input told files) r → Unverified header fails U root (with_input told files) (Some name) r
-      by not2 = unverified header (λ (path : List ℕ). ⊥) ⊥ root (with_input told files) (Some name) (λ p is no. no) r not2 (so_of_file fails files told n m whole r (names not2) has) of
+      by not2 = unverified header (λ (path : List ℕ). ⊥) ⊥ root (with_input told files) (Some name) (λ p is fail. fail) r not2 (so_of_file fails files told n m whole r (names not2) has) of
 
   pub no_verify : (given input : Option (List ℕ)) → NeverNamed fails root files given → OfNamed given input files (λ g fs. IsVerifyRefused g root fs r) → HasDatabaseReason given fails files input n m r
       → NoVerify header fails U root files given input r
@@ -122,10 +122,10 @@ module _ (header : OneHeader) (fails : List ℕ → Type 0) (U : Type 0) (root :
     where
       names : IsDumpRefused (Some name) root (with_input told files) r → Names r
       names (inl un) = of_unnamed root (with_input told files) r un
-      names (inr no) = of_dump root files no.error no.path r no.is
+      names (inr un) = of_dump root files un.error un.path r un.is
 
       by : IsDumpRefused (Some name) root (with_input told files) r → Undumped header fails U root (with_input told files) (Some name) r
-      by not2 = undumped header (λ (path : List ℕ). ⊥) ⊥ root (with_input told files) (Some name) (λ p is no. no) r not2 (so_of_file fails files told n m whole r (names not2) has) of
+      by not2 = undumped header (λ (path : List ℕ). ⊥) ⊥ root (with_input told files) (Some name) (λ p is fail. fail) r not2 (so_of_file fails files told n m whole r (names not2) has) of
 
   pub no_dump : (given input : Option (List ℕ)) → NeverNamed fails root files given → OfNamed given input files (λ g fs. IsDumpRefused g root fs r) → HasDatabaseReason given fails files input n m r
       → NoDump header fails U root files given input r

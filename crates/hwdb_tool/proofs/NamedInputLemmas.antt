@@ -6,9 +6,11 @@ use Rattle.hwdb_spec.specs.Asked.{IsDumped, IsPrinted, named_database}
 use Rattle.hwdb_spec.specs.Databases.{IsSayable, IsSummary, IsTextOf}
 use Rattle.hwdb_spec.specs.Dump.{dump_text}
 use Rattle.hwdb_spec.specs.DumpErrors.{IsDumpRefusal}
+use Rattle.hwdb_spec.specs.Errors.{refusal_of_read}
 use Rattle.hwdb_spec.specs.Failures.{HasFailed}
 use Rattle.hwdb_spec.specs.GivenDatabases.{HasDatabaseReason, OfGiven, OfNamed, names_input, with_input}
 use Rattle.hwdb_spec.specs.NamedDatabases.{IsDumpRefused, IsOfDump, IsOfVerify, IsVerifyRefused}
+use Rattle.hwdb_spec.specs.Queries.{IsOfWholeInput, IsWholeInputUnread}
 use Rattle.hwdb_spec.specs.Reasons.{HasGivenReason}
 use Rattle.hwdb_spec.specs.Refusals.{HasReason, IsAt, IsInWords, IsOfCause, IsUnread, IsUnreadAt}
 use Rattle.hwdb_spec.specs.Runs.{OnOut}
@@ -39,7 +41,7 @@ use Rattle.hwdb_plan.specs.Lemmas.Steps.{input_told, input_untold, plainly}
 use Rattle.hwdb_plan.specs.Plans.{End, Ends, Follows, Next, Plan}
 use Rattle.hwdb_plan.specs.Plans.End.{Stops}
 use Rattle.hwdb_plan.specs.Plans.Plan.{Input}
-use Rattle.hwdb_tool.specs.Internal.{input_stop}
+use Rattle.hwdb_tool.specs.Internal.{IsInputReason, input_stop}
 use Rattle.hwdb_tool.specs.Views.{texts_in}
 use Rattle.hwdb_tool.specs.declared.answer.Answer.{Answer}
 use Rattle.hwdb_tool.proofs.GivenLemmas.{file_reason}
@@ -70,14 +72,40 @@ pub no_cause_stop : (r : Refusal) → IsOfCause Read name None r → IsStop (unr
 no_cause_stop r is = of_cause_stop Read name None r is
 
 pub cause_stop : (c : Cause) (r : Refusal) → c ≢ why.Memory → IsOfCause Read name (Some c) r → IsStop (unread_stop name (unread.Failed (Some c))) r
-cause_stop why.Memory r no is = absurd (no refl)
-cause_stop c r no is = of_cause_stop Read name (Some c) r is
+cause_stop why.Memory r other is = absurd (other refl)
+cause_stop c r other is = of_cause_stop Read name (Some c) r is
 
 pub long_stop : (r : Refusal) → IsOfCause TooLong name None r → IsStop (Over TooLong name None) r
 long_stop r is = of_cause_stop TooLong name None r is
 
 pub within_of : (text : Vec ℕ Global) (most : ℕ) → vec_len text ≤ most → length text.items ≤ most
 within_of text most fits = let same = text.ok.0 in omega (arith, same, fits)
+
+-- what an error over standard input is
+at_unread : (e : ToolError) (r : Refusal) → ((at : Vec ℕ Global) (cause : Option Cause) → at.items ≡ name → IsUnread name (At e at cause)) → IsAt e name r → IsUnread name r
+at_unread e (Plain x) is_at is = subst (λ (y : ToolError). IsUnread name (Plain y)) (sym is) tt
+at_unread e (At x at cause) is_at is = subst (λ (y : ToolError). IsUnread name (At y at cause)) (sym is.0) (is_at at cause is.1)
+at_unread e NoDatabase is_at is = absurd is
+at_unread e (InWords text) is_at is = absurd is
+
+pub whole_unread : (e : ReadError) (r : Refusal) → IsOfWholeInput (refusal_of_read e) r → IsUnread name r
+whole_unread reading.Failed r is = at_unread Read r (λ at cause there. there) is
+whole_unread reading.TooLong r is = at_unread TooLong r (λ at cause there. there) is
+whole_unread reading.Memory r is = subst (IsUnread name) (sym is) tt
+
+module _ (input : Option (List ℕ)) (n m : ℕ) where
+  at_reason : (e : ToolError) (r : Refusal) → ((at : Vec ℕ Global) (cause : Option Cause) → at.items ≡ name → IsWholeInputUnread input n m (At e at cause)) → IsAt e name r
+      → (r ≡ Plain Memory) ⊎ IsWholeInputUnread input n m r
+  at_reason e (Plain x) is_at is = inl (ap Plain is)
+  at_reason e (At x at cause) is_at is = inr (subst (λ (y : ToolError). IsWholeInputUnread input n m (At y at cause)) (sym is.0) (is_at at cause is.1))
+  at_reason e NoDatabase is_at is = absurd is
+  at_reason e (InWords text) is_at is = absurd is
+
+  pub whole_so : (e : ReadError) (r : Refusal) → (e ≡ reading.Failed → HasFailed n m) → (e ≡ reading.TooLong → IfSome input (λ told. max_file < length told)) → IsOfWholeInput (refusal_of_read e) r
+      → (r ≡ Plain Memory) ⊎ IsWholeInputUnread input n m r
+  whole_so reading.Failed r failed long is = at_reason Read r (λ at cause there. (there, failed refl)) is
+  whole_so reading.TooLong r failed long is = at_reason TooLong r (λ at cause there. (there, long refl)) is
+  whole_so reading.Memory r failed long is = inl is
 
 -- an error of `read_all`, as what is told of standard input
 module _ (input : Option (List ℕ)) (n m : ℕ) where
@@ -91,6 +119,22 @@ module _ (input : Option (List ℕ)) (n m : ℕ) where
   error_told reading.Failed cause r failed long (inr says) = (Err (unread.Failed cause), failed refl, inr (unread.Failed cause, refl, says))
   error_told reading.TooLong cause r failed long (inr says) = (Err unread.TooLong, long refl, inr (unread.TooLong, refl, says))
   error_told reading.Memory cause r failed long (inr says) = memory_told r (plainly r says)
+
+-- what is said of standard input is said of no files
+pub any_files : (fails fails2 : List ℕ → Type 0) (seen seen2 : Contents) (input : Option (List ℕ)) (n m : ℕ) (r : Refusal) → HasGivenReason true fails seen input n m r → HasGivenReason true fails2 seen2 input n m r
+any_files fails fails2 seen seen2 input n m (At Read at cause) has = has
+any_files fails fails2 seen seen2 input n m (At Write at cause) has = has
+any_files fails fails2 seen seen2 input n m (At TooLong at cause) has = has
+any_files fails fails2 seen seen2 input n m (At TooManyFiles at cause) has = has
+any_files fails fails2 seen seen2 input n m (At TooManyLines at cause) has = has
+any_files fails fails2 seen seen2 input n m (At TooLarge at cause) has = has
+any_files fails fails2 seen seen2 input n m (At BadPosition at cause) has = has
+any_files fails fails2 seen seen2 input n m (At (BadDatabase fault) at cause) has = has
+any_files fails fails2 seen seen2 input n m (At (Replace u) at cause) has = has
+any_files fails fails2 seen seen2 input n m (At Memory at cause) has = has
+any_files fails fails2 seen seen2 input n m (Plain e) has = has
+any_files fails fails2 seen seen2 input n m NoDatabase has = has
+any_files fails fails2 seen seen2 input n m (InWords text) has = has
 
 -- ---- what is so of the named database, if that is standard input, and if it isn't
 pub of_dash : (given input : Option (List ℕ)) (contents : Contents) (Is : Option (List ℕ) → Contents → Type 0) → names_input given ≡ true
@@ -112,9 +156,10 @@ over_file None input n m w Is names h = h
 over_file (Some path) input n m w Is names h = subst (λ (b : Bool). OverGiven b path input n m w (λ p. Is (Some p))) (sym names) h
 
 module _ (fails : List ℕ → Type 0) (seen : Contents) (input : Option (List ℕ)) (n m : ℕ) (r : Refusal) where
-  pub reason_dash : (given : Option (List ℕ)) → names_input given ≡ true → HasGivenReason true fails seen input n m r → HasDatabaseReason given fails seen input n m r
+  pub reason_dash : (given : Option (List ℕ)) → names_input given ≡ true → IsInputReason input n m r → HasDatabaseReason given fails seen input n m r
   reason_dash None names h = absurd cc
-  reason_dash (Some path) names h = subst (λ (b : Bool). HasGivenReason b fails seen input n m r) (sym names) h
+  reason_dash (Some path) names h =
+      subst (λ (b : Bool). HasGivenReason b fails seen input n m r) (sym names) (any_files (λ (p : List ℕ). ⊥) fails (λ (p : List ℕ). None) seen input n m r h)
 
   pub reason_file : (given : Option (List ℕ)) → names_input given ≡ false → HasReason (IsUnreadableIf (is_some given) fails seen) ⊥ seen r → HasDatabaseReason given fails seen input n m r
   reason_file None names h = h

@@ -133,9 +133,6 @@ texts_of root files usr chosen texts b s is = record {
 }
 
 -- ---- which of these it is
-pub dash_file : (files : Contents) (path : List ℕ) → is_dash path ≡ true → is_file files path ≡ true
-dash_file files path dash = ap (λ (b : Bool). if b then true else is_some (bytes_at files (folder_of path))) dash
-
 pub file_or_not : (files : Contents) (path folder : List ℕ) (b : Bool) → folder ≡ folder_of path → is_dash path ≡ false → is_some (bytes_at files folder) ≡ b → is_file files path ≡ b
 file_or_not files path folder b is plain there =
     ap (λ (d : Bool). if d then true else is_some (bytes_at files (folder_of path))) plain ∙ ap (λ (p : List ℕ). is_some (bytes_at files p)) (sym is) ∙ there

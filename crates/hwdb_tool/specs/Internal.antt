@@ -11,6 +11,7 @@ use Rattle.hwdb_text.specs.Views.{choice_of}
 use Rattle.hwdb_compile.specs.Views.{AreChosenOf}
 use Rattle.hwdb_spec.specs.OverText.{world_over}
 use Rattle.hwdb_spec.specs.Program.{IsTaskDone, root_of}
+use Rattle.hwdb_spec.specs.Reasons.{HasGivenReason}
 use Rattle.hwdb_spec.specs.Runs.{World}
 use Rattle.hwdb_spec.specs.Selected.{AreSelected}
 use Rattle.hwdb_spec.specs.TaskRefusals.{IsNotDone}
@@ -77,3 +78,7 @@ abbrev pub input_stop : ReadError → Option Cause → Stop
 input_stop reading.Failed cause = unread_stop (codes "standard input") (Failed cause)
 input_stop reading.TooLong cause = Over TooLong (codes "standard input") None
 input_stop reading.Memory cause = Plain Memory
+
+-- what an error says of standard input is so; it says nothing of files
+abbrev pub IsInputReason : (input : Option (List ℕ)) (failures_before failures_now : ℕ) → Refusal → Type 0
+IsInputReason = HasGivenReason true (λ path. ⊥) (λ path. None)

@@ -56,7 +56,7 @@ pub fn any_dash(given: &[String]) -> bool
 /// The error if standard input can't be read.
 fn refusal_of(alloc: Global, error: ReadError, cause: Option<Cause>) -> Refusal
     ensures is { IsOfWholeInput (refusal_of_read error) result }
-    ensures stops { IsStop (input_stop error cause.entry) result }
+    ensures stops { IsStop (input_stop error cause) result }
 {
     match error {
         ReadError::Failed => read_refusal(alloc, cause),
@@ -70,7 +70,7 @@ fn refusal_of(alloc: Global, error: ReadError, cause: Option<Cause>) -> Refusal
 /// The same of a call of it that failed.
 fn read_refusal(alloc: Global, cause: Option<Cause>) -> Refusal
     ensures is { IsAt ToolError.Read (codes "standard input") result }
-    ensures stops { IsStop (unread_stop (codes "standard input") (Failed cause.entry)) result }
+    ensures stops { IsStop (unread_stop (codes "standard input") (Failed cause)) result }
 {
     match cause {
         Some(cause) => refused_for(alloc, cause),
@@ -81,7 +81,7 @@ fn read_refusal(alloc: Global, cause: Option<Cause>) -> Refusal
 /// The same for this cause: memory that was refused is told as that.
 fn refused_for(alloc: Global, cause: Cause) -> Refusal
     ensures is { IsAt ToolError.Read (codes "standard input") result }
-    ensures stops { IsStop (unread_stop (codes "standard input") (Failed (Some cause.entry)))
+    ensures stops { IsStop (unread_stop (codes "standard input") (Failed (Some cause)))
         result }
 {
     match cause {

@@ -4,8 +4,8 @@ ghost use Rattle.hwdb_spec.specs.Verdicts.{verdict_text};
 ghost use Rattle.hwdb_spec.specs.VerifyErrors.{IsVerifyRefusal};
 ghost use Rattle.hwdb_spec.specs.Refusals.{HasReason, IsInWords};
 ghost use Rattle.hwdb_spec.specs.GivenDatabases.{HasDatabaseReason, OfGiven, OfNamed, names_input};
-ghost use Rattle.hwdb_spec.specs.Reasons.{HasGivenReason};
 ghost use Rattle.hwdb_spec.specs.NamedDatabases.{IsOfVerify, IsVerifyRefused};
+ghost use Rattle.hwdb_tool.specs.Internal.{IsInputReason};
 ghost use Rattle.hwdb_tool.specs.Views.{end_of, texts_in};
 ghost use Rattle.hwdb_spec.specs.Store.{Contents};
 ghost use Rattle.hwdb_spec.specs.Told.{IsStop, Reads};
@@ -76,8 +76,7 @@ fn verify_input<I: Source>(alloc: Global, input: &mut I) -> Result<Answer, Refus
     ensures refused { (root : List ℕ) (seen : Contents) → IfErr result
         (λ r. OfGiven true [] (I.left input.old) seen
         (λ path seen. IsVerifyRefused (Some path) root seen r)) }
-    ensures reason { (fails : (path : List ℕ) → Type 0) (seen : Contents) → IfErr result
-        (HasGivenReason true fails seen
+    ensures reason { IfErr result (IsInputReason
         (I.left input.old) (I.failures input.old) (I.failures input.new)) }
 {
     let bytes = read_input(alloc, input)?;

@@ -30,7 +30,7 @@ pub returns-then-names_input-clause-reason : goal.returns-then-names_input-claus
 returns-then-names_input-clause-reason g c =
     IfErr-weaker c.dump_input.result _ _
     (λ r is. reason_dash (g.D.System.may_fail c.args.system.now) (g.D.Store.seen c.args.system.now) (g.I.Source.left c.args.input.now) (g.I.Source.failures c.args.input.now) (g.I.Source.failures c.dump_input.new.input) r
-    (option_map (λ t. t.now) c.args.given) (sym c.names_input.ensures ∙ c.if-names_input.true) is) (c.dump_input.ensures.reason (g.D.System.may_fail c.args.system.now) (g.D.Store.seen c.args.system.now))
+    (option_map (λ t. t.now) c.args.given) (sym c.names_input.ensures ∙ c.if-names_input.true) is) (c.dump_input.ensures.reason)
 
 pub returns-else-names_input-clause-follows : goal.returns-else-names_input-clause-follows
 returns-else-names_input-clause-follows g c = λ tells.

@@ -1,4 +1,4 @@
-use Rattle.std.proofs.Common.{subst, List, Some, ℕ, IfErr, IfOk, [], true}
+use Rattle.std.proofs.Common.{subst, List, None, Some, ℕ, IfErr, IfOk, [], true}
 use Rattle.std.specs.Prelude.{codes}
 use Rattle.std.proofs.lemmas.Result.{IfErr-weaker}
 use Rattle.hwdb_spec.specs.Asked.{IsDumped}
@@ -8,10 +8,10 @@ use Rattle.hwdb_spec.specs.DumpErrors.{IsDumpRefusal}
 use Rattle.hwdb_spec.specs.GivenDatabases.{OfGiven}
 use Rattle.hwdb_spec.specs.Lemmas.Calls.{given_error}
 use Rattle.hwdb_spec.specs.NamedDatabases.{IsOfDump, IsDumpRefused}
-use Rattle.hwdb_spec.specs.Reasons.{HasGivenReason}
 use Rattle.hwdb_plan.specs.Plans.{Follows}
 use Rattle.hwdb_plan.specs.Dump.{text_form}
 use Rattle.hwdb_spec.specs.Runs.{OnOut}
+use Rattle.hwdb_tool.specs.Internal.{IsInputReason}
 use Rattle.hwdb_tool.specs.Views.{end_of, texts_in}
 use Rattle.hwdb_tool.proofs.GivenLemmas.{input_reason}
 use Rattle.hwdb_tool.proofs.NamedInputLemmas.{dump_reason, input_read, input_unread, texted_input, untexted_input, unread_dump}
@@ -28,12 +28,12 @@ returns-in_err-bytes-clause-refused g c = λ root seen.
     (unread_dump (g.I.Source.left c.args.input.now) root seen r c.in_err-bytes.ensures.refused)
 
 pub returns-in_err-bytes-clause-reason : goal.returns-in_err-bytes-clause-reason
-returns-in_err-bytes-clause-reason g c = λ fails seen.
+returns-in_err-bytes-clause-reason g c =
     let r = c.in_err-bytes.field-0.0 in
     let input = g.I.Source.left c.args.input.now in
     let before = g.I.Source.failures c.args.input.now in
     let now = g.I.Source.failures c.read_input.new.input in
-    given_error r (HasGivenReason true fails seen input before now) c.from_residual.result c.from_residual.ensures.1 (input_reason fails seen input before now r c.in_err-bytes.ensures.reason)
+    given_error r (IsInputReason input before now) c.from_residual.result c.from_residual.ensures.1 (input_reason (λ path. ⊥) (λ path. None) input before now r c.in_err-bytes.ensures.reason)
 
 pub returns-clause-follows : goal.returns-clause-follows
 returns-clause-follows g c = λ root reads.
@@ -52,6 +52,6 @@ returns-clause-refused g c = λ root seen.
     (why.0, why.1, subst (λ (b : List ℕ). IsDumpRefusal b why.0) c.deref.ensures.value why.2)) c.texted.ensures.refused
 
 pub returns-clause-reason : goal.returns-clause-reason
-returns-clause-reason g c = λ fails seen.
+returns-clause-reason g c =
     IfErr-weaker c.texted.result _ _
-    (λ r why. dump_reason fails seen (g.I.Source.left c.args.input.now) (g.I.Source.failures c.args.input.now) (g.I.Source.failures c.read_input.new.input) (codes "standard input") why.0 r why.1) c.texted.ensures.refused
+    (λ r why. dump_reason (λ path. ⊥) (λ path. None) (g.I.Source.left c.args.input.now) (g.I.Source.failures c.args.input.now) (g.I.Source.failures c.read_input.new.input) (codes "standard input") why.0 r why.1) c.texted.ensures.refused
