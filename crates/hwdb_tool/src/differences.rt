@@ -220,7 +220,11 @@ fn status_of(differ: bool) -> u8
 fn told_path(path: &str) -> &[u8]
     ensures { result.now ≡ told_path path.now }
 {
-    if is_dash(path) { INPUT } else { path.as_bytes() }
+    if is_dash(path) {
+        INPUT
+    } else {
+        path.as_bytes()
+    }
 }
 
 /// The error if the databases of these sides can't be compared.
@@ -229,10 +233,20 @@ fn refusal_of(alloc: Global, error: DiffError, old_path: &str, new_path: &str) -
 {
     match error {
         DiffError::Old(fault) => {
-            Refusal::at(alloc, ToolError::BadDatabase(fault), told_path(old_path), None)
+            Refusal::at(
+                alloc,
+                ToolError::BadDatabase(fault),
+                told_path(old_path),
+                None,
+            )
         }
         DiffError::New(fault) => {
-            Refusal::at(alloc, ToolError::BadDatabase(fault), told_path(new_path), None)
+            Refusal::at(
+                alloc,
+                ToolError::BadDatabase(fault),
+                told_path(new_path),
+                None,
+            )
         }
         DiffError::Memory => Refusal::from(ToolError::Memory),
     }

@@ -60,9 +60,7 @@ fn refusal_of(alloc: Global, error: ReadError, cause: Option<Cause>) -> Refusal
 {
     match error {
         ReadError::Failed => read_refusal(alloc, cause),
-        ReadError::TooLong => {
-            Refusal::of_cause(alloc, ToolError::TooLong, INPUT, None)
-        }
+        ReadError::TooLong => { Refusal::of_cause(alloc, ToolError::TooLong, INPUT, None) }
         ReadError::Memory => Refusal::from(ToolError::Memory),
     }
 }
