@@ -583,6 +583,7 @@ WARNINGS = {
     "cut": (b"a # without a blank before it cuts the value", b"put a blank before a comment; a value can't hold a #"),
     "repeated": (b"a match line that stands in its record already", b"take one of the two away"),
     "replaced": (b"an assignment that line %d replaces", b"take one of the two away"),
+    "deep": (b"with other lines, more than 2047 bytes may be too deep for udev", b"shorten it: systemd 262 refuses a depth of more than 2048, which hwdb verify tells"),
     "long": (b"udev takes at most 2046 bytes from the first *, ? or [ on", b"shorten it: systemd 252 and 257 crash at it, and 262 finds nothing"),
 }
 MOST_SHOWN = 160
@@ -713,6 +714,7 @@ def warnings_of(text):
             ("repeated", 0, number in repeated),
             ("replaced", indent_of(line), number in replaced),
             ("long", first_wild(cleaned), is_too_long(cleaned)),
+            ("deep", 2047, is_match(cleaned) and 2047 < len(cleaned) <= LONGEST_PATTERN and not is_too_long(cleaned)),
         ]
         for kind, place, holds in kinds:
             if holds:
