@@ -154,7 +154,8 @@ class Server:
         data = taken(client, length) if kind == WRITE else b""
         error, out = 0, b""
         with self.lock:
-            if kind in (WRITE, FLUSH):
+            # A flush of an empty cache changes nothing. Who syncs all the time makes many.
+            if kind == WRITE or kind == FLUSH and disk.cache:
                 self.requests += 1
                 self.flushes += kind == FLUSH
                 if self.waits_for and (self.flushes if self.waits_for[0] else self.requests) >= self.waits_for[1]:
