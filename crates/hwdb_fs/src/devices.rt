@@ -72,6 +72,8 @@ where
       listing = λ _. Err Memory;
     } };
 
+    ghost bare = { ⊥ };
+
     fn real_path(&self, _: Global, path: &[u8]) -> Result<Vec<u8>, Cause> {
         let place = self.real_path_of(text_of(path)?).map_err(cause_of)?;
         Ok(place.into_bytes())
@@ -111,6 +113,8 @@ where
       page = λ _. Err Memory;
       listing = λ _. Err Memory;
     } };
+
+    ghost bare = { ⊥ };
 
     fn real_path(&self, alloc: Global, path: &[u8]) -> Result<Vec<u8>, Cause> {
         self.files().real_path(alloc, path)

@@ -268,6 +268,8 @@ impl<'a, D: DeviceFiles> DeviceFiles for Overlay<'a, D> {
 
     ghost answers = { λ o. D.answers o.system.now };
 
+    ghost bare = { D.bare };
+
     fn real_path(&self, alloc: Global, path: &[u8]) -> Result<Vec<u8>, Cause> {
         self.system.real_path(alloc, path)
     }

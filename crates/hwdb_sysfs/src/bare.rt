@@ -11,6 +11,8 @@ impl DeviceFiles for Memory {
 
     ghost answers = { λ _. nothing_there };
 
+    ghost bare = { Unit {0} };
+
     fn real_path(&self, _: Global, _: &[u8]) -> Result<Vec<u8>, Cause> {
         Err(Cause::System(NO_ENTRY))
     }

@@ -1,5 +1,5 @@
 //! What a file system answers of devices, call by call, and nothing decided.
-ghost use Rattle.std.specs.Prelude.{◌≡◌, ◌≤◌, ℕ, IfOk, List, Ok, Option, Result, length, option_map, true};
+ghost use Rattle.std.specs.Prelude.{◌≡◌, ◌≤◌, ◌⊎◌, ℕ, IfOk, List, Ok, Option, Result, length, option_map, true};
 ghost use Rattle.hwdb_spec.specs.SysfsAnswers.{Answers, IsTold};
 ghost use Rattle.hwdb_sysfs.specs.Views.{node_of};
 
@@ -25,6 +25,8 @@ pub trait DeviceFiles {
     ghost tells: { Type 0 };
     /// The answers.
     ghost answers: { Self → Answers };
+    /// There are no small files to be read, as in a store without sysfs.
+    ghost bare: { Type 0 };
 
     /// Tells the path of what a path leads to, with no link in it.
     fn real_path(&self, alloc: Global, path: &[u8]) -> Result<Vec<u8>, Cause>
@@ -41,7 +43,7 @@ pub trait DeviceFiles {
     /// Reads the small file at a place, which is a regular file. One of more than 4,096 bytes is an error: an attribute of sysfs has a
     /// page at most.
     fn page_of(&self, alloc: Global, place: &[u8]) -> Result<Vec<u8>, Cause>
-        requires { tells → (answers self.now).file place.now ≡ Ok true }
+        requires { tells → bare ⊎ ((answers self.now).file place.now ≡ Ok true) }
         ensures told { tells → IsTold (λ v. v.items) ((answers self.now).page place.now) result }
         ensures short { IfOk result (λ v. length v.items ≤ 4096) };
 

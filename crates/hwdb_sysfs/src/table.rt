@@ -78,6 +78,8 @@ impl DeviceFiles for Table {
 
     ghost answers = { λ t. answers_of t.rows.items };
 
+    ghost bare = { ⊥ };
+
     fn real_path(&self, alloc: Global, path: &[u8]) -> Result<Vec<u8>, Cause> {
         match self.row(path) {
             Some(row) => copied(alloc, &row.place),
