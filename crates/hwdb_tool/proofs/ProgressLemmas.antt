@@ -1,8 +1,10 @@
 -- What is said of the files of an update.
-use Rattle.std.proofs.Common.{◌≡◌, ◌∙◌, ◌<◌, ◌++◌, ◌∷◌, ap, append_assoc, sym, get_or, map, length, refl, take, ℕ, suc, List, [], Some}
+use Rattle.std.proofs.Common.{◌≡◌, ◌∙◌, ◌<◌, ◌++◌, ◌∷◌, ap, append_assoc, sym, get_or, map, length, refl, take, ℕ, suc, List, [], Some, codes}
 use Rattle.std.specs.List.{AllByRecursion}
 use Rattle.std.specs.FinMap as finite
-use Rattle.std.specs.Prelude.{flat_map}
+use Rattle.std.specs.Fmt.{decimal}
+use Rattle.std.specs.Prelude.{flat_map, if◌then◌else◌}
+use Rattle.std.proofs.lemmas.Bool.{lt-ltb}
 use Rattle.std.proofs.lemmas.List.{length-map}
 use Rattle.std.proofs.lemmas.List.Elements.{recursion_from_All}
 use Rattle.hwdb_spec.specs.Assignment.{Assignment}
@@ -34,6 +36,15 @@ kept_pieces o a s b k t u y first second third =
     third ∙ ap (λ l. l ++ k) (second ∙ ap (λ l. l ++ (b ++ s)) first)
     ∙ append_assoc (o ++ (a ++ s)) (b ++ s) k ∙ append_assoc o (a ++ s) ((b ++ s) ++ k)
     ∙ ap (λ l. o ++ l) (append_assoc a s ((b ++ s) ++ k) ∙ ap (λ l. a ++ (s ++ l)) (append_assoc b s k))
+
+-- the pieces of the line of a depth that is too great, added one after another
+pub deep_pieces : (n : ℕ) (o t u y : List ℕ) → 2048 < n → t ≡ o ++ codes "warning: the depth is " → u ≡ t ++ decimal n → y ≡ u ++ codes ": udev of systemd 262 refuses more than 2048\n"
+    → y ≡ o ++ deep_line n
+deep_pieces n o t u y deep first second third =
+    third ∙ ap (λ l. l ++ codes ": udev of systemd 262 refuses more than 2048\n") (second ∙ ap (λ l. l ++ decimal n) first)
+    ∙ append_assoc (o ++ codes "warning: the depth is ") (decimal n) (codes ": udev of systemd 262 refuses more than 2048\n")
+    ∙ append_assoc o (codes "warning: the depth is ") (decimal n ++ codes ": udev of systemd 262 refuses more than 2048\n")
+    ∙ ap (λ b. o ++ (if b then codes "warning: the depth is " ++ (decimal n ++ codes ": udev of systemd 262 refuses more than 2048\n") else [])) (sym (lt-ltb 2048 n deep))
 
 abbrev long_of : ChosenFile → List ℕ
 long_of f = too_long_lines (λ _. bytes_in f) (choice_in f)

@@ -1,7 +1,7 @@
 //! What `update` says if there are no text files: which database that may assign something is replaced by an empty one, or hidden by it.
 ghost use Rattle.std.specs.Prelude.{◌≡◌, ◌≤◌, ◌++◌, List, Some, codes, false, length, option_map, true, IfErr, IfOk, IfSome, OnOk};
 ghost use Rattle.hwdb_spec.specs.Asked;
-ghost use Rattle.hwdb_spec.specs.Commands.{removing_words};
+ghost use Rattle.hwdb_spec.specs.Commands.{removing_words, update_words};
 ghost use Rattle.hwdb_spec.specs.Emptied;
 ghost use Rattle.hwdb_spec.specs.Emptied.{IsLoss, IsLossOf, IsLossUnseen, IsLost, IsOneUnseen, line_if};
 ghost use Rattle.hwdb_spec.specs.Folders.{Choice};
@@ -79,14 +79,29 @@ fn is_lost_in<D: System>(
     Ok(lost)
 }
 
+/// Adds that it becomes empty, and the command that makes it anew.
+fn push_to_renew(
+    alloc: Global,
+    words: &mut Vec<u8>,
+    root: &str,
+    usr: bool,
+) -> Result<(), AllocError>
+    ensures { OnOk result (words.new.items ≡ words.old.items
+        ++ (codes " becomes empty: there are no text files. Bring them back, and then run: "
+        ++ update_words usr root.now)) }
+{
+    let command = update_words(alloc, usr, root)?;
+    words.extend_from_slice(EMPTIED.as_bytes())?;
+    words.extend_from_slice(&command)?;
+    Ok(())
+}
+
 /// What is said of a database that is replaced by an empty one.
 fn emptied_words(alloc: Global, root: &str, usr: bool) -> Result<Vec<u8>, AllocError>
     ensures { IfOk result (λ words. words.items ≡ Emptied.emptied_words root.now usr) }
 {
-    let command = update_words(alloc, usr, root)?;
     let mut words = database_path(alloc, root, usr)?.into_bytes();
-    words.extend_from_slice(EMPTIED.as_bytes())?;
-    words.extend_from_slice(&command)?;
+    push_to_renew(alloc, &mut words, root, usr)?;
     Ok(words)
 }
 

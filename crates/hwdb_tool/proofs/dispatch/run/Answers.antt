@@ -342,8 +342,8 @@ returns-in-Verify-clause-done g c = λ tells.
     let root = c.root_of-root.result.now in
     let of_root = c.root_of-root.ensures in
     let given = option_map string_bytes c.in-Verify.database in
-    let path = option_map (λ t. t.now) c.text_of-given.result in
-    let of_given = c.text_of-given.ensures in
+    let path = option_map (λ t. t.now) c.text_of-given-in-Verify.result in
+    let of_given = c.text_of-given-in-Verify.ensures in
     let answer = c.verify-answer.result in
     let is = both_values _ _ (λ a. (a.status ≡ 0) × OnOut (λ text. OfNamed given input seen (λ g f. IsPrinted g (root_of job) IsSummary f text)) (texts_in a)) answer (λ a zero p. (zero, p)) c.verify-answer.ensures.status
     (subst (λ r. IfOk answer (λ a. OnOut (λ text. OfNamed given input seen (λ g f. IsPrinted g r IsSummary f text)) (texts_in a))) of_root
@@ -371,8 +371,8 @@ returns-in-Verify-clause-refused g c = λ tells.
     let root = c.root_of-root.result.now in
     let of_root = c.root_of-root.ensures in
     let given = option_map string_bytes c.in-Verify.database in
-    let path = option_map (λ t. t.now) c.text_of-given.result in
-    let of_given = c.text_of-given.ensures in
+    let path = option_map (λ t. t.now) c.text_of-given-in-Verify.result in
+    let of_given = c.text_of-given-in-Verify.ensures in
     let answer = c.verify-answer.result in
     let is = both_values _ _ (λ a. (a.status ≡ 0) × OnOut (λ text. OfNamed given input seen (λ g f. IsPrinted g (root_of job) IsSummary f text)) (texts_in a)) answer (λ a zero p. (zero, p)) c.verify-answer.ensures.status
     (subst (λ r. IfOk answer (λ a. OnOut (λ text. OfNamed given input seen (λ g f. IsPrinted g r IsSummary f text)) (texts_in a))) of_root
@@ -405,8 +405,8 @@ returns-in-Dump-clause-done g c = λ tells.
     let root = c.root_of-root.result.now in
     let of_root = c.root_of-root.ensures in
     let given = option_map string_bytes c.in-Dump.database in
-    let path = option_map (λ t. t.now) c.text_of-given.result in
-    let of_given = c.text_of-given.ensures in
+    let path = option_map (λ t. t.now) c.text_of-given-in-Dump.result in
+    let of_given = c.text_of-given-in-Dump.ensures in
     let answer = c.dump-answer.result in
     let is = both_values _ _ (λ a. (a.status ≡ 0) × OnOut (λ text. OfNamed given input seen (λ g f. IsDumped g (root_of job) f text)) (texts_in a)) answer (λ a zero p. (zero, p)) c.dump-answer.ensures.status
     (subst (λ r. IfOk answer (λ a. OnOut (λ text. OfNamed given input seen (λ g f. IsDumped g r f text)) (texts_in a))) of_root
@@ -434,8 +434,8 @@ returns-in-Dump-clause-refused g c = λ tells.
     let root = c.root_of-root.result.now in
     let of_root = c.root_of-root.ensures in
     let given = option_map string_bytes c.in-Dump.database in
-    let path = option_map (λ t. t.now) c.text_of-given.result in
-    let of_given = c.text_of-given.ensures in
+    let path = option_map (λ t. t.now) c.text_of-given-in-Dump.result in
+    let of_given = c.text_of-given-in-Dump.ensures in
     let answer = c.dump-answer.result in
     let is = both_values _ _ (λ a. (a.status ≡ 0) × OnOut (λ text. OfNamed given input seen (λ g f. IsDumped g (root_of job) f text)) (texts_in a)) answer (λ a zero p. (zero, p)) c.dump-answer.ensures.status
     (subst (λ r. IfOk answer (λ a. OnOut (λ text. OfNamed given input seen (λ g f. IsDumped g r f text)) (texts_in a))) of_root
@@ -463,11 +463,11 @@ returns-in-Diff-clause-unread g c = λ none.
 
 pub returns-in-Verify-clause-unread : goal.returns-in-Verify-clause-unread
 returns-in-Verify-clause-unread g c = λ none.
-    c.verify-answer.ensures.unread (subst (λ d. names_input d ≡ false) (sym c.text_of-given.ensures) (subst (λ t. reads_input t ≡ false) c.in-Verify.is none))
+    c.verify-answer.ensures.unread (subst (λ d. names_input d ≡ false) (sym c.text_of-given-in-Verify.ensures) (subst (λ t. reads_input t ≡ false) c.in-Verify.is none))
 
 pub returns-in-Dump-clause-unread : goal.returns-in-Dump-clause-unread
 returns-in-Dump-clause-unread g c = λ none.
-    c.dump-answer.ensures.unread (subst (λ d. names_input d ≡ false) (sym c.text_of-given.ensures) (subst (λ t. reads_input t ≡ false) c.in-Dump.is none))
+    c.dump-answer.ensures.unread (subst (λ d. names_input d ≡ false) (sym c.text_of-given-in-Dump.ensures) (subst (λ t. reads_input t ≡ false) c.in-Dump.is none))
 
 pub returns-in-Device-clause-refused : goal.returns-in-Device-clause-refused
 returns-in-Device-clause-refused g c = λ tells.
