@@ -6,7 +6,7 @@ use Rattle.clap.specs.Takes.{takes}
 use Rattle.clap.specs.declared.error.kind.ErrorKind.TheVariants.{DisplayHelp, InvalidSubcommand}
 use Rattle.clap.specs.Simple.{subcommand_of}
 use Rattle.clap.proofs.OnLiterals.{clap_on_literals}
-use Rattle.hwdb_spec.specs.CommandLine.{hwdb_app}
+use Rattle.hwdb_spec_commands.specs.CommandLine.{hwdb_app}
 
 abbrev update_words : List Text
 update_words = codes "hwdb" ∷ codes "-s" ∷ codes "update" ∷ codes "-r" ∷ codes "/x" ∷ []

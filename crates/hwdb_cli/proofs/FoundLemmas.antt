@@ -10,8 +10,8 @@ use Rattle.clap.specs.Walk.{Row, Text, all_of}
 use Rattle.clap.specs.Simple.{subcommand_rows}
 use Rattle.clap.specs.declared.parser.matches.ArgMatches.TheViews.{out-SubCommand}
 use Rattle.clap.specs.declared.parser.matches.SubCommand.{SubCommand}
-use Rattle.hwdb_spec.specs.declared.job.Job.{Job}
-use Rattle.hwdb_spec.specs.Jobs.{HasValue, IsCommand, IsJob, IsJobOf}
+use Rattle.hwdb_spec_commands.specs.declared.job.Job.{Job}
+use Rattle.hwdb_spec_commands.specs.Jobs.{HasValue, IsCommand, IsJob, IsJobOf}
 
 pub name_in_rows : {Z : Type 0} (o : Option (Box SubCommand Z))
     → option_map (λ b. (out-SubCommand (box_value b)).name.now) o ≡ option_map (λ p. p.0) (subcommand_rows o)

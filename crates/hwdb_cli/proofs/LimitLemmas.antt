@@ -5,7 +5,7 @@ use Rattle.std.specs.Str.Parse.{ParsesUnsigned, ExplainsUnsignedError, HasUnsign
 use Rattle.std.specs.declared.num.ParseIntError.{ParseIntError}
 use Rattle.clap.specs.Walk.{Text}
 use Rattle.clap.specs.Matches.{ReadsOne}
-use Rattle.hwdb_spec.specs.Jobs.{IsLimit, IsNumber}
+use Rattle.hwdb_spec_commands.specs.Jobs.{IsLimit, IsNumber}
 
 abbrev pub Reads : Text → Result ℕ ParseIntError → Type 0
 Reads bs r = ParsesUnsigned 64 10 bs r × ExplainsUnsignedError 10 bs r × HasUnsignedDigitsIfOk bs r

@@ -13,8 +13,8 @@ use Rattle.clap.specs.Simple.{App, Shape, argument_words, built, built_leaf, ent
 use Rattle.clap.proofs.WalkLemmas.{both}
 use Rattle.clap.proofs.ValueTestLemmas.{accepts-Accepts}
 use Rattle.clap.specs.declared.builder.value_parser.ValueParser.TheVariants as vp
-use Rattle.hwdb_spec.specs.CommandLine.{ask_app, check_app, device_app, device_rule, devices_rule, diff_app, dump_app, explain_app, file_rule, hwdb_app, limit_rule, list_app, near_app, new_database_rule, old_database_rule, query_app, status_app, test_app, test_files_rule, update_app, verify_app}
-use Rattle.hwdb_spec.specs.Jobs.{HasValue, IsCommand, IsNumber}
+use Rattle.hwdb_spec_commands.specs.CommandLine.{ask_app, check_app, device_app, device_rule, devices_rule, diff_app, dump_app, explain_app, file_rule, hwdb_app, limit_rule, list_app, near_app, new_database_rule, old_database_rule, query_app, status_app, test_app, test_files_rule, update_app, verify_app}
+use Rattle.hwdb_spec_commands.specs.Jobs.{HasValue, IsCommand, IsNumber}
 use Rattle.hwdb_cli.proofs.WalkLemmas.{IsNotHelp, none_of_both, walk_not_help}
 use Rattle.hwdb_cli.proofs.UseLemmas.{Each, RowFits, StandsAlone, found_each, keeps_values, required_value, rows_fit, same_id, text_read}
 

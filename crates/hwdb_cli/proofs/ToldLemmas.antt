@@ -4,9 +4,9 @@ use Rattle.clap.specs.Kinds.{HasKind, IsAmong, Kinds}
 use Rattle.clap.specs.Values.{kind_of}
 use Rattle.clap.specs.declared.error.Error.{Error}
 use Rattle.clap.specs.declared.error.kind.ErrorKind.TheVariants.{DisplayHelp, DisplayVersion, OutOfMemory}
-use Rattle.hwdb_spec.specs.declared.job.WordsFault.{WordsFault}
-use Rattle.hwdb_spec.specs.declared.job.WordsFault.TheVariants.{Help, Usage, Memory}
-use Rattle.hwdb_spec.specs.WordFaults.{IsToldOf, IsToldOfOne}
+use Rattle.hwdb_spec_commands.specs.declared.job.WordsFault.{WordsFault}
+use Rattle.hwdb_spec_commands.specs.declared.job.WordsFault.TheVariants.{Help, Usage, Memory}
+use Rattle.hwdb_spec_commands.specs.WordFaults.{IsToldOf, IsToldOfOne}
 
 pub told_of_one : (kinds : Kinds) (e : Error) (fault : WordsFault) → HasKind kinds e → IsToldOf (kind_of e) fault → IsToldOfOne kinds fault
 told_of_one kinds e (Help text) (inl memory) (inl told, some) = let bad : OutOfMemory ≡ DisplayHelp = sym memory ∙ told in cc

@@ -7,10 +7,10 @@ ghost use Rattle.clap.specs.Simple.{matches_of, subcommand_of};
 ghost use Rattle.clap.specs.Takes.{takes};
 ghost use Rattle.clap.specs.Faults.{fault_of};
 ghost use Rattle.clap.specs.Values.{kind_of};
-ghost use Rattle.hwdb_spec.specs.CommandLine.{hwdb_app};
-ghost use Rattle.hwdb_spec.specs.Jobs.{IsCommand, IsJob, IsJobOf, IsTask, has_flag};
-ghost use Rattle.hwdb_spec.specs.WordFaults.{IsToldOf, IsToldOfOne};
-ghost use Rattle.hwdb_spec.specs.declared.job.WordsFault.TheVariants.{Memory};
+ghost use Rattle.hwdb_spec_commands.specs.CommandLine.{hwdb_app};
+ghost use Rattle.hwdb_spec_commands.specs.Jobs.{IsCommand, IsJob, IsJobOf, IsTask, has_flag};
+ghost use Rattle.hwdb_spec_commands.specs.WordFaults.{IsToldOf, IsToldOfOne};
+ghost use Rattle.hwdb_spec_commands.specs.declared.job.WordsFault.TheVariants.{Memory};
 
 use crate::command::hwdb_command;
 use crate::help::{fitting_help, short_help};
@@ -21,7 +21,7 @@ use crate::{
 };
 use clap::error::ErrorKind;
 use clap::{ArgMatches, Error};
-use hwdb_spec::{Job, Task, WordsFault};
+use hwdb_spec_commands::{Job, Task, WordsFault};
 use std::alloc::{AllocError, Global};
 
 /// The task of the subcommand with its matches.

@@ -3,13 +3,13 @@ ghost use Rattle.std.specs.Prelude.{IfOk, codes};
 ghost use Rattle.clap.specs.Walk.{rows_of};
 ghost use Rattle.clap.specs.Matches.{found_of};
 ghost use Rattle.hwdb_cli.specs.Drafts.{IsDraft};
-ghost use Rattle.hwdb_spec.specs.Jobs.{HasValue, IsTask};
-ghost use Rattle.hwdb_spec.specs.CommandLine.{ask_app};
+ghost use Rattle.hwdb_spec_commands.specs.Jobs.{HasValue, IsTask};
+ghost use Rattle.hwdb_spec_commands.specs.CommandLine.{ask_app};
 
 use crate::drafts::{Draft, device_argument, needed_word, shared, with_argument};
 use crate::matched::value_of;
 use clap::{ArgAction, ArgMatches};
-use hwdb_spec::Task;
+use hwdb_spec_commands::Task;
 use std::alloc::{AllocError, Global};
 
 /// What the short help says of it.

@@ -3,13 +3,13 @@ ghost use Rattle.std.specs.Prelude.{IfOk, codes};
 ghost use Rattle.clap.specs.Walk.{rows_of};
 ghost use Rattle.clap.specs.Matches.{found_of};
 ghost use Rattle.hwdb_cli.specs.Drafts.{IsArgument, IsDraft};
-ghost use Rattle.hwdb_spec.specs.Jobs.{IsTask};
-ghost use Rattle.hwdb_spec.specs.CommandLine.{allow_rule, check_app};
+ghost use Rattle.hwdb_spec_commands.specs.Jobs.{IsTask};
+ghost use Rattle.hwdb_spec_commands.specs.CommandLine.{allow_rule, check_app};
 
 use crate::drafts::{Draft, json_option, option, shared, with_argument, word};
 use crate::matched::{any_values_of, has_flag};
 use clap::{Arg, ArgAction, ArgMatches};
-use hwdb_spec::Task;
+use hwdb_spec_commands::Task;
 use std::alloc::{AllocError, Global};
 
 /// What the short help says of it.

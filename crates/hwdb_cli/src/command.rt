@@ -2,7 +2,7 @@
 //! adds the subcommand `help`. The definition of this command as data is what contracts speak of; help texts are shown by tests.
 ghost use Rattle.std.specs.Prelude.{◌≡◌, IfOk};
 ghost use Rattle.clap.specs.Simple.{app_of};
-ghost use Rattle.hwdb_spec.specs.CommandLine.{hwdb_app, top_app};
+ghost use Rattle.hwdb_spec_commands.specs.CommandLine.{hwdb_app, top_app};
 ghost use Rattle.hwdb_cli.specs.Drafts.{IsDraft};
 
 use crate::drafts::{Draft, shared, with_command};

@@ -2,7 +2,7 @@
 ghost use Rattle.std.specs.Prelude.{Some, true};
 ghost use Rattle.clap.specs.Walk.{Rule};
 ghost use Rattle.clap.specs.Simple.{App, new_app, new_rule, with_rule, with_subcommand};
-ghost use Rattle.hwdb_spec.specs.CommandLine.{color_rule, database_rule, device_rule, json_rule, root_rule, strict_rule, text_rule, with_shared};
+ghost use Rattle.hwdb_spec_commands.specs.CommandLine.{color_rule, database_rule, device_rule, json_rule, root_rule, strict_rule, text_rule, with_shared};
 ghost use Rattle.hwdb_cli.specs.Drafts.{IsArgument, IsDraft};
 
 use clap::{Arg, ArgAction, Command};

@@ -1,6 +1,6 @@
 //! The kinds of warnings that `check --allow` names.
 use crate::tips::ALIKE;
-use hwdb_spec::Task;
+use hwdb_spec_commands::Task;
 use std::alloc::{AllocError, Global};
 use strsim::jaro;
 

@@ -29,5 +29,5 @@ mod verify;
 
 pub use args::read_words;
 pub use command::hwdb_command;
-pub use hwdb_spec::{Job, Task, WordsFault};
+pub use hwdb_spec_commands::{Job, Task, WordsFault};
 pub use kinds::kind_fault;

@@ -3,8 +3,8 @@ ghost use Rattle.std.specs.Prelude.{IfOk, IfSome, codes};
 ghost use Rattle.clap.specs.Walk.{one_of, rows_of};
 ghost use Rattle.clap.specs.Matches.{found_of};
 ghost use Rattle.hwdb_cli.specs.Drafts.{IsArgument, IsDraft};
-ghost use Rattle.hwdb_spec.specs.Jobs.{HasValue, IsLimit, IsNumber, IsTask};
-ghost use Rattle.hwdb_spec.specs.CommandLine.{limit_rule, list_app};
+ghost use Rattle.hwdb_spec_commands.specs.Jobs.{HasValue, IsLimit, IsNumber, IsTask};
+ghost use Rattle.hwdb_spec_commands.specs.CommandLine.{limit_rule, list_app};
 
 use crate::drafts::{
     Draft, device_argument, json_option, option, shared, text_option, with_argument,
@@ -12,7 +12,7 @@ use crate::drafts::{
 use crate::matched::{copied, has_flag, text_of, value_of};
 use clap::builder::ValueParser;
 use clap::{Arg, ArgMatches};
-use hwdb_spec::Task;
+use hwdb_spec_commands::Task;
 use std::alloc::{AllocError, Global};
 
 /// What the short help says of it.

@@ -2,7 +2,7 @@
 ghost use Rattle.std.specs.Prelude.{◌≡◌, IfOk, map, option_map, string_bytes};
 ghost use Rattle.clap.specs.Walk.{first_of, rows_of};
 ghost use Rattle.clap.specs.Matches.{found_of};
-ghost use Rattle.hwdb_spec.specs.Jobs.{AreAnyValues, AreValues, HasValue, IsValue, has_flag};
+ghost use Rattle.hwdb_spec_commands.specs.Jobs.{AreAnyValues, AreValues, HasValue, IsValue, has_flag};
 
 use clap::ArgMatches;
 use std::alloc::{AllocError, Global};

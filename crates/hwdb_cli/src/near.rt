@@ -3,15 +3,15 @@ ghost use Rattle.std.specs.Prelude.{IfOk, IfSome, codes};
 ghost use Rattle.clap.specs.Walk.{one_of, rows_of};
 ghost use Rattle.clap.specs.Matches.{found_of};
 ghost use Rattle.hwdb_cli.specs.Drafts.{IsArgument, IsDraft};
-ghost use Rattle.hwdb_spec.specs.Jobs.{HasValue, IsNumber, IsTask};
-ghost use Rattle.hwdb_spec.specs.CommandLine.{limit_rule, near_app};
+ghost use Rattle.hwdb_spec_commands.specs.Jobs.{HasValue, IsNumber, IsTask};
+ghost use Rattle.hwdb_spec_commands.specs.CommandLine.{limit_rule, near_app};
 
 use crate::drafts::{Draft, json_option, needed_word, option, shared, text_option, with_argument};
 use crate::list::limit_of;
 use crate::matched::{has_flag, values_of};
 use clap::builder::ValueParser;
 use clap::{Arg, ArgAction, ArgMatches};
-use hwdb_spec::Task;
+use hwdb_spec_commands::Task;
 use std::alloc::{AllocError, Global};
 
 /// What the short help says of it.

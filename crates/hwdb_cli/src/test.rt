@@ -3,13 +3,13 @@ ghost use Rattle.std.specs.Prelude.{IfOk, codes};
 ghost use Rattle.clap.specs.Walk.{rows_of};
 ghost use Rattle.clap.specs.Matches.{found_of};
 ghost use Rattle.hwdb_cli.specs.Drafts.{IsArgument, IsDraft};
-ghost use Rattle.hwdb_spec.specs.Jobs.{HasValue, IsTask};
-ghost use Rattle.hwdb_spec.specs.CommandLine.{database_option_rule, test_app};
+ghost use Rattle.hwdb_spec_commands.specs.Jobs.{HasValue, IsTask};
+ghost use Rattle.hwdb_spec_commands.specs.CommandLine.{database_option_rule, test_app};
 
 use crate::drafts::{Draft, json_option, needed_word, option, shared, text_option, with_argument};
 use crate::matched::{copied, has_flag, text_of, values_of};
 use clap::{Arg, ArgAction, ArgMatches};
-use hwdb_spec::Task;
+use hwdb_spec_commands::Task;
 use std::alloc::{AllocError, Global};
 
 /// What the short help says of it.

@@ -3,13 +3,13 @@ ghost use Rattle.std.specs.Prelude.{codes};
 ghost use Rattle.clap.specs.Walk.{rows_of};
 ghost use Rattle.clap.specs.Matches.{found_of};
 ghost use Rattle.hwdb_cli.specs.Drafts.{IsDraft};
-ghost use Rattle.hwdb_spec.specs.Jobs.{IsTask};
-ghost use Rattle.hwdb_spec.specs.CommandLine.{update_app};
+ghost use Rattle.hwdb_spec_commands.specs.Jobs.{IsTask};
+ghost use Rattle.hwdb_spec_commands.specs.CommandLine.{update_app};
 
 use crate::drafts::{Draft, flag, shared, with_argument};
 use crate::matched::has_flag;
 use clap::ArgMatches;
-use hwdb_spec::Task;
+use hwdb_spec_commands::Task;
 use std::alloc::Global;
 
 /// What the short help says of it.

@@ -11,7 +11,7 @@ use Rattle.hwdb_spec.specs.Lines.{Line, lines, clean, has_equals, has_key, has}
 use Rattle.hwdb_spec.specs.Records.{sections, Origin, assign, patterns, property_assignments, section_assignments, assignments}
 use Rattle.hwdb_spec.specs.Assignment.{Assignment}
 use Rattle.hwdb_spec.specs.Folders.{same, Source, first_of}
-use Rattle.hwdb_spec.specs.Progress.{within_64_bits}
+use Rattle.hwdb_spec.specs.Folders.{within_64_bits}
 use Rattle.hwdb_text.specs.Views.{IsStorable, HasNoZero}
 use Rattle.hwdb_compile.specs.Views.{name_of, source_of, sources}
 use Rattle.hwdb_writer.specs.Internal.Storable as writer

@@ -5,7 +5,7 @@
 //! borrows its texts from a file's bytes, and its path from a list that is made first. So all files are in memory at
 //! once.
 ghost use Rattle.std.specs.Prelude.{◌≡◌, ◌≤◌, ◌++◌, ℕ, List, map, length, All, IfOk, IfErr, OnOk, flat_map};
-ghost use Rattle.hwdb_spec.specs.Progress.{within_64_bits};
+ghost use Rattle.hwdb_spec.specs.Folders.{within_64_bits};
 ghost use Rattle.hwdb_spec.specs.Format.{IsDatabase};
 ghost use Rattle.hwdb_spec.specs.Written.{IsDatabaseOf, IsWritten};
 ghost use Rattle.hwdb_spec.specs.Assignment.{Assignment};

@@ -1,7 +1,7 @@
 -- What a rule sees of a device.
 use Rattle.std.proofs.Common.{◌≡◌, ◌∙◌, ap, refl, sym, subst, ℕ, List, ◌∷◌}
-use Rattle.hwdb_spec.specs.Lookups.{Found, Scene, Told, found_for, found_in}
-use Rattle.hwdb_spec.specs.Sysfs.{Ancestor, cut_short}
+use Rattle.hwdb_spec_commands.specs.Lookups.{Found, Scene, Told, found_for, found_in}
+use Rattle.hwdb_spec_commands.specs.Sysfs.{Ancestor, cut_short}
 
 -- the scene of a device
 abbrev pub scene : (chain : List Ancestor) (own : Ancestor) (text : List ℕ) → Scene

@@ -5,17 +5,17 @@ use Rattle.std.specs.Char.{encode_utf8}
 use Rattle.std.specs.Str.{chars, is_utf8}
 use Rattle.json.specs.Print.{escape_byte, print_from}
 use Rattle.hwdb_spec.specs.Assignment.{put, put_all}
-use Rattle.hwdb_spec.specs.DeviceTexts.{record_after}
-use Rattle.hwdb_spec.specs.DeviceTree.{above, alike, first_given, last_after, nearest_of}
-use Rattle.hwdb_spec.specs.Inputs.{after_words, count_bits}
-use Rattle.hwdb_spec.specs.Json.{items_of, members_of, escaped_after}
+use Rattle.hwdb_spec_commands.specs.DeviceTexts.{record_after}
+use Rattle.hwdb_spec_commands.specs.DeviceTree.{above, alike, first_given, last_after, nearest_of}
+use Rattle.hwdb_spec_commands.specs.Inputs.{after_words, count_bits}
+use Rattle.hwdb_spec_commands.specs.Json.{items_of, members_of, escaped_after}
 use Rattle.hwdb_spec.specs.Lines.{pieces}
-use Rattle.hwdb_spec.specs.Lookups.{asked_in, flag_after, strings_from, told_value}
-use Rattle.hwdb_spec.specs.Near.{first_up_to, last_up_to}
-use Rattle.hwdb_spec.specs.NearPrefixes.{closest_after}
+use Rattle.hwdb_spec_commands.specs.Lookups.{asked_in, flag_after, strings_from, told_value}
+use Rattle.hwdb_spec_commands.specs.Near.{first_up_to, last_up_to}
+use Rattle.hwdb_spec_commands.specs.NearPrefixes.{closest_after}
 use Rattle.hwdb_spec.specs.Patterns.{bracket_at, byte_then, classes, item_at, items_from, matches, piece_then, some_ending, token_at, tokens_from}
 use Rattle.hwdb_spec.specs.Tree.{some_up_to}
-use Rattle.hwdb_spec.specs.Sysfs.{cut_back, first_at, replaced, value_of}
+use Rattle.hwdb_spec_commands.specs.Sysfs.{cut_back, first_at, replaced, value_of}
 use Rattle.hwdb_device.specs.AskedRows.{ErrorRows, FormRows, LinkRows, MissingRows}
 use Rattle.hwdb_spec.specs.Visible.{visible_after}
 use Rattle.hwdb_device.specs.Rows.{ClosestRow, JsonRow, KeysRow, LeftOutRows, ListRow, MouseRow, NearestRow, NoRow, PatternRow, StringsRow, TextRow}

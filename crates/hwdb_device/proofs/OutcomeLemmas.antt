@@ -2,7 +2,7 @@
 use Rattle.std.proofs.Common.{◌≡◌, ◌∙◌, ◌==◌, ap, refl, ℕ, false, true≢false, List, [], ◌∷◌, ◌++◌, append_assoc, codes, length, map, Vec, Global}
 use Rattle.std.specs.Prelude.{flat_map}
 use Rattle.hwdb_spec.specs.Assignment.{in_order, text_cmp}
-use Rattle.hwdb_spec.specs.DeviceTexts.{Gift, given_to, key_of_gift, result_lines, results, results_text}
+use Rattle.hwdb_spec_commands.specs.DeviceTexts.{Gift, given_to, key_of_gift, result_lines, results, results_text}
 use Rattle.hwdb_device.specs.Views.{outcomes_in}
 use Rattle.hwdb_device.specs.declared.outcomes.Outcome.{Outcome}
 

@@ -1,6 +1,6 @@
 -- The path of a device or a parent.
 use Rattle.std.proofs.Common.{◌≡◌, ◌<◌, refl, ℕ, zero, suc, List, [], ◌∷◌, arith, get_or, length, map}
-use Rattle.hwdb_spec.specs.DeviceTexts.{path_of}
+use Rattle.hwdb_spec_commands.specs.DeviceTexts.{path_of}
 use Rattle.hwdb_sysfs.specs.Views.{ancestor_of}
 use Rattle.hwdb_sysfs.specs.declared.device.Ancestor.{Ancestor as Read}
 

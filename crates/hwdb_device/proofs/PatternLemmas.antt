@@ -1,6 +1,6 @@
 -- A pattern that is made for a text matches it.
 use Rattle.std.proofs.Common.{◌≡◌, ℕ, Bool, true, false, List, [], ◌∷◌, refl, ◌==◌, eq-eqb}
-use Rattle.hwdb_spec.specs.DeviceTexts.{pattern_byte, pattern_for}
+use Rattle.hwdb_spec_commands.specs.DeviceTexts.{pattern_byte, pattern_for}
 use Rattle.hwdb_spec.specs.Patterns.{byte_then, literal, matches, piece_then, token_at, tokens, tokens_from}
 
 -- a byte that begins no wildcard and no bracket means itself

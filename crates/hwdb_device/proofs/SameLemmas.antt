@@ -1,9 +1,9 @@
 -- What is asked depends on what each string gets, and on nothing else of a database.
 use Rattle.std.proofs.Common.{◌≡◌, ◌∙◌, ap, refl, ℕ, List, [], ◌∷◌, ◌++◌, if◌then◌else◌}
-use Rattle.hwdb_spec.specs.Inputs.{Kinds, no_kinds}
+use Rattle.hwdb_spec_commands.specs.Inputs.{Kinds, no_kinds}
 use Rattle.hwdb_spec.specs.Lines.{is_none}
-use Rattle.hwdb_spec.specs.Lookups.{Found, Lookup, Question, Scene, Told, all_asked, asked_in, early_rules, found_for, found_in, input_id_rules, kinds_after, kinds_seen, late_rules, middle_rules}
-use Rattle.hwdb_spec.specs.Sysfs.{Ancestor, cut_short}
+use Rattle.hwdb_spec_commands.specs.Lookups.{Found, Lookup, Question, Scene, Told, all_asked, asked_in, early_rules, found_for, found_in, input_id_rules, kinds_after, kinds_seen, late_rules, middle_rules}
+use Rattle.hwdb_spec_commands.specs.Sysfs.{Ancestor, cut_short}
 
 -- a string, and what it gets
 abbrev with_told : (rule : List ℕ) → Question → Told → Found

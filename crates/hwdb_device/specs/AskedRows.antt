@@ -1,8 +1,8 @@
 -- Worked rows of what `device` prints of all devices, and of what it says if there is none, over the small sysfs of hwdb_sysfs.
 use Rattle.std.specs.Prelude.{Bool, List, ℕ, [], ◌∷◌, ◌++◌, ◌≡◌, codes, false, map, true}
-use Rattle.hwdb_spec.specs.DeviceAsked.{device_form, link_row, missing_text, no_sysfs_text, unread_text}
-use Rattle.hwdb_spec.specs.declared.devices.DeviceForm.{DeviceForm}
-use Rattle.hwdb_spec.specs.declared.devices.DeviceForm.TheVariants as form
+use Rattle.hwdb_spec_commands.specs.DeviceAsked.{device_form, link_row, missing_text, no_sysfs_text, unread_text}
+use Rattle.hwdb_spec_commands.specs.declared.devices.DeviceForm.{DeviceForm}
+use Rattle.hwdb_spec_commands.specs.declared.devices.DeviceForm.TheVariants as form
 use Rattle.hwdb_device.specs.Rows.{l}
 use Rattle.hwdb_sysfs.specs.Rows.{small}
 

@@ -1,6 +1,6 @@
 -- What the proofs of this crate speak of.
 use Rattle.std.specs.Prelude.{Bool, List, ℕ}
-use Rattle.hwdb_spec.specs.Lookups.{is_one, is_set}
+use Rattle.hwdb_spec_commands.specs.Lookups.{is_one, is_set}
 use Rattle.hwdb_device.specs.declared.kinds.Test.{Test}
 use Rattle.hwdb_device.specs.declared.kinds.Test.TheVariants as test
 

@@ -1,14 +1,14 @@
 -- What the laws say of what `device` prints.
 use Rattle.std.specs.Prelude.{List, ℕ, ◌≡◌}
-use Rattle.hwdb_spec.specs.DeviceTexts.{device_text, files_device_text, found_form}
+use Rattle.hwdb_spec_commands.specs.DeviceTexts.{device_text, files_device_text, found_form}
 use Rattle.hwdb_spec.specs.Folders.{Source}
 use Rattle.hwdb_spec.specs.Format.{IsDatabase}
-use Rattle.hwdb_spec.specs.Lookups.{Told, lookups}
-use Rattle.hwdb_spec.specs.Near.{PatternAt}
-use Rattle.hwdb_spec.specs.Sysfs.{Device}
+use Rattle.hwdb_spec_commands.specs.Lookups.{Told, lookups}
+use Rattle.hwdb_spec_commands.specs.Near.{PatternAt}
+use Rattle.hwdb_spec_commands.specs.Sysfs.{Device}
 use Rattle.hwdb_spec.specs.Tree.{Tree, map_of_files}
 use Rattle.hwdb_spec.specs.Written.{IsDatabaseOf}
-use Rattle.hwdb_spec.specs.declared.devices.DeviceForm.{DeviceForm}
+use Rattle.hwdb_spec_commands.specs.declared.devices.DeviceForm.{DeviceForm}
 
 -- if each string gets the same, the same is printed, whatever patterns are near
 abbrev pub SameAnswersSameText : Type 0

@@ -1,12 +1,12 @@
 -- Worked rows: what is printed of a keyboard, of a mouse and of a small device, by what strings get.
 use Rattle.std.specs.Prelude.{List, ℕ, [], ◌∷◌, ◌++◌, ◌≡◌, codes, if◌then◌else◌, map}
 use Rattle.hwdb_spec.specs.Assignment.{Assignment}
-use Rattle.hwdb_spec.specs.DeviceTexts.{device_row, found_form, nearest_text, pattern_for}
+use Rattle.hwdb_spec_commands.specs.DeviceTexts.{device_row, found_form, nearest_text, pattern_for}
 use Rattle.hwdb_spec.specs.Folders.{same}
-use Rattle.hwdb_spec.specs.Lookups.{Found, Told, lookups}
-use Rattle.hwdb_spec.specs.Near.{PatternAt}
-use Rattle.hwdb_spec.specs.Sysfs.{Ancestor, Device}
-use Rattle.hwdb_spec.specs.declared.devices.DeviceForm.TheVariants as form
+use Rattle.hwdb_spec_commands.specs.Lookups.{Found, Told, lookups}
+use Rattle.hwdb_spec_commands.specs.Near.{PatternAt}
+use Rattle.hwdb_spec_commands.specs.Sysfs.{Ancestor, Device}
+use Rattle.hwdb_spec_commands.specs.declared.devices.DeviceForm.TheVariants as form
 use Rattle.hwdb_rules.specs.Rows.{keyboard, machine, mouse}
 
 -- a line of a text

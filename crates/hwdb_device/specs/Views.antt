@@ -1,8 +1,8 @@
 -- What the types of this crate mean.
 use Rattle.std.specs.Prelude.{List, ℕ, Option, None, Some, map}
 use Rattle.std.specs.Borrow.{Bor}
-use Rattle.hwdb_spec.specs.DeviceTexts.{Gift, told_by, told_nothing}
-use Rattle.hwdb_spec.specs.Lookups.{Found, Told}
+use Rattle.hwdb_spec_commands.specs.DeviceTexts.{Gift, told_by, told_nothing}
+use Rattle.hwdb_spec_commands.specs.Lookups.{Found, Told}
 use Rattle.hwdb_spec.specs.Tree.{Tree}
 use Rattle.hwdb_query.specs.Views.{explained_values}
 use Rattle.hwdb_device.specs.declared.found.Found.{Found as Asked}

@@ -1,7 +1,7 @@
 //! Strings are asked, as udev's rules ask them.
 ghost use Rattle.std.specs.Prelude.{◌≡◌, ◌++◌, IfOk, OnOk};
-ghost use Rattle.hwdb_spec.specs.Inputs.{no_kinds};
-ghost use Rattle.hwdb_spec.specs.Lookups;
+ghost use Rattle.hwdb_spec_commands.specs.Inputs.{no_kinds};
+ghost use Rattle.hwdb_spec_commands.specs.Lookups;
 ghost use Rattle.hwdb_rules.specs.Views.{kinds_of, plans_of, questions_of, scene_of};
 ghost use Rattle.hwdb_sysfs.specs.Views.{device_of};
 ghost use Rattle.hwdb_device.specs.Views.{all_found, tells_of};
@@ -19,7 +19,7 @@ use std::alloc::{AllocError, Global};
 
 /// Asks strings one after another, up to the first that has an answer. It calls itself once for each string. The only error,
 /// here and below, is `AllocError`.
-#[tactic(auto, unfolding(hwdb_spec::specs::Lookups::asked_in))]
+#[tactic(auto, unfolding(hwdb_spec_commands::specs::Lookups::asked_in))]
 fn ask_questions<'a>(
     alloc: Global,
     db: Option<&Db<'a>>,

@@ -1,6 +1,6 @@
 //! The properties that strings give a device, in the order in which the strings are asked.
 ghost use Rattle.std.specs.Prelude.{◌≡◌, ◌++◌, ◌∷◌, [], filter, map, IfOk, OnOk};
-ghost use Rattle.hwdb_spec.specs.DeviceTexts;
+ghost use Rattle.hwdb_spec_commands.specs.DeviceTexts;
 ghost use Rattle.hwdb_query.specs.Views.{explained_values};
 ghost use Rattle.hwdb_device.specs.Views.{all_found, gift_in, gifts_in};
 

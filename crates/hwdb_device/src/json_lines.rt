@@ -1,8 +1,8 @@
 //! The lines of JSON: one for each string, and one for the result.
 ghost use Rattle.std.specs.Prelude.{◌≡◌, ◌++◌, map, IfOk, OnOk};
 ghost use Rattle.json.specs.Tree.{json_tokens};
-ghost use Rattle.hwdb_spec.specs.DeviceTexts;
-ghost use Rattle.hwdb_spec.specs.Json.{json_line};
+ghost use Rattle.hwdb_spec_commands.specs.DeviceTexts;
+ghost use Rattle.hwdb_spec_commands.specs.Json.{json_line};
 ghost use Rattle.hwdb_query.specs.Views.{explained_values, pairs_bytes};
 ghost use Rattle.hwdb_show.specs.JsonTokens.{tokens_of_members};
 ghost use Rattle.hwdb_sysfs.specs.Views.{device_of};
@@ -13,7 +13,7 @@ use crate::gifts::all_gifts;
 use crate::outcomes::{outcomes, pairs_of_outcomes};
 use crate::texts::path_at;
 use crate::told::first_value;
-use hwdb_print::{put_named, put_raw, raw_of};
+use hwdb_answers::{put_named, put_raw, raw_of};
 use hwdb_query::Explained;
 use hwdb_show::{ended, put_member};
 use hwdb_sysfs::Device;

@@ -1,7 +1,7 @@
 //! What kinds a device has, by what strings give it.
 ghost use Rattle.std.specs.Prelude.{◌≡◌};
 ghost use Rattle.std.specs.Option.{option_map_or};
-ghost use Rattle.hwdb_spec.specs.Lookups;
+ghost use Rattle.hwdb_spec_commands.specs.Lookups;
 ghost use Rattle.hwdb_query.specs.Views.{explained_values};
 ghost use Rattle.hwdb_rules.specs.Views.{kinds_of};
 ghost use Rattle.hwdb_device.specs.Internal.{test_of};
@@ -43,7 +43,7 @@ fn flag_by(test: Test, key: &[u8], before: bool, told: &[Explained<'_>]) -> bool
 }
 
 /// Whether a property passes, after more strings.
-#[tactic(auto, unfolding(hwdb_spec::specs::Lookups::flag_after))]
+#[tactic(auto, unfolding(hwdb_spec_commands::specs::Lookups::flag_after))]
 fn flag_after(test: Test, key: &[u8], before: bool, found: &[Found<'_>]) -> bool
     ensures { result ≡ Lookups.flag_after (test_of test) key.now before (all_found found.now) }
 {

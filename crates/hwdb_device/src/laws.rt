@@ -1,7 +1,7 @@
 //! Laws over the definitions alone. Each function does nothing: its contract is the law.
 ghost use Rattle.std.specs.Prelude.{◌≡◌, List, ℕ, true};
 ghost use Rattle.hwdb_spec.specs.Answers.{is_match};
-ghost use Rattle.hwdb_spec.specs.DeviceTexts;
+ghost use Rattle.hwdb_spec_commands.specs.DeviceTexts;
 ghost use Rattle.hwdb_device.specs.Laws.{SameAnswersSameText, TextIsOfFiles};
 ghost use Rattle.hwdb_device.specs.Rows.{ClosestRow, JsonRow, KeysRow, LeftOutRows, ListRow, MouseRow, NearestRow, NoRow, PatternRow, StringsRow, TextRow};
 ghost use Rattle.hwdb_device.specs.AskedRows.{ErrorRows, FormRows, LinkRows, MissingRows};

@@ -24,7 +24,7 @@ mod strings;
 mod texts;
 mod told;
 
-pub use hwdb_spec::DeviceForm;
+pub use hwdb_spec_commands::DeviceForm;
 pub use laws::{
     asked_rows, device_rows, pattern_is_matched, same_answers_same_text, text_is_of_files,
     text_rows,

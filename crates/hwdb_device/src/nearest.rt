@@ -1,13 +1,13 @@
 //! What is near to strings that get nothing.
 ghost use Rattle.std.specs.Prelude.{◌≡◌, ◌++◌, ◌∷◌, [], IfOk, OnOk, filter, flat_map, map};
-ghost use Rattle.hwdb_spec.specs.DeviceTexts;
-ghost use Rattle.hwdb_spec.specs.NearAsked.{database_patterns};
-ghost use Rattle.hwdb_spec.specs.NearPrefixes.{prefix_report};
+ghost use Rattle.hwdb_spec_commands.specs.DeviceTexts;
+ghost use Rattle.hwdb_spec_commands.specs.NearAsked.{database_patterns};
+ghost use Rattle.hwdb_spec_commands.specs.NearPrefixes.{prefix_report};
 ghost use Rattle.hwdb_near.specs.Views.{pattern_at};
 ghost use Rattle.hwdb_device.specs.Views.{all_found, found_of};
 
 use crate::found::Found;
-use hwdb_inspect::assignments;
+use hwdb_databases::assignments;
 use hwdb_near::{PatternAt, patterns_of, push_prefix_report};
 use hwdb_reader::Db;
 use std::alloc::{AllocError, Global};

@@ -1,8 +1,8 @@
 //! The properties that a device has in the end.
 ghost use Rattle.std.specs.Prelude.{◌≡◌, map, IfOk, OnOk};
 ghost use Rattle.hwdb_spec.specs.Assignment.{in_order, put, put_all, text_cmp};
-ghost use Rattle.hwdb_spec.specs.DeviceTexts;
-ghost use Rattle.hwdb_spec.specs.DeviceTexts.{key_of_gift};
+ghost use Rattle.hwdb_spec_commands.specs.DeviceTexts;
+ghost use Rattle.hwdb_spec_commands.specs.DeviceTexts.{key_of_gift};
 ghost use Rattle.hwdb_query.specs.Views.{pairs_bytes};
 ghost use Rattle.hwdb_device.specs.Views.{gifts_in, outcomes_in};
 

@@ -1,7 +1,7 @@
 //! What is printed of a device.
 ghost use Rattle.std.specs.Prelude.{◌≡◌, ◌++◌, IfOk};
-ghost use Rattle.hwdb_spec.specs.DeviceTexts;
-ghost use Rattle.hwdb_spec.specs.NearAsked.{database_patterns};
+ghost use Rattle.hwdb_spec_commands.specs.DeviceTexts;
+ghost use Rattle.hwdb_spec_commands.specs.NearAsked.{database_patterns};
 ghost use Rattle.hwdb_sysfs.specs.Views.{device_of};
 ghost use Rattle.hwdb_device.specs.Views.{all_found};
 
@@ -13,7 +13,7 @@ use crate::records::record_text;
 use crate::strings::strings_text;
 use crate::texts::lookups_text;
 use hwdb_reader::Db;
-use hwdb_spec::DeviceForm;
+use hwdb_spec_commands::DeviceForm;
 use hwdb_sysfs::Device;
 use std::alloc::{AllocError, Global};
 

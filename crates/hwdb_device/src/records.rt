@@ -1,6 +1,6 @@
 //! A record to begin with: a pattern for a device, and which properties people set there.
 ghost use Rattle.std.specs.Prelude.{◌≡◌, ◌++◌, option_map, IfOk, OnOk};
-ghost use Rattle.hwdb_spec.specs.DeviceTexts;
+ghost use Rattle.hwdb_spec_commands.specs.DeviceTexts;
 ghost use Rattle.hwdb_device.specs.Views.{all_found};
 
 use crate::found::Found;
@@ -71,7 +71,7 @@ fn record_or(alloc: Global, before: Vec<u8>, text: &[u8]) -> Result<Vec<u8>, All
 }
 
 /// The record of the last string that people set properties for; if there is none what was before.
-#[tactic(auto, unfolding(hwdb_spec::specs::DeviceTexts::record_after))]
+#[tactic(auto, unfolding(hwdb_spec_commands::specs::DeviceTexts::record_after))]
 fn record_after(alloc: Global, before: Vec<u8>, found: &[Found<'_>]) -> Result<Vec<u8>, AllocError>
     ensures { IfOk result (λ made. made.items
         ≡ DeviceTexts.record_after before.items (all_found found.now)) }

@@ -1,6 +1,6 @@
 //! The strings alone, one a line.
 ghost use Rattle.std.specs.Prelude.{◌≡◌, ◌++◌, IfOk, OnOk};
-ghost use Rattle.hwdb_spec.specs.DeviceTexts;
+ghost use Rattle.hwdb_spec_commands.specs.DeviceTexts;
 ghost use Rattle.hwdb_device.specs.Views.{all_found};
 
 use crate::found::Found;

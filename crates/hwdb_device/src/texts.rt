@@ -1,7 +1,7 @@
 //! What is printed without options: each string, what it gets, and the properties in the end.
 ghost use Rattle.std.specs.Prelude.{◌≡◌, ◌++◌, [], flat_map, get_or, map, IfOk, OnOk};
-ghost use Rattle.hwdb_spec.specs.DeviceTexts;
-ghost use Rattle.hwdb_spec.specs.DeviceTexts.{path_of};
+ghost use Rattle.hwdb_spec_commands.specs.DeviceTexts;
+ghost use Rattle.hwdb_spec_commands.specs.DeviceTexts.{path_of};
 ghost use Rattle.hwdb_sysfs.specs.Views.{ancestor_of, device_of};
 ghost use Rattle.hwdb_device.specs.Views.{all_found, found_of, gift_in, gifts_in, outcome_in, outcomes_in};
 
@@ -10,7 +10,7 @@ use crate::gifts::{Gift, all_gifts};
 use crate::outcomes::{Outcome, outcomes};
 use crate::strings::push_line;
 use crate::told::same;
-use hwdb_print::{explanation_lines, push_property};
+use hwdb_answers::{explanation_lines, push_property};
 use hwdb_show::push_name;
 use hwdb_sysfs::{Ancestor, Device};
 use std::alloc::{AllocError, Global};

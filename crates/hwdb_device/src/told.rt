@@ -1,7 +1,7 @@
 //! What a string gets.
 ghost use Rattle.std.specs.Prelude.{◌≡◌, map, option_map, IfOk};
 ghost use Rattle.hwdb_spec.specs.Folders;
-ghost use Rattle.hwdb_spec.specs.Lookups;
+ghost use Rattle.hwdb_spec_commands.specs.Lookups;
 ghost use Rattle.hwdb_query.specs.Views.{assignment_of_answer, explained_values};
 ghost use Rattle.hwdb_device.specs.Views.{tells_of};
 
@@ -41,7 +41,7 @@ pub(crate) fn same(text: &[u8], other: &[u8]) -> bool
 }
 
 /// What a string gives a key.
-#[tactic(auto, unfolding(hwdb_spec::specs::Lookups::told_value))]
+#[tactic(auto, unfolding(hwdb_spec_commands::specs::Lookups::told_value))]
 pub(crate) fn told_value<'t>(told: &'t [Explained<'_>], key: &[u8]) -> Option<&'t [u8]>
     ensures { option_map (λ v. v.now) result
         ≡ Lookups.told_value key.now (explained_values told.now) }

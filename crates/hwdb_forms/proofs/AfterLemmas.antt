@@ -12,7 +12,7 @@ use Rattle.hwdb_spec.specs.declared.ByteSet.TheVariants.{Only}
 use Rattle.hwdb_spec.specs.Patterns.{Token, literal, one, star, token_at, tokens}
 use Rattle.hwdb_spec.specs.Forms.{Form, Piece, can_begin, can_match, fields_row, head, is_in, is_wild, meets_form}
 use Rattle.hwdb_pattern.specs.Laws.{StaysClosed, TokensAreThePattern}
-use Rattle.hwdb_spec.specs.FormTable.{asked, free, free_prefixes, known}
+use Rattle.hwdb_spec_commands.specs.FormTable.{asked, free, free_prefixes, known}
 use Rattle.hwdb_forms.specs.declared.cells.Kind.TheVariants.{After}
 use Rattle.hwdb_forms.specs.declared.leads.Lead.{Lead}
 use Rattle.hwdb_forms.specs.declared.leads.Passed.TheVariants.{No, Yes}

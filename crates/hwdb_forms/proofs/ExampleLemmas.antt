@@ -4,7 +4,7 @@ use Rattle.std.specs.Prelude.{if◌then◌else◌}
 use Rattle.hwdb_spec.specs.declared.ByteSet.{ByteSet}
 use Rattle.hwdb_spec.specs.declared.ByteSet.TheVariants.{Only}
 use Rattle.hwdb_spec.specs.Forms.{Piece, Form, fixed, counted, repeated, is_in, HasForm}
-use Rattle.hwdb_spec.specs.FormTable.{Known, known}
+use Rattle.hwdb_spec_commands.specs.FormTable.{Known, known}
 use Rattle.hwdb_forms.specs.Internal.{ByteThen, ManyThen, FixedThen, CountedThen, PieceThen, PiecesThen, FieldThen, Fields}
 use Rattle.hwdb_forms.specs.Laws.{EachFits}
 use Rattle.hwdb_forms.proofs.MeetLemmas.{either_true, both_first, both_second}

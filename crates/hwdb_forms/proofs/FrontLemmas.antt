@@ -3,7 +3,7 @@ use Rattle.std.proofs.Common.{◌≡◌, ℕ, ◌+◌, ◌<◌, ◌≤◌, Bool,
 use Rattle.std.proofs.lemmas.Bool.{leb-true, leb-false, lt-ltb}
 use Rattle.std.specs.Prelude.{if◌then◌else◌}
 use Rattle.hwdb_spec.specs.Patterns.{Token, Matches, star, token_at, tokens}
-use Rattle.hwdb_spec.specs.FormTable.{asked}
+use Rattle.hwdb_spec_commands.specs.FormTable.{asked}
 use Rattle.hwdb_spec.specs.declared.Judgement.{Judgement}
 use Rattle.hwdb_spec.specs.declared.Judgement.TheVariants.{Fine}
 use Rattle.hwdb_spec.specs.Forms.{CanBegin, CanMatch, Form, HasOneOf, can_begin, can_match, front_from, is_unknown, judged, prefix_size}

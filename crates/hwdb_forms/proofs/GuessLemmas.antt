@@ -3,8 +3,8 @@ use Rattle.std.proofs.Common.{◌≡◌, ℕ, ◌||◌, Bool, true, false, List,
 use Rattle.std.specs.List.{list_any}
 use Rattle.hwdb_spec.specs.Patterns.{Token}
 use Rattle.hwdb_spec.specs.Forms.{Form, can_match, meets_form}
-use Rattle.hwdb_spec.specs.FormTable.{asked, free_prefixes, known}
-use Rattle.hwdb_spec.specs.FormTable
+use Rattle.hwdb_spec_commands.specs.FormTable.{asked, free_prefixes, known}
+use Rattle.hwdb_spec_commands.specs.FormTable
 use Rattle.hwdb_forms.specs.Internal.{IsAsked}
 
 or_true : (b : Bool) → (b || true) ≡ true

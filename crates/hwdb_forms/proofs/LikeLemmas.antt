@@ -2,7 +2,7 @@
 use Rattle.std.proofs.Common.{◌≡◌, ℕ, ◌<◌, ◌≤◌, Bool, true, false, List, [], ◌∷◌, ◌++◌, Bor, Option, None, Some, refl, sym, ap, ◌∙◌, append_assoc, arith, drop, get_or, length, map, suc, zero}
 use Rattle.std.proofs.Math.Seq.{drop-cons}
 use Rattle.std.specs.Prelude.{find}
-use Rattle.hwdb_spec.specs.FormTable.{lower}
+use Rattle.hwdb_spec_commands.specs.FormTable.{lower}
 
 long_drop : (A : Type 0) (l : List A) (n : ℕ) → length l ≤ n → drop n l ≡ []
 long_drop A [] zero h = refl

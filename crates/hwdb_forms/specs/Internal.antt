@@ -4,7 +4,7 @@ use Rattle.std.proofs.Common.{Bor}
 use Rattle.std.specs.List.{list_any}
 use Rattle.std.specs.Int.{bit_at}
 use Rattle.std.specs.Int.Bits.{bit_or}
-use Rattle.hwdb_spec.specs.FormTable.{asked}
+use Rattle.hwdb_spec_commands.specs.FormTable.{asked}
 use Rattle.hwdb_spec.specs.Tree.{is_open}
 use Rattle.hwdb_spec.specs.Patterns.{Token, admits_byte, literal, Matches, star, token_at, tokens}
 use Rattle.hwdb_spec.specs.Forms.{Piece, Form, fixed, counted, repeated, is_in, is_star}

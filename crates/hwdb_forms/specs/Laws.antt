@@ -2,7 +2,7 @@
 use Rattle.std.specs.Prelude.{ℕ, List, [], ◌∷◌, ◌↔◌, ◌<◌, ◌≤◌, IsTrue, ⊤, length, take}
 use Rattle.hwdb_spec.specs.Patterns.{Token}
 use Rattle.hwdb_spec.specs.Forms.{CanBegin, CanMatch, Form, HasForm, can_begin, can_match, front_length}
-use Rattle.hwdb_spec.specs.FormTable.{Known}
+use Rattle.hwdb_spec_commands.specs.FormTable.{Known}
 
 -- the test that computes is true exactly if some text of one of the forms is matched
 abbrev pub FormsAreTested : Type 0

@@ -2,7 +2,7 @@
 ghost use Rattle.std.specs.Prelude.{◌≡◌, map};
 ghost use Rattle.std.specs.List.{list_any};
 ghost use Rattle.hwdb_spec.specs.Folders.{same};
-ghost use Rattle.hwdb_spec.specs.FormTable;
+ghost use Rattle.hwdb_spec_commands.specs.FormTable;
 ghost use Rattle.hwdb_forms.specs.Internal.{form_of};
 
 use crate::pieces::FormRow;
@@ -20,7 +20,7 @@ pub(crate) fn free(prefix: &'static [u8]) -> FormRow
 }
 
 /// The prefixes of these.
-#[tactic(auto, unfolding(hwdb_spec::specs::FormTable::free_prefixes))]
+#[tactic(auto, unfolding(hwdb_spec_commands::specs::FormTable::free_prefixes))]
 pub(crate) fn free_prefixes() -> &'static [&'static [u8]]
     ensures { map (λ prefix. prefix.now) result.now ≡ FormTable.free_prefixes }
 {
@@ -91,7 +91,7 @@ pub(crate) fn free_prefixes() -> &'static [&'static [u8]]
 }
 
 /// How the texts of all forms begin.
-#[tactic(auto, unfolding(hwdb_spec::specs::FormTable::known, hwdb_spec::specs::FormTable::free_prefixes))]
+#[tactic(auto, unfolding(hwdb_spec_commands::specs::FormTable::known, hwdb_spec_commands::specs::FormTable::free_prefixes))]
 pub(crate) fn prefixes() -> &'static [&'static [u8]]
     ensures { map (λ prefix. prefix.now) result.now ≡ FormTable.prefixes }
 {

@@ -2,8 +2,8 @@
 ghost use Rattle.std.specs.Prelude.{◌≡◌, ℕ, ◌+◌, ◌-◌, ◌<◌, ◌≤◌, ◌++◌, ◌∷◌, [], false, filter, map, IfOk};
 ghost use Rattle.hwdb_spec.specs.Patterns.{tokens};
 ghost use Rattle.hwdb_spec.specs.Forms;
-ghost use Rattle.hwdb_spec.specs.FormTable;
-ghost use Rattle.hwdb_spec.specs.FormTable.{asked};
+ghost use Rattle.hwdb_spec_commands.specs.FormTable;
+ghost use Rattle.hwdb_spec_commands.specs.FormTable.{asked};
 ghost use Rattle.hwdb_forms.specs.Internal.{Every, HasWays, IsAfter, IsWordAfter, followed, form_of, has_bit, views};
 
 use crate::beginnings::{free, free_prefixes};

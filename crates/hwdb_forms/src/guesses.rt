@@ -1,6 +1,6 @@
 //! The form that a pattern likely has, by its first byte. Most patterns of large files have one of these few.
 ghost use Rattle.std.specs.Prelude.{◌≡◌, IfSome, map, true};
-ghost use Rattle.hwdb_spec.specs.FormTable.{asked};
+ghost use Rattle.hwdb_spec_commands.specs.FormTable.{asked};
 ghost use Rattle.hwdb_spec.specs.Patterns.{tokens};
 ghost use Rattle.hwdb_spec.specs.Forms;
 ghost use Rattle.hwdb_forms.specs.Internal.{AreFirstWays, IsAsked, fields_of, form_of};

@@ -3,8 +3,8 @@ ghost use Rattle.std.specs.Prelude.{◌≡◌, ◌↔◌, ◌≤◌, ◌++◌, �
 ghost use Rattle.hwdb_spec.specs.Patterns.{star, tokens as tokens_of};
 ghost use Rattle.hwdb_spec.specs.Forms.{CanMatch, judged};
 ghost use Rattle.hwdb_spec.specs.Forms;
-ghost use Rattle.hwdb_spec.specs.FormTable;
-ghost use Rattle.hwdb_spec.specs.Surroundings;
+ghost use Rattle.hwdb_spec_commands.specs.FormTable;
+ghost use Rattle.hwdb_spec_commands.specs.Surroundings;
 ghost use Rattle.hwdb_forms.specs.Internal.{Every, HasWays, IsFront, form_of, views};
 
 use crate::beginnings::{free, free_prefixes};

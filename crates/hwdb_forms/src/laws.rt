@@ -1,7 +1,7 @@
 //! Laws over the definitions alone. Each function does nothing: its contract is the law, for callers whose proofs need
 //! it.
 ghost use Rattle.hwdb_forms.specs.Laws.{EachFits, FormsAreTested, FrontsAreLongest, FrontsAreTested};
-ghost use Rattle.hwdb_spec.specs.FormTable.{known};
+ghost use Rattle.hwdb_spec_commands.specs.FormTable.{known};
 
 /// The computing test `can_match` is true exactly if the tokens match some text of one of the forms.
 #[tactic(auto, using(crate::proofs::AnswerLemmas::forms_tested))]

@@ -1,7 +1,7 @@
 //! Which prefix was meant by one that nobody asks.
 ghost use Rattle.std.specs.Prelude.{◌≡◌, ◌/◌, find, if◌then◌else◌, length, map, IfOk};
 ghost use Rattle.std.specs.Option.{option_map};
-ghost use Rattle.hwdb_spec.specs.FormTable;
+ghost use Rattle.hwdb_spec_commands.specs.FormTable;
 
 use crate::beginnings::prefixes;
 use crate::judging::prefix_size;

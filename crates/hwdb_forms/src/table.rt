@@ -1,6 +1,6 @@
 //! The forms that udev asks, as `FormTable` of `hwdb_spec` has them.
 ghost use Rattle.std.specs.Prelude.{◌≡◌, map};
-ghost use Rattle.hwdb_spec.specs.FormTable;
+ghost use Rattle.hwdb_spec_commands.specs.FormTable;
 ghost use Rattle.hwdb_forms.specs.Internal.{form_of};
 
 use crate::pieces::FormRow;
@@ -609,7 +609,7 @@ fn block() -> FormRow
 }
 
 /// The forms that say more.
-#[tactic(auto, unfolding(hwdb_spec::specs::FormTable::known))]
+#[tactic(auto, unfolding(hwdb_spec_commands::specs::FormTable::known))]
 pub(crate) fn known() -> [FormRow; 30]
     ensures { map form_of result ≡ map (λ k. k.form) FormTable.known }
 {

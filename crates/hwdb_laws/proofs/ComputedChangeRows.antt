@@ -3,7 +3,7 @@ use Rattle.hex.specs.Hex.{encode_with}
 use Rattle.hwdb_laws.proofs.MapLemmas.{differences_built, places_built}
 use Rattle.hwdb_laws.specs.ChangeRows.{DeviceRows, DifferenceRows, FileRows, JoinedRows, LineRows, PlaceRows, a_k1, a_k2, a_l1, b_k1, c_of, file_of}
 use Rattle.hwdb_spec.specs.Assignment.{ascending, assignment_cmp, position_cmp, put, put_all}
-use Rattle.hwdb_spec.specs.Differences.{changes_text}
+use Rattle.hwdb_spec_commands.specs.Differences.{changes_text}
 use Rattle.hwdb_spec.specs.Folders.{all_assignments}
 use Rattle.hwdb_spec.specs.Folders.{first_of}
 use Rattle.hwdb_spec.specs.Lines.{numbered, pieces, trimmed}

@@ -1,14 +1,14 @@
 -- The rows, computed.
 use Rattle.hex.specs.Hex.{encode_with}
 use Rattle.hwdb_laws.specs.CheckRows.{ElsewhereRows, FaultRows, HintRows, JsonRows, RepeatedRows, ReplacedRows, ReportRows, TallyRows, ToldRows, UnpairedRows, UnreadRows, WarnedRows}
-use Rattle.hwdb_spec.specs.FormTable.{free_prefixes, known}
-use Rattle.hwdb_spec.specs.Json.{escaped_after, items_of, members_of}
+use Rattle.hwdb_spec_commands.specs.FormTable.{free_prefixes, known}
+use Rattle.hwdb_spec_commands.specs.Json.{escaped_after, items_of, members_of}
 use Rattle.hwdb_spec.specs.Lines.{numbered, pieces, trimmed}
 use Rattle.hwdb_spec.specs.Patterns.{bracket_at, classes, item_at, items_from, range_from, reversed_from, token_at, tokens_from}
 use Rattle.hwdb_spec.specs.Records.{behind, first_section, sections_from}
 use Rattle.hwdb_spec.specs.Tree.{closed_from}
 use Rattle.hwdb_spec.specs.Visible.{visible_after}
-use Rattle.hwdb_spec.specs.Warnings.{repeated_from}
+use Rattle.hwdb_spec_commands.specs.Warnings.{repeated_from}
 use Rattle.json.specs.Print.{escape_byte, print_from}
 use Rattle.std.proofs.Common.{refl}
 use Rattle.std.specs.Char.{encode_utf8}

@@ -6,14 +6,14 @@ use Rattle.hwdb_spec.specs.Assignment.{ascending, assignment_cmp, position_cmp, 
 use Rattle.hwdb_spec.specs.Explanations.{explained}
 use Rattle.hwdb_spec.specs.Folders.{all_assignments, chosen_of, contents, faults_of_files}
 use Rattle.hwdb_spec.specs.Folders.{first_of}
-use Rattle.hwdb_spec.specs.Json.{escaped_after, items_of, members_of}
+use Rattle.hwdb_spec_commands.specs.Json.{escaped_after, items_of, members_of}
 use Rattle.hwdb_spec.specs.Lines.{numbered, pieces, trimmed}
-use Rattle.hwdb_spec.specs.Near.{first_up_to, last_up_to}
-use Rattle.hwdb_spec.specs.Once.{once}
+use Rattle.hwdb_spec_commands.specs.Near.{first_up_to, last_up_to}
+use Rattle.hwdb_spec_commands.specs.Once.{once}
 use Rattle.hwdb_spec.specs.Patterns.{bracket_at, byte_then, classes, item_at, items_from, matches, piece_then, some_ending, token_at, tokens_from}
-use Rattle.hwdb_spec.specs.Progress.{chosen_line, deep_line, given_count, kept_line, too_long_lines}
+use Rattle.hwdb_spec_commands.specs.Progress.{chosen_line, deep_line, given_count, kept_line, too_long_lines}
 use Rattle.hwdb_spec.specs.Records.{behind, first_section, sections_from}
-use Rattle.hwdb_spec.specs.Summary.{depth, depth_of, nodes, nodes_of}
+use Rattle.hwdb_spec_commands.specs.Summary.{depth, depth_of, nodes, nodes_of}
 use Rattle.hwdb_spec.specs.Texts.{faults_text}
 use Rattle.hwdb_spec.specs.Tree.{entry_of, map_of_files}
 use Rattle.hwdb_spec.specs.Tree.{some_up_to, values_below, values_under}

@@ -2,7 +2,7 @@
 use Rattle.hex.specs.Hex.{encode_with}
 use Rattle.hwdb_laws.specs.StatusRows.{AskedRows, BareRemedyRows, BareRows, CommandRows, FileRows, JsonRows, LossRows, RemedyRows, StatusRows, TextRows, WordRows}
 use Rattle.hwdb_spec.specs.Assignment.{ascending, assignment_cmp, position_cmp, put, put_all}
-use Rattle.hwdb_spec.specs.Json.{escaped_after, items_of, members_of}
+use Rattle.hwdb_spec_commands.specs.Json.{escaped_after, items_of, members_of}
 use Rattle.hwdb_spec.specs.Visible.{visible_after}
 use Rattle.json.specs.Print.{escape_byte, print_from}
 use Rattle.std.proofs.Common.{refl}

@@ -9,7 +9,7 @@ use Rattle.hwdb_spec.specs.Patterns.{bracket_at, byte_then, classes, item_at, it
 use Rattle.hwdb_spec.specs.Records.{behind, first_section, sections_from}
 use Rattle.hwdb_spec.specs.Tree.{answers, values_below, values_under}
 use Rattle.hwdb_spec.specs.Visible.{visible_after}
-use Rattle.hwdb_spec.specs.Wanted.{records_from}
+use Rattle.hwdb_spec_commands.specs.Wanted.{records_from}
 use Rattle.std.proofs.Common.{refl}
 use Rattle.std.specs.Char.{encode_utf8}
 use Rattle.std.specs.Fmt.{digits}

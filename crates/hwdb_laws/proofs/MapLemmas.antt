@@ -4,7 +4,7 @@ use Rattle.std.specs.FinMap as finite
 use Rattle.std.specs.FinMap.Entries.{find, put}
 use Rattle.std.specs.Prelude.{◌++◌, ◌∷◌, List, [], flat_map, length, map, ℕ}
 use Rattle.hwdb_spec.specs.Assignment.{Assignment}
-use Rattle.hwdb_spec.specs.Differences.{Change, change_at, differences, places}
+use Rattle.hwdb_spec_commands.specs.Differences.{Change, change_at, differences, places}
 use Rattle.hwdb_spec.specs.Lemmas.Places.{place_total}
 use Rattle.hwdb_spec.specs.Tree.{place_cmp}
 

@@ -2,9 +2,9 @@
 use Rattle.std.specs.FinMap as finite
 use Rattle.std.specs.Prelude.{◌++◌, ◌∷◌, ◌≡◌, List, None, Option, Some, [], codes, map, ℕ}
 use Rattle.hwdb_spec.specs.Assignment.{Assignment}
-use Rattle.hwdb_spec.specs.DeviceDifferences.{device_changes_text}
-use Rattle.hwdb_spec.specs.Differences.{Change, change_at, change_text, changes_text, differences, files_diff_text, places}
-use Rattle.hwdb_spec.specs.Differences.Change.{Came, Changed, Went}
+use Rattle.hwdb_spec_commands.specs.DeviceDifferences.{device_changes_text}
+use Rattle.hwdb_spec_commands.specs.Differences.{Change, change_at, change_text, changes_text, differences, files_diff_text, places}
+use Rattle.hwdb_spec_commands.specs.Differences.Change.{Came, Changed, Went}
 use Rattle.hwdb_spec.specs.Folders.{Source}
 use Rattle.hwdb_spec.specs.Tree.{Map, entry_of}
 

@@ -2,16 +2,16 @@
 -- 70-mouse.hwdb and 60-sensor.hwdb of systemd), which lines are repeated or replaced, where a warning is, and what is printed.
 use Rattle.std.specs.Prelude.{◌++◌, ◌∷◌, ◌≡◌, Bool, List, [], codes, false, map, true, ℕ}
 use Rattle.hwdb_spec.specs.Assignment.{Assignment}
-use Rattle.hwdb_spec.specs.Checks.{check_status, empty_tally, tally_line, tally_of_both}
-use Rattle.hwdb_spec.specs.Findings.{faults_text, warning_json_line}
-use Rattle.hwdb_spec.specs.Kinds.{is_told}
+use Rattle.hwdb_spec_commands.specs.Checks.{check_status, empty_tally, tally_line, tally_of_both}
+use Rattle.hwdb_spec_commands.specs.Findings.{faults_text, warning_json_line}
+use Rattle.hwdb_spec_commands.specs.Kinds.{is_told}
 use Rattle.hwdb_spec.specs.Lines.{Line, clean_line, lines}
-use Rattle.hwdb_spec.specs.Surroundings.{is_elsewhere, is_unpaired, is_unread, unpaired_hint, unread_hint}
-use Rattle.hwdb_spec.specs.Warnings.{repeated_lines, replacing, warning_report, warns}
-use Rattle.hwdb_spec.specs.declared.Tally.{Tally}
-use Rattle.hwdb_spec.specs.declared.WarningKind.{WarningKind}
-use Rattle.hwdb_spec.specs.declared.WarningKind.TheVariants.{ByteOrderMark, CarriageReturn, CutValue, EmptyRange, LeadingTab, Misused, OpenBracket, RepeatedMatch, Replaced, SpacedEquals, TooLongForUdev, Unpaired, Unread}
-use Rattle.hwdb_spec.specs.declared.vocabulary.Misuse.TheVariants.{NearName, UnknownKey}
+use Rattle.hwdb_spec_commands.specs.Surroundings.{is_elsewhere, is_unpaired, is_unread, unpaired_hint, unread_hint}
+use Rattle.hwdb_spec_commands.specs.Warnings.{repeated_lines, replacing, warning_report, warns}
+use Rattle.hwdb_spec_commands.specs.declared.Tally.{Tally}
+use Rattle.hwdb_spec_commands.specs.declared.WarningKind.{WarningKind}
+use Rattle.hwdb_spec_commands.specs.declared.WarningKind.TheVariants.{ByteOrderMark, CarriageReturn, CutValue, EmptyRange, LeadingTab, Misused, OpenBracket, RepeatedMatch, Replaced, SpacedEquals, TooLongForUdev, Unpaired, Unread}
+use Rattle.hwdb_spec_commands.specs.declared.vocabulary.Misuse.TheVariants.{NearName, UnknownKey}
 
 -- ---- kinds that are allowed
 

@@ -1,7 +1,7 @@
 -- Worked rows of the forms of strings that udev asks: for each way of each field a text that has it, as udev's rules or the kernel write
 -- it, and texts that are near one and have none.
 use Rattle.std.specs.Prelude.{◌∷◌, ◌≡◌, Bool, List, [], codes, false, map, true, ℕ}
-use Rattle.hwdb_spec.specs.FormTable.{acpi, battery_machine, bluetooth, camera, dmi, evdev_input, evdev_machine, evdev_name, evdev_name_machine, fb, id_input_name, ieee1394_node, libwacom, mouse, oui, pci, sensor, sensor_machine, usb}
+use Rattle.hwdb_spec_commands.specs.FormTable.{acpi, battery_machine, bluetooth, camera, dmi, evdev_input, evdev_machine, evdev_name, evdev_name_machine, fb, id_input_name, ieee1394_node, libwacom, mouse, oui, pci, sensor, sensor_machine, usb}
 use Rattle.hwdb_spec.specs.Forms.{Form, meets_form}
 use Rattle.hwdb_spec.specs.Patterns.{tokens}
 

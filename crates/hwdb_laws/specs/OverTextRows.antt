@@ -1,8 +1,8 @@
 -- Worked rows of `--text`: which words don't fit it, and what is said of them.
 use Rattle.std.specs.Prelude.{◌∷◌, ◌≡◌, Bool, None, Some, String, [], codes, false, true}
 use Rattle.std.specs.declared.alloc.Global.{Global}
-use Rattle.hwdb_spec.specs.OverText.{misuse_text, takes_text}
-use Rattle.hwdb_spec.specs.declared.job.Task.TheVariants.{Device, Dump, Status, Update, Verify}
+use Rattle.hwdb_spec_commands.specs.OverText.{misuse_text, takes_text}
+use Rattle.hwdb_spec_commands.specs.declared.job.Task.TheVariants.{Device, Dump, Status, Update, Verify}
 
 -- A path of a database beside `--text` is a second source, whatever it is, and none is fine.
 abbrev pub VerifyRows : Type 0

@@ -3,11 +3,11 @@ use Rattle.std.specs.Prelude.{◌++◌, ◌∷◌, ◌≡◌, List, None, Option
 use Rattle.hwdb_spec.specs.Assignment.{Assignment}
 use Rattle.hwdb_spec.specs.Explanations.{explained, explanations_text}
 use Rattle.hwdb_spec.specs.Folders.{Source}
-use Rattle.hwdb_spec.specs.Hiding.{hiding_text}
-use Rattle.hwdb_spec.specs.Near.{PatternAt, near_json, near_text}
-use Rattle.hwdb_spec.specs.Progress.{deep_line, update_text}
+use Rattle.hwdb_spec_program.specs.Hiding.{hiding_text}
+use Rattle.hwdb_spec_commands.specs.Near.{PatternAt, near_json, near_text}
+use Rattle.hwdb_spec_commands.specs.Progress.{deep_line, update_text}
 use Rattle.hwdb_spec.specs.Store.{Contents, database_file}
-use Rattle.hwdb_spec.specs.Summary.{Summary, depth_warning, summary_of, summary_text}
+use Rattle.hwdb_spec_commands.specs.Summary.{Summary, depth_warning, summary_of, summary_text}
 use Rattle.hwdb_spec.specs.Tree.{Tree, Value}
 use Rattle.hwdb_spec.specs.Tree.Children.{Child, NoMore}
 use Rattle.hwdb_spec.specs.Tree.Tree.{Node}

@@ -1,12 +1,12 @@
 -- Worked rows of what `status` says, and of what `update` says if there are no text files: whole reports, in each state, the command that
 -- is told, and how a shell reads it (POSIX, Shell Command Language, 2.2).
 use Rattle.std.specs.Prelude.{◌++◌, ◌∷◌, ◌≡◌, Bool, List, None, Option, Some, [], codes, false, map, true, ℕ}
-use Rattle.hwdb_spec.specs.Commands.{removing_words, shell_word, update_words}
-use Rattle.hwdb_spec.specs.Emptied.{loss_text}
+use Rattle.hwdb_spec_commands.specs.Commands.{removing_words, shell_word, update_words}
+use Rattle.hwdb_spec_commands.specs.Emptied.{loss_text}
 use Rattle.hwdb_spec.specs.Folders.{Choice}
-use Rattle.hwdb_spec.specs.Status.{Amount, Report, State, ignored_paths, is_bare, masked_paths, path_asked, path_hidden, remedy_of, report_form, report_of, status_of}
-use Rattle.hwdb_spec.specs.Status.Amount.{Counted, Uncounted}
-use Rattle.hwdb_spec.specs.Status.State.{Alike, Broken, Fresh, Missing, Stale}
+use Rattle.hwdb_spec_commands.specs.Status.{Amount, Report, State, ignored_paths, is_bare, masked_paths, path_asked, path_hidden, remedy_of, report_form, report_of, status_of}
+use Rattle.hwdb_spec_commands.specs.Status.Amount.{Counted, Uncounted}
+use Rattle.hwdb_spec_commands.specs.Status.State.{Alike, Broken, Fresh, Missing, Stale}
 
 -- ---- commands for a shell
 

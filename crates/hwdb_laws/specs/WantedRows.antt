@@ -4,7 +4,7 @@ use Rattle.hwdb_spec.specs.Folders.{Source}
 use Rattle.hwdb_spec.specs.Tree.{Tree, Value}
 use Rattle.hwdb_spec.specs.Tree.Children.{Child, NoMore}
 use Rattle.hwdb_spec.specs.Tree.Tree.{Node}
-use Rattle.hwdb_spec.specs.Wanted.{file_held, test_status, test_text}
+use Rattle.hwdb_spec_commands.specs.Wanted.{file_held, test_status, test_text}
 
 -- a database that gives `a` an `A`
 abbrev pub gives_a : Tree

@@ -4,7 +4,8 @@ use Rattle.std.proofs.lemmas.Bool.{cases_eq}
 use Rattle.hwdb_spec.specs.Patterns.{Token, Matches, matches}
 use Rattle.hwdb_spec.specs.Tree.{some_up_to}
 use Rattle.hwdb_pattern.specs.Fronts.{IsLongest}
-use Rattle.hwdb_spec.specs.Near.{Front, Stops, last_up_to, first_up_to, meets_front, front_tokens, front_bytes, stop_of}
+use Rattle.hwdb_spec.specs.Fronts.{Front, Stops}
+use Rattle.hwdb_spec_commands.specs.Near.{last_up_to, first_up_to, meets_front, front_tokens, front_bytes, stop_of}
 
 some_here : (test : ℕ → Bool) (n : ℕ) → test n ≡ true → some_up_to test n ≡ true
 unfolding some_up_to

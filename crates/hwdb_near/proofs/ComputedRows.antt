@@ -4,12 +4,12 @@ use Rattle.std.specs.Fmt.{digits}
 use Rattle.hwdb_spec.specs.Assignment.{ascending, assignment_cmp, position_cmp, put, put_all}
 use Rattle.hwdb_spec.specs.Folders.{first_of}
 use Rattle.hwdb_spec.specs.Records.{behind, first_section, sections_from}
-use Rattle.hwdb_spec.specs.Once.{once}
-use Rattle.hwdb_spec.specs.Replacements.{replacements}
+use Rattle.hwdb_spec_commands.specs.Once.{once}
+use Rattle.hwdb_spec_commands.specs.Replacements.{replacements}
 use Rattle.hwdb_spec.specs.Lines.{numbered, pieces, trimmed}
 use Rattle.hwdb_spec.specs.Patterns.{bracket_at, byte_then, classes, item_at, items_from, matches, piece_then, some_ending, token_at, tokens_from}
 use Rattle.hwdb_spec.specs.Tree.{some_up_to}
-use Rattle.hwdb_spec.specs.Near.{first_up_to, last_up_to}
+use Rattle.hwdb_spec_commands.specs.Near.{first_up_to, last_up_to}
 use Rattle.hwdb_spec.specs.Visible.{visible_after}
 use Rattle.std.specs.Str.{chars, is_utf8}
 use Rattle.std.specs.Char.{encode_utf8}

@@ -2,8 +2,8 @@
 use Rattle.std.proofs.Common.{◌≡◌, ◌∙◌, ◌<◌, ◌-◌, ◌^◌, ap, arith, sym, List, length, map}
 use Rattle.std.proofs.lemmas.List.{length-map}
 use Rattle.hwdb_spec.specs.Assignment.{Assignment}
-use Rattle.hwdb_spec.specs.Once.{once}
-use Rattle.hwdb_spec.specs.Progress.{within_64_bits}
+use Rattle.hwdb_spec_commands.specs.Once.{once}
+use Rattle.hwdb_spec.specs.Folders.{within_64_bits}
 use Rattle.hwdb_near.specs.Views.{assignment_of}
 use Rattle.hwdb_near.specs.declared.wanted.FileAssignment.{FileAssignment}
 

@@ -1,8 +1,8 @@
 -- Files, one after another.
 use Rattle.std.proofs.Common.{◌≡◌, ◌∙◌, ap, sym, ℕ, zero, suc, ◌+◌, ◌<◌, List, [], ◌∷◌, ◌++◌, map, take, length, get_or, arith, append_assoc}
 use Rattle.std.proofs.lemmas.List.{append-nil}
-use Rattle.hwdb_spec.specs.Near.{PatternAt, patterns_in}
-use Rattle.hwdb_spec.specs.NearAsked.{patterns_from}
+use Rattle.hwdb_spec_commands.specs.Near.{PatternAt, patterns_in}
+use Rattle.hwdb_spec_commands.specs.NearAsked.{patterns_from}
 use Rattle.hwdb_near.specs.Views.{source_of}
 use Rattle.hwdb_near.specs.declared.patterns.PatternFile.{PatternFile}
 

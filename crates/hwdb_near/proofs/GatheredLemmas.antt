@@ -3,8 +3,8 @@ use Rattle.std.proofs.Common.{◌≡◌, ◌∙◌, ap, sym, refl, ℕ, ◌+◌,
 use Rattle.std.proofs.lemmas.List.{drop_all, drop_more, map-append, reverse-append, reverse-reverse}
 use Rattle.hwdb_spec.specs.Assignment.{Assignment}
 use Rattle.hwdb_spec.specs.Folders.{same}
-use Rattle.hwdb_spec.specs.Near.{PatternAt}
-use Rattle.hwdb_spec.specs.NearAsked.{gather, gathered, is_before, pattern_of}
+use Rattle.hwdb_spec_commands.specs.Near.{PatternAt}
+use Rattle.hwdb_spec_commands.specs.NearAsked.{gather, gathered, is_before, pattern_of}
 use Rattle.hwdb_query.specs.Views.{assignment_of_answer}
 use Rattle.hwdb_query.specs.declared.answer.StoredAssignment.{StoredAssignment}
 use Rattle.hwdb_near.specs.Views.{pattern_at}

@@ -10,7 +10,7 @@ use Rattle.std.specs.List.Sorted.{IsSorted, IsPermutation}
 use Rattle.std.proofs.lemmas.List.{append-nil, take_at, take-append-drop, reverse-append, length-reverse, length-drop, drop-map, take-map}
 use Rattle.hwdb_spec.specs.Assignment.{in_order, text_cmp}
 use Rattle.hwdb_spec.specs.Patterns.{tokens}
-use Rattle.hwdb_spec.specs.Near.{PatternAt, Rated, folded, hits, literals, missing, front_literals, front_tokens, near_cmp, place_cmp, rated, unmet}
+use Rattle.hwdb_spec_commands.specs.Near.{PatternAt, Rated, folded, hits, literals, missing, front_literals, front_tokens, near_cmp, place_cmp, rated, unmet}
 use Rattle.hwdb_pattern.specs.Fronts.{token_of}
 use Rattle.hwdb_near.specs.Views.{pattern_at}
 use Rattle.hwdb_near.specs.declared.found.PatternAt.{PatternAt as At}

@@ -12,8 +12,8 @@ use Rattle.std.proofs.lemmas.List.Elements.{All-from_recursion}
 use Rattle.hwdb_spec.specs.Answers.{is_same_place}
 use Rattle.hwdb_spec.specs.Assignment.{Assignment, assignment_cmp, position_cmp}
 use Rattle.hwdb_spec.specs.Lemmas.Orders.{turned}
-use Rattle.hwdb_spec.specs.Once.{is_same_assignment, once}
-use Rattle.hwdb_spec.specs.Replacements.{Replacement, last_like, replaced_by, replacements}
+use Rattle.hwdb_spec_commands.specs.Once.{is_same_assignment, once}
+use Rattle.hwdb_spec_commands.specs.Replacements.{Replacement, last_like, replaced_by, replacements}
 use Rattle.hwdb_near.specs.Internal.Once.{AreOnce, Place, Seen, TakesOnce, by_position, has_place, place_of}
 use Rattle.hwdb_near.specs.Laws.{NoneReplacesItself}
 use Rattle.hwdb_near.specs.Views.{assignment_of}

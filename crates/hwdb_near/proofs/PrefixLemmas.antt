@@ -2,8 +2,8 @@
 use Rattle.std.proofs.Common.{◌≡◌, ◌∙◌, ◌∷◌, [], ap, map, refl, sym, List}
 use Rattle.std.specs.FinMap as finite
 use Rattle.hwdb_spec.specs.Assignment.{Assignment}
-use Rattle.hwdb_spec.specs.NearAsked.{database_patterns, gathered, pattern_of}
-use Rattle.hwdb_spec.specs.NearPrefixes.{assignments_of}
+use Rattle.hwdb_spec_commands.specs.NearAsked.{database_patterns, gathered, pattern_of}
+use Rattle.hwdb_spec_commands.specs.NearPrefixes.{assignments_of}
 use Rattle.hwdb_spec.specs.Tree.{Map, Tree, entry_of, map_of, members_under}
 
 -- an entry's assignment is what the entry was made of

@@ -19,7 +19,7 @@ use Rattle.hwdb_spec.specs.Answers.{is_same_place, last_of_each}
 use Rattle.hwdb_spec.specs.Assignment.{Assignment}
 use Rattle.hwdb_spec.specs.Folders.{same}
 use Rattle.hwdb_spec.specs.Lemmas.Orders.{same_text, turned}
-use Rattle.hwdb_spec.specs.Replacements.{Replacement, last_like, replaced_by, replacements}
+use Rattle.hwdb_spec_commands.specs.Replacements.{Replacement, last_like, replaced_by, replacements}
 use Rattle.hwdb_near.specs.Internal.Places.{AreLastOf, AreTaken, Last, Takes, last_at}
 use Rattle.hwdb_near.specs.Views.{assignment_of, replacement_of}
 use Rattle.hwdb_near.specs.declared.replacements.Replaced.{Replaced}

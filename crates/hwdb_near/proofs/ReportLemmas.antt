@@ -1,7 +1,8 @@
 -- The report of a pattern, made of its parts.
 use Rattle.std.proofs.Common.{◌≡◌, ◌∙◌, ap, ℕ, List, ◌++◌, codes, drop, take, append_assoc}
 use Rattle.hwdb_spec.specs.Patterns.{tokens}
-use Rattle.hwdb_spec.specs.Near.{Front, PatternAt, case_text, marked, other_text, pattern_place, quoted, said_line, stop_of, stop_report, token_text, why_text}
+use Rattle.hwdb_spec.specs.Fronts.{Front}
+use Rattle.hwdb_spec_commands.specs.Near.{PatternAt, case_text, marked, other_text, pattern_place, quoted, said_line, stop_of, stop_report, token_text, why_text}
 
 pub near_written : (at : PatternAt) (device : List ℕ) (f : Front) (place : ℕ) (old one two three why : List ℕ) → f ≡ stop_of (tokens at.pattern) device → place ≡ pattern_place at.pattern f
     → why ≡ why_text at.pattern device f.bytes (drop place at.pattern) (drop f.bytes device) → one ≡ old ++ said_line at why → two ≡ one ++ marked at.pattern place → three ≡ two ++ marked device f.bytes

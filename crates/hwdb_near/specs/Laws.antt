@@ -5,14 +5,15 @@ use Rattle.hwdb_spec.specs.Answers.{last_of_each}
 use Rattle.hwdb_spec.specs.Assignment.{Assignment}
 use Rattle.hwdb_spec.specs.Folders.{Source}
 use Rattle.hwdb_spec.specs.Format.{IsDatabase}
-use Rattle.hwdb_spec.specs.NearAsked.{database_patterns}
-use Rattle.hwdb_spec.specs.NearPrefixes.{files_patterns}
+use Rattle.hwdb_spec_commands.specs.NearAsked.{database_patterns}
+use Rattle.hwdb_spec_commands.specs.NearPrefixes.{files_patterns}
 use Rattle.hwdb_spec.specs.Patterns.{Token}
-use Rattle.hwdb_spec.specs.Once.{is_same_assignment, once}
-use Rattle.hwdb_spec.specs.Replacements.{Replacement, replacements}
+use Rattle.hwdb_spec_commands.specs.Once.{is_same_assignment, once}
+use Rattle.hwdb_spec_commands.specs.Replacements.{Replacement, replacements}
 use Rattle.hwdb_spec.specs.Tree.{Tree, map_of_files}
 use Rattle.hwdb_spec.specs.Written.{IsDatabaseOf}
-use Rattle.hwdb_spec.specs.Near.{Front, Stops, front_tokens, stop_of}
+use Rattle.hwdb_spec.specs.Fronts.{Front, Stops}
+use Rattle.hwdb_spec_commands.specs.Near.{front_tokens, stop_of}
 use Rattle.hwdb_pattern.specs.Fronts.{IsLongest}
 
 -- Tokens stop at one place alone, which `stop_of` computes.

@@ -2,7 +2,7 @@
 use Rattle.std.specs.Prelude.{List, ℕ}
 use Rattle.hwdb_spec.specs.declared.errors.NearError.{NearError}
 use Rattle.hwdb_spec.specs.declared.errors.NearError.TheVariants.{Database, Memory}
-use Rattle.hwdb_spec.specs.Databases.{IsNoDatabase}
+use Rattle.hwdb_spec_commands.specs.Databases.{IsNoDatabase}
 
 -- when each error comes
 abbrev pub IsNearRefusal : (bytes : List ℕ) → NearError → Type 0

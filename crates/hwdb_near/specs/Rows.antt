@@ -3,9 +3,10 @@ use Rattle.std.specs.Prelude.{List, [], ℕ, codes, drop, false, map, ◌++◌, 
 use Rattle.hwdb_spec.specs.Patterns.{tokens}
 use Rattle.hwdb_spec.specs.Assignment.{Assignment}
 use Rattle.hwdb_spec.specs.Folders.{Source}
-use Rattle.hwdb_spec.specs.NearAsked.{gathered, pattern_of, patterns_from}
-use Rattle.hwdb_spec.specs.Near.{Front, PatternAt, marked, matching, nearest, pattern_place, patterns_in, rated, stop_of, why_text}
-use Rattle.hwdb_spec.specs.Replacements.{Replacement, masked_files, masked_form, replacement_text, replacements, replacements_for}
+use Rattle.hwdb_spec_commands.specs.NearAsked.{gathered, pattern_of, patterns_from}
+use Rattle.hwdb_spec.specs.Fronts.{Front}
+use Rattle.hwdb_spec_commands.specs.Near.{PatternAt, marked, matching, nearest, pattern_place, patterns_in, rated, stop_of, why_text}
+use Rattle.hwdb_spec_commands.specs.Replacements.{Replacement, masked_files, masked_form, replacement_text, replacements, replacements_for}
 
 -- a pattern at a line of a file `f`
 abbrev pub at_line : ℕ → List ℕ → PatternAt

@@ -1,9 +1,10 @@
 -- What the types of this crate mean.
 use Rattle.hwdb_spec.specs.Assignment.{Assignment}
 use Rattle.hwdb_spec.specs.Folders.{Source, path_of}
-use Rattle.hwdb_spec.specs.Near.{Front, PatternAt}
+use Rattle.hwdb_spec.specs.Fronts.{Front}
+use Rattle.hwdb_spec_commands.specs.Near.{PatternAt}
 use Rattle.hwdb_spec.specs.Records.{Origin}
-use Rattle.hwdb_spec.specs.Replacements.{Replacement}
+use Rattle.hwdb_spec_commands.specs.Replacements.{Replacement}
 use Rattle.hwdb_text.specs.Views.{choice_of, given_in}
 use Rattle.hwdb_text.specs.declared.choice.Chosen.{Chosen}
 use Rattle.hwdb_near.specs.declared.fronts.Stop.{Stop}

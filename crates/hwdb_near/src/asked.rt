@@ -1,7 +1,7 @@
 //! What `near` prints of text files, or of a database.
 ghost use Rattle.std.specs.Prelude.{◌≡◌, map, IfErr, IfOk};
-ghost use Rattle.hwdb_spec.specs.Databases.{IsTextOf};
-ghost use Rattle.hwdb_spec.specs.NearAsked.{database_patterns, near_form, patterns_from};
+ghost use Rattle.hwdb_spec_commands.specs.Databases.{IsTextOf};
+ghost use Rattle.hwdb_spec_commands.specs.NearAsked.{database_patterns, near_form, patterns_from};
 ghost use Rattle.hwdb_near.specs.Refusals.{IsNearRefusal};
 ghost use Rattle.hwdb_near.specs.Views.{pattern_at, source_of};
 
@@ -9,7 +9,7 @@ use crate::databases::patterns_of;
 use crate::found::PatternAt;
 use crate::patterns::{PatternFile, patterns_of_files};
 use crate::printing::{near_json, near_text};
-use hwdb_inspect::assignments;
+use hwdb_databases::assignments;
 use hwdb_reader::check;
 use hwdb_spec::NearError;
 use std::alloc::{AllocError, Global};

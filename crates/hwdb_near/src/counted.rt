@@ -2,7 +2,7 @@
 ghost use Rattle.std.specs.Prelude.{◌≡◌, ◌++◌, flat_map, map, IfOk, OnOk};
 ghost use Rattle.hwdb_compile.specs.Internal.Reading.{assignments_in};
 ghost use Rattle.hwdb_compile.specs.Views.{ForFolders};
-ghost use Rattle.hwdb_spec.specs.Progress.{given_count};
+ghost use Rattle.hwdb_spec_commands.specs.Progress.{given_count};
 ghost use Rattle.hwdb_text.specs.Views.{given_in};
 ghost use Rattle.hwdb_near.specs.Views.{assignment_of, origin_of};
 

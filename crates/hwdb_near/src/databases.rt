@@ -2,8 +2,8 @@
 ghost use Rattle.std.specs.Prelude.{◌≡◌, map, reverse, IfOk, OnOk};
 ghost use Rattle.hwdb_query.specs.Views.{assignment_of_answer};
 ghost use Rattle.hwdb_spec.specs.Folders;
-ghost use Rattle.hwdb_spec.specs.NearAsked;
-ghost use Rattle.hwdb_spec.specs.NearAsked.{gather, gathered};
+ghost use Rattle.hwdb_spec_commands.specs.NearAsked;
+ghost use Rattle.hwdb_spec_commands.specs.NearAsked.{gather, gathered};
 ghost use Rattle.hwdb_near.specs.Views.{pattern_at};
 
 use crate::found::PatternAt;

@@ -1,6 +1,6 @@
 //! Some assignments, each once: a match line that is in its record twice gives each of its assignments twice.
 ghost use Rattle.std.specs.Prelude.{◌≡◌, map, IfOk, OnOk};
-ghost use Rattle.hwdb_spec.specs.Once.{once};
+ghost use Rattle.hwdb_spec_commands.specs.Once.{once};
 ghost use Rattle.hwdb_near.specs.Views.{assignment_of};
 ghost use Rattle.hwdb_near.specs.Internal.Once.{TakesOnce};
 

@@ -3,7 +3,7 @@ ghost use Rattle.std.specs.Prelude.{◌≡◌, map, refl, take};
 ghost use Rattle.std.specs.Ordering.{as_partial_cmp, eq_by_cmp};
 ghost use Rattle.std.specs.Cmp.{eq_by_cmp_equiv, partial_equiv_from_equiv, partial_order_from_total};
 ghost use Rattle.hwdb_spec.specs.Assignment.{in_order};
-ghost use Rattle.hwdb_spec.specs.Near.{near_cmp, place_cmp};
+ghost use Rattle.hwdb_spec_commands.specs.Near.{near_cmp, place_cmp};
 ghost use Rattle.hwdb_near.specs.Views.{pattern_at};
 ghost use Rattle.hwdb_near.specs.Internal.Ratings;
 ghost use Rattle.hwdb_near.specs.Internal.Ratings.{by_nearness, by_nearness_total, by_place_total, rated_of, text_order};

@@ -1,6 +1,7 @@
 //! Where a pattern stops at a device.
 ghost use Rattle.std.specs.Prelude.{◌≡◌, ◌≤◌, length, IfOk};
-ghost use Rattle.hwdb_spec.specs.Near.{Stops, pattern_place, stop_of};
+ghost use Rattle.hwdb_spec.specs.Fronts.{Stops};
+ghost use Rattle.hwdb_spec_commands.specs.Near.{pattern_place, stop_of};
 ghost use Rattle.hwdb_spec.specs.Patterns.{tokens};
 ghost use Rattle.hwdb_near.specs.Views.{front_at};
 

@@ -1,8 +1,8 @@
 //! What is printed of patterns as lines of JSON.
 ghost use Rattle.std.specs.Prelude.{◌≡◌, ◌++◌, flat_map, length, map, IfOk, OnOk};
 ghost use Rattle.json.specs.Tree.{json_tokens};
-ghost use Rattle.hwdb_spec.specs.Json.{json_line};
-ghost use Rattle.hwdb_spec.specs.Near.{match_json_line, near_json_line, place_json};
+ghost use Rattle.hwdb_spec_commands.specs.Json.{json_line};
+ghost use Rattle.hwdb_spec_commands.specs.Near.{match_json_line, near_json_line, place_json};
 ghost use Rattle.hwdb_near.specs.Views.{pattern_at};
 ghost use Rattle.hwdb_near.specs.Internal.Ratings.{rated_of};
 

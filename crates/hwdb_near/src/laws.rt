@@ -2,7 +2,7 @@
 ghost use Rattle.hwdb_near.specs.Laws.{LastAndReplacedAreAll, LongestIsComputed, NoneReplacesItself, PatternsAreOfFiles, StopsAreComputed};
 ghost use Rattle.hwdb_near.specs.Rows.{FileRows, GatheredRows, HeadRows, MarkRows, MaskedRows, MatchingRows, NearestRows, OrderRows, PlaceRows, RatedRows, RepeatedRows, ReplacedFileRows, ReplacedRows, ReplacedTextRows, StopRows, WordRows};
 
-use hwdb_inspect::members_are_the_map;
+use hwdb_databases::members_are_the_map;
 use hwdb_pattern::matches_is_tested;
 use hwdb_query::databases_show_one_map;
 use hwdb_reader::law_ascending;

@@ -1,7 +1,7 @@
 //! Those of some patterns that match a device, and the nearest of those that don't.
 ghost use Rattle.std.specs.Prelude.{◌≡◌, ◌++◌, ◌∷◌, [], map, reverse, IfOk, OnOk};
-ghost use Rattle.hwdb_spec.specs.Near;
-ghost use Rattle.hwdb_spec.specs.Near.{matching, nearest};
+ghost use Rattle.hwdb_spec_commands.specs.Near;
+ghost use Rattle.hwdb_spec_commands.specs.Near.{matching, nearest};
 ghost use Rattle.hwdb_near.specs.Views.{pattern_at};
 ghost use Rattle.hwdb_near.specs.Internal.Ratings.{hitting, misses, rated_of};
 

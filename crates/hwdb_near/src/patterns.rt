@@ -1,7 +1,7 @@
 //! The patterns of text files.
 ghost use Rattle.std.specs.Prelude.{◌≡◌, ◌++◌, ◌+◌, ◌<◌, ◌^◌, length, map, IfOk, OnOk};
-ghost use Rattle.hwdb_spec.specs.Near.{patterns_in, patterns_of_line};
-ghost use Rattle.hwdb_spec.specs.NearAsked.{patterns_from};
+ghost use Rattle.hwdb_spec_commands.specs.Near.{patterns_in, patterns_of_line};
+ghost use Rattle.hwdb_spec_commands.specs.NearAsked.{patterns_from};
 ghost use Rattle.hwdb_near.specs.Views.{pattern_at, source_of};
 ghost use Rattle.hwdb_near.specs.Internal.Lines.{line_of};
 

@@ -1,6 +1,6 @@
 //! Of some texts with a prefix and of some patterns with it the two that are nearest.
 ghost use Rattle.std.specs.Prelude.{◌≡◌, ◌++◌, ◌∷◌, [], filter, map, option_map, IfOk, OnOk};
-ghost use Rattle.hwdb_spec.specs.NearPrefixes as spec;
+ghost use Rattle.hwdb_spec_commands.specs.NearPrefixes as spec;
 ghost use Rattle.hwdb_near.specs.Views.{pattern_at};
 ghost use Rattle.hwdb_near.specs.Internal.Closest.{close_of};
 ghost use Rattle.hwdb_near.specs.Internal.Ratings.{rated_of};
@@ -98,7 +98,7 @@ fn closer<'t, 'a>(
 }
 
 /// The closest of what was found before and of some texts, each with the nearest of the patterns. It calls itself once for each.
-#[tactic(auto, unfolding(hwdb_spec::specs::NearPrefixes::closest_after))]
+#[tactic(auto, unfolding(hwdb_spec_commands::specs::NearPrefixes::closest_after))]
 fn closest_after<'t, 'a>(
     alloc: Global,
     patterns: &[PatternAt<'a>],

@@ -1,6 +1,6 @@
 //! What `near` prints of some patterns and a device.
 ghost use Rattle.std.specs.Prelude.{◌≡◌, map, IfOk};
-ghost use Rattle.hwdb_spec.specs.Near;
+ghost use Rattle.hwdb_spec_commands.specs.Near;
 ghost use Rattle.hwdb_near.specs.Views.{pattern_at};
 
 use crate::found::PatternAt;

@@ -1,7 +1,7 @@
 //! How near a pattern is to a device.
 ghost use Rattle.std.specs.Prelude.{◌≡◌, ◌≤◌, length, map, reverse, IfOk};
-ghost use Rattle.hwdb_spec.specs.Near;
-ghost use Rattle.hwdb_spec.specs.Near.{front_literals, missing};
+ghost use Rattle.hwdb_spec_commands.specs.Near;
+ghost use Rattle.hwdb_spec_commands.specs.Near.{front_literals, missing};
 ghost use Rattle.hwdb_spec.specs.Patterns.{tokens};
 ghost use Rattle.hwdb_pattern.specs.Fronts.{token_of};
 

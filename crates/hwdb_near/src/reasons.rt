@@ -1,8 +1,8 @@
 //! Why a pattern stops, in words: one line, which says what to do.
 ghost use Rattle.std.specs.Prelude.{◌≡◌, ◌++◌, drop, take, OnOk};
 ghost use Rattle.hwdb_spec.specs.Lines;
-ghost use Rattle.hwdb_spec.specs.Near;
-ghost use Rattle.hwdb_spec.specs.Near.{byte_text, head_text, on_firsts, other_text, quoted, why_text};
+ghost use Rattle.hwdb_spec_commands.specs.Near;
+ghost use Rattle.hwdb_spec_commands.specs.Near.{byte_text, head_text, on_firsts, other_text, quoted, why_text};
 
 use crate::rating::lower;
 use hwdb_pattern::front_size;

@@ -1,7 +1,7 @@
 //! What `explain --text` prints besides: the assignments that were replaced, and the masked files.
 ghost use Rattle.std.specs.Prelude.{◌≡◌, ◌++◌, [], false, map, true, IfOk};
 ghost use Rattle.hwdb_compile.specs.Views.{ForFolders};
-ghost use Rattle.hwdb_spec.specs.Replacements.{masked_files, masked_form, replaced_form, replacements_form};
+ghost use Rattle.hwdb_spec_commands.specs.Replacements.{masked_files, masked_form, replaced_form, replacements_form};
 ghost use Rattle.hwdb_near.specs.Views.{replacement_of};
 
 use crate::each_once::each_once;

@@ -1,8 +1,8 @@
 //! What is printed of assignments that were replaced, as lines of JSON.
 ghost use Rattle.std.specs.Prelude.{◌≡◌, ◌++◌, ◌∷◌, [], codes, flat_map, map, OnOk};
 ghost use Rattle.json.specs.Tree.{json_tokens};
-ghost use Rattle.hwdb_spec.specs.Json.{answer_members, object_of, text_json};
-ghost use Rattle.hwdb_spec.specs.Replacements.{assignment_json, masked_json, replacement_json, replacement_object};
+ghost use Rattle.hwdb_spec_commands.specs.Json.{answer_members, object_of, text_json};
+ghost use Rattle.hwdb_spec_commands.specs.Replacements.{assignment_json, masked_json, replacement_json, replacement_object};
 ghost use Rattle.hwdb_show.specs.JsonTokens.{tokens_of_members};
 ghost use Rattle.hwdb_near.specs.Views.{assignment_of, replacement_of};
 

@@ -1,8 +1,8 @@
 //! What is printed of assignments that were replaced, as text.
 ghost use Rattle.std.specs.Prelude.{◌≡◌, ◌++◌, codes, flat_map, map, OnOk};
 ghost use Rattle.hwdb_spec.specs.Explanations.{origin_line};
-ghost use Rattle.hwdb_spec.specs.Replacements.{assignment_text, replacement_text};
-ghost use Rattle.hwdb_spec.specs.Status.{said_line};
+ghost use Rattle.hwdb_spec_commands.specs.Replacements.{assignment_text, replacement_text};
+ghost use Rattle.hwdb_spec_commands.specs.Status.{said_line};
 ghost use Rattle.hwdb_spec.specs.Texts.{property_text};
 ghost use Rattle.hwdb_near.specs.Views.{assignment_of, replacement_of};
 

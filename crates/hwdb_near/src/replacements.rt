@@ -3,7 +3,7 @@
 //! They are gone through from the last to the first. A map has the last one with each pattern and key, so that each takes one
 //! look.
 ghost use Rattle.std.specs.Prelude.{◌≡◌, map, IfOk, OnOk};
-ghost use Rattle.hwdb_spec.specs.Replacements;
+ghost use Rattle.hwdb_spec_commands.specs.Replacements;
 ghost use Rattle.hwdb_near.specs.Views.{assignment_of, replacement_of};
 ghost use Rattle.hwdb_near.specs.Internal.Places.{Takes};
 

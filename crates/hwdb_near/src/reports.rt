@@ -1,6 +1,6 @@
 //! What is printed of patterns as text.
 ghost use Rattle.std.specs.Prelude.{◌≡◌, ◌++◌, flat_map, map, OnOk};
-ghost use Rattle.hwdb_spec.specs.Near.{marked, match_report, near_report, said_line};
+ghost use Rattle.hwdb_spec_commands.specs.Near.{marked, match_report, near_report, said_line};
 ghost use Rattle.hwdb_near.specs.Views.{pattern_at};
 ghost use Rattle.hwdb_near.specs.Internal.Ratings.{rated_of};
 

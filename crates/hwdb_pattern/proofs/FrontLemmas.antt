@@ -7,7 +7,7 @@ use Rattle.std.proofs.lemmas.List.{map_more, take_all, take-map, length-map, len
 use Rattle.std.proofs.lemmas.List.Elements.{All-contains}
 use Rattle.std.proofs.Math.Seq.{take-add}
 use Rattle.hwdb_spec.specs.Patterns.{Token, Matches, token_at}
-use Rattle.hwdb_spec.specs.Near.{Front, Meets, Stops}
+use Rattle.hwdb_spec.specs.Fronts.{Front, Meets, Stops}
 use Rattle.hwdb_pattern.specs.Views.{Lengths}
 use Rattle.hwdb_pattern.specs.Fronts.{IsLongest, token_of}
 use Rattle.hwdb_pattern.specs.Internal.FirstTokens.{AreAfter}

@@ -2,7 +2,7 @@
 use Rattle.std.specs.Prelude.{List, ℕ, ◌≤◌}
 use Rattle.std.specs.Borrow.{Bor}
 use Rattle.hwdb_spec.specs.Patterns.{Token, token_at}
-use Rattle.hwdb_spec.specs.Near.{Front, Meets}
+use Rattle.hwdb_spec.specs.Fronts.{Front, Meets}
 use Rattle.hwdb_pattern.specs.declared.fronts.Front.{Front as Found}
 
 abbrev pub front_of : Found → Front

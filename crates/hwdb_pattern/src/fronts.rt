@@ -3,7 +3,7 @@
 //! The tokens are followed one by one until no prefix of the device is matched. That tells how many tokens there are. A second
 //! time tells which prefix is the least.
 ghost use Rattle.std.specs.Prelude.{◌≡◌, ◌<◌, ◌≤◌, Contains, length, map, slice_index, take, IfOk};
-ghost use Rattle.hwdb_spec.specs.Near.{Meets, Stops};
+ghost use Rattle.hwdb_spec.specs.Fronts.{Meets, Stops};
 ghost use Rattle.hwdb_spec.specs.Patterns.{token_at};
 ghost use Rattle.hwdb_pattern.specs.Fronts.{IsLongest, front_of, token_of};
 ghost use Rattle.hwdb_pattern.specs.Internal.FirstTokens.{AreAfter};

@@ -12,7 +12,7 @@ use Rattle.hwdb_plan.specs.Laws.{AreAlike, OldOrReplaced, OneForm, OneTree, Tell
 use Rattle.hwdb_plan.specs.Plans.{AreMadeOf, AreTooMuch, Asks, End, Ends, Plan, over, reads_over}
 use Rattle.hwdb_plan.specs.Plans.End.{Answers, Replaces, Stops}
 use Rattle.hwdb_plan.specs.Plans.Plan.{Compile, Database, Decode, Done, Input, Text}
-use Rattle.hwdb_spec.specs.Told.{Reads, Stop}
+use Rattle.hwdb_spec_commands.specs.Told.{Reads, Stop}
 
 abbrev pub MadeOrNot : Type 0
 MadeOrNot = (etc usr : List Source) (most : ℕ) (bytes : List ℕ) (e : CompileError) → AreMadeOf etc usr most bytes → AreTooMuch etc usr most e → ⊥

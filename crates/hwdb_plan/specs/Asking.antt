@@ -1,10 +1,10 @@
 -- The database that a command asks for, as the front of a plan. That the one of /etc is asked before that of /usr/lib is libudev's; the
 -- rest is our choice.
 use Rattle.std.specs.Prelude.{ℕ, true, false, List, None, Option, Some, Result, Ok, Err}
-use Rattle.hwdb_spec.specs.Asked.{database_path}
-use Rattle.hwdb_spec.specs.Told.{unread_stop}
-use Rattle.hwdb_spec.specs.Told.Stop.{NoDatabase}
-use Rattle.hwdb_spec.specs.declared.unread.Unread.{Unread}
+use Rattle.hwdb_spec_commands.specs.Asked.{database_path}
+use Rattle.hwdb_spec_commands.specs.Told.{unread_stop}
+use Rattle.hwdb_spec_commands.specs.Told.Stop.{NoDatabase}
+use Rattle.hwdb_spec_commands.specs.declared.unread.Unread.{Unread}
 use Rattle.hwdb_plan.specs.Plans.{Next, Plan}
 use Rattle.hwdb_plan.specs.Plans.End.{Stops}
 use Rattle.hwdb_plan.specs.Plans.Plan.{Database, Done, Input}

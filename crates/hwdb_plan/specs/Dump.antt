@@ -1,10 +1,10 @@
 -- The plan of `dump`. Our choice.
 use Rattle.std.specs.Prelude.{ℕ, List, [], None, Option, Some}
-use Rattle.hwdb_spec.specs.Asked.{unsayable_text}
+use Rattle.hwdb_spec_commands.specs.Asked.{unsayable_text}
 use Rattle.hwdb_spec.specs.Assignment.{Assignment}
-use Rattle.hwdb_spec.specs.Dump.{dump_text, dumped, first_unsaid}
-use Rattle.hwdb_spec.specs.Told.{Stop}
-use Rattle.hwdb_spec.specs.Told.Stop.{Over, Plain, Says}
+use Rattle.hwdb_spec_commands.specs.Dump.{dump_text, dumped, first_unsaid}
+use Rattle.hwdb_spec_commands.specs.Told.{Stop}
+use Rattle.hwdb_spec_commands.specs.Told.Stop.{Over, Plain, Says}
 use Rattle.hwdb_spec.specs.declared.DbFault.{DbFault}
 use Rattle.hwdb_spec.specs.declared.errors.DumpError.{DumpError}
 use Rattle.hwdb_spec.specs.declared.errors.DumpError.TheVariants as dumping

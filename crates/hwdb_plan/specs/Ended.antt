@@ -1,17 +1,17 @@
 -- What a run leaves whose plan ends so: its result, both outputs and the files, also if an output fails. Our choice.
 use Rattle.std.specs.Prelude.{◌≡◌, ◌⊎◌, ℕ, List, [], None, Some, IfSome, MatchResult, Result, IsErrAnd, codes, take}
-use Rattle.hwdb_spec.specs.AnsweredLines.{answered_lines, line_error}
+use Rattle.hwdb_spec_commands.specs.AnsweredLines.{answered_lines, line_error}
 use Rattle.hwdb_spec.specs.NotReplaced.{IsLeft, IsSeen, failures_after}
-use Rattle.hwdb_spec.specs.Runs.{AreKept, Files, HasTaken, Told, WasCut, World}
+use Rattle.hwdb_spec_commands.specs.Runs.{AreKept, Files, HasTaken, Told, WasCut, World}
 use Rattle.hwdb_spec.specs.Store.{InPlace, database_name, path_in}
 use Rattle.hwdb_spec.specs.Texts.{devices_of}
 use Rattle.hwdb_spec.specs.declared.errors.ToolError.TheVariants.{Memory, Read, TooLong, TooManyLines, Write}
 use Rattle.hwdb_spec.specs.declared.errors.Unreplaced.{Unreplaced}
-use Rattle.hwdb_spec.specs.declared.refusals.Refusal.{Refusal}
-use Rattle.hwdb_spec.specs.declared.refusals.Refusal.TheVariants as refusal
+use Rattle.hwdb_spec_commands.specs.declared.refusals.Refusal.{Refusal}
+use Rattle.hwdb_spec_commands.specs.declared.refusals.Refusal.TheVariants as refusal
 use Rattle.hwdb_plan.specs.Plans.{End, Ends, Plan}
 use Rattle.hwdb_plan.specs.Plans.End.{Answers, Replaces, Stops, Streams}
-use Rattle.hwdb_spec.specs.Told.{Reads, stop_of}
+use Rattle.hwdb_spec_commands.specs.Told.{Reads, stop_of}
 
 -- what standard error and standard output tell
 pub record Outs : Type 0 where

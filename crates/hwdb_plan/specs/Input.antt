@@ -2,11 +2,11 @@
 use Rattle.std.specs.Prelude.{◌≡◌, ◌≤◌, ◌<◌, ℕ, Bool, true, false, List, None, Option, Some, Result, Ok, Err, IfSome, if◌then◌else◌, codes, length}
 use Rattle.std.specs.Str.{bytes_eq}
 use Rattle.hwdb_spec.specs.Failures.{HasFailed}
-use Rattle.hwdb_spec.specs.Given.{is_dash}
+use Rattle.hwdb_spec_commands.specs.Given.{is_dash}
 use Rattle.hwdb_spec.specs.Texts.{max_file}
-use Rattle.hwdb_spec.specs.Told.{Reads}
-use Rattle.hwdb_spec.specs.declared.unread.Unread.{Unread}
-use Rattle.hwdb_spec.specs.declared.unread.Unread.TheVariants as unread
+use Rattle.hwdb_spec_commands.specs.Told.{Reads}
+use Rattle.hwdb_spec_commands.specs.declared.unread.Unread.{Unread}
+use Rattle.hwdb_spec_commands.specs.declared.unread.Unread.TheVariants as unread
 
 -- What is told of standard input is what it had left, no more than a file may have. Or it isn't read, for a reason that is so: it has more,
 -- or a call of it failed.

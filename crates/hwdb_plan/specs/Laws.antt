@@ -1,6 +1,6 @@
 -- What is so of every plan.
 use Rattle.std.specs.Prelude.{◌≡◌, ◌≢◌, ◌⊎◌, ℕ, Bool, List, Option, Some}
-use Rattle.hwdb_spec.specs.Databases.{IsNoDatabase}
+use Rattle.hwdb_spec_commands.specs.Databases.{IsNoDatabase}
 use Rattle.hwdb_spec.specs.Folders.{Source}
 use Rattle.hwdb_spec.specs.Format.{IsDatabase}
 use Rattle.hwdb_spec.specs.Store.{Outcomes, Stored, database_file, database_name, path_in}
@@ -10,7 +10,7 @@ use Rattle.hwdb_spec.specs.declared.DbFault.{DbFault}
 use Rattle.hwdb_spec.specs.declared.errors.CompileError.{CompileError}
 use Rattle.hwdb_plan.specs.Plans.{AreTooMuch, Asks, End, Ends, Plan, over, reads_over}
 use Rattle.hwdb_plan.specs.Plans.End.{Answers, Replaces, Stops}
-use Rattle.hwdb_spec.specs.Told.{Reads, Stop}
+use Rattle.hwdb_spec_commands.specs.Told.{Reads, Stop}
 
 -- bytes are the database of one tree
 abbrev pub OneTree : Type 0

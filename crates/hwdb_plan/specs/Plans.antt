@@ -2,7 +2,7 @@
 -- choice.
 use Rattle.std.specs.Prelude.{◌≡◌, ◌≤◌, ◌⊎◌, ℕ, Bool, List, Option, Some, Result, Ok, MatchResult, if◌then◌else◌, length}
 use Rattle.hwdb_spec.specs.CompileErrors.{IsRefusal}
-use Rattle.hwdb_spec.specs.Databases.{IsNoDatabase}
+use Rattle.hwdb_spec_commands.specs.Databases.{IsNoDatabase}
 use Rattle.hwdb_spec.specs.Folders.{AreAccepted, Source}
 use Rattle.hwdb_spec.specs.Format.{IsDatabase}
 use Rattle.hwdb_spec.specs.Tree.{Tree, map_of_files}
@@ -11,10 +11,10 @@ use Rattle.hwdb_spec.specs.declared.DbFault.{DbFault}
 use Rattle.hwdb_spec.specs.declared.errors.CompileError.{CompileError}
 use Rattle.hwdb_spec.specs.declared.errors.CompileError.TheVariants as compiling
 use Rattle.hwdb_spec.specs.declared.errors.ToolError.TheVariants as error
-use Rattle.hwdb_spec.specs.declared.refusals.Refusal.{Refusal}
-use Rattle.hwdb_spec.specs.declared.refusals.Refusal.TheVariants as refusal
-use Rattle.hwdb_spec.specs.declared.unread.Unread.{Unread}
-use Rattle.hwdb_spec.specs.Told.{Reads, Stop, stop_of}
+use Rattle.hwdb_spec_commands.specs.declared.refusals.Refusal.{Refusal}
+use Rattle.hwdb_spec_commands.specs.declared.refusals.Refusal.TheVariants as refusal
+use Rattle.hwdb_spec_commands.specs.declared.unread.Unread.{Unread}
+use Rattle.hwdb_spec_commands.specs.Told.{Reads, Stop, stop_of}
 
 -- what a plan ends in: an error; a status, with a text for standard error and one for standard output; a text for the lines of standard
 -- input, as they come; or the database in a folder, its bytes after a text for standard error, with a status

@@ -2,11 +2,11 @@
 use Rattle.std.specs.Prelude.{ℕ, Bool, List, Option}
 use Rattle.hwdb_spec.specs.Errors.{refusal_of_compile}
 use Rattle.hwdb_spec.specs.Folders.{Source, faults_of_files}
-use Rattle.hwdb_spec.specs.Progress.{update_text}
-use Rattle.hwdb_spec.specs.Summary.{depth}
+use Rattle.hwdb_spec_commands.specs.Progress.{update_text}
+use Rattle.hwdb_spec_commands.specs.Summary.{depth}
 use Rattle.hwdb_spec.specs.Texts.{status_of}
 use Rattle.hwdb_spec.specs.declared.errors.ToolError.TheVariants.{BadDatabase}
-use Rattle.hwdb_spec.specs.Told.Stop.{Plain}
+use Rattle.hwdb_spec_commands.specs.Told.Stop.{Plain}
 use Rattle.hwdb_plan.specs.Plans.{Plan}
 use Rattle.hwdb_plan.specs.Plans.End.{Replaces}
 use Rattle.hwdb_plan.specs.Plans.Plan.{Compile, Decode, Done}

@@ -1,7 +1,7 @@
 -- The plan of `query -` and `explain -`. The database that is asked is systemd-hwdb(8)'s; the rest is our choice.
 use Rattle.std.specs.Prelude.{ℕ, List}
-use Rattle.hwdb_spec.specs.Streams.{texts_of}
-use Rattle.hwdb_spec.specs.declared.form.Form.{Form}
+use Rattle.hwdb_spec_commands.specs.Streams.{texts_of}
+use Rattle.hwdb_spec_commands.specs.declared.form.Form.{Form}
 use Rattle.hwdb_plan.specs.Asking.{asked}
 use Rattle.hwdb_plan.specs.Dump.{bad_database}
 use Rattle.hwdb_plan.specs.Plans.{Next, Plan}

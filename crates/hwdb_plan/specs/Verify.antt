@@ -1,9 +1,9 @@
 -- The plan of `verify`. Our choice.
 use Rattle.std.specs.Prelude.{ℕ, List, [], Option, length}
-use Rattle.hwdb_spec.specs.Summary.{summary_of, summary_text}
-use Rattle.hwdb_spec.specs.Told.{Stop}
-use Rattle.hwdb_spec.specs.Told.Stop.{Plain, Says}
-use Rattle.hwdb_spec.specs.Verdicts.{verdict_text}
+use Rattle.hwdb_spec_commands.specs.Summary.{summary_of, summary_text}
+use Rattle.hwdb_spec_commands.specs.Told.{Stop}
+use Rattle.hwdb_spec_commands.specs.Told.Stop.{Plain, Says}
+use Rattle.hwdb_spec_commands.specs.Verdicts.{verdict_text}
 use Rattle.hwdb_spec.specs.declared.errors.ToolError.TheVariants.{Memory as OutOfMemory}
 use Rattle.hwdb_spec.specs.declared.errors.VerifyError.{VerifyError}
 use Rattle.hwdb_spec.specs.declared.errors.VerifyError.TheVariants as verifying

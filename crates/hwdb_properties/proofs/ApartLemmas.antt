@@ -5,7 +5,7 @@ use Rattle.std.specs.Prelude.{if◌then◌else◌}
 use Rattle.hwdb_spec.specs.Folders.{same}
 use Rattle.hwdb_spec.specs.Lines.{is}
 use Rattle.hwdb_spec.specs.Lemmas.Orders.{same_text}
-use Rattle.hwdb_spec.specs.Properties.{is_family, is_for}
+use Rattle.hwdb_spec_commands.specs.Properties.{is_family, is_for}
 
 abbrev first_of : List ℕ → ℕ
 first_of text = get_or text 0 0

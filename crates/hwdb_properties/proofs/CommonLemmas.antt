@@ -3,7 +3,7 @@ use Rattle.std.proofs.Common.{◌≡◌, ℕ, List, [], ◌∷◌, true, codes, 
 use Rattle.std.specs.Prelude.{None}
 use Rattle.hwdb_spec.specs.Folders.{same}
 use Rattle.hwdb_spec.specs.Lines.{pieces}
-use Rattle.hwdb_spec.specs.Properties.{misuse}
+use Rattle.hwdb_spec_commands.specs.Properties.{misuse}
 use Rattle.hwdb_spec.specs.Lemmas.Orders.{same_text}
 use Rattle.hwdb_properties.specs.Internal.{IsCommon}
 

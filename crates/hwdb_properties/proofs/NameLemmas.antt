@@ -1,7 +1,7 @@
 -- Texts whose letters are compared, seen from where one ends.
 use Rattle.std.proofs.Common.{◌≡◌, ℕ, ◌≤◌, ◌⊎◌, inl, inr, Bool, true, false, List, [], ◌∷◌, drop, length, refl, arith, ne_eqb, eq-eqb, nat_eq}
 use Rattle.std.proofs.lemmas.List.{length-drop}
-use Rattle.hwdb_spec.specs.Properties.{same_letters}
+use Rattle.hwdb_spec_commands.specs.Properties.{same_letters}
 
 no_letters : (xs ys : List ℕ) (e : Bool) → (length xs ≡ 0) ⊎ (length ys ≡ 0) → (length xs ≡ length ys → e ≡ true) → ((length xs ≡ length ys → ⊥) → e ≡ false)
     → e ≡ same_letters xs ys

@@ -1,7 +1,7 @@
 -- What the proofs of this crate speak of.
 use Rattle.std.specs.Prelude.{Bool, ℕ, List, [], None, true, ◌≡◌}
-use Rattle.hwdb_spec.specs.Properties.{compared_part, is_for, is_near, misuse, word}
-use Rattle.hwdb_spec.specs.Surroundings.{companions_text, is_read_below}
+use Rattle.hwdb_spec_commands.specs.Properties.{compared_part, is_for, is_near, misuse, word}
+use Rattle.hwdb_spec_commands.specs.Surroundings.{companions_text, is_read_below}
 use Rattle.hwdb_properties.specs.declared.rows.Likeness.{Likeness}
 use Rattle.hwdb_properties.specs.declared.rows.Likeness.TheVariants.{Near, Same}
 

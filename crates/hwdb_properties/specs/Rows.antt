@@ -2,9 +2,9 @@
 -- files, hwdb(7) and parse_hwdb.py.
 use Rattle.std.specs.Prelude.{true, false, [], ◌∷◌, ◌≡◌, None, Some, codes}
 use Rattle.hwdb_spec.specs.Assignment.{Assignment}
-use Rattle.hwdb_spec.specs.Properties.{is_near, row_misuse}
-use Rattle.hwdb_spec.specs.Surroundings.{is_alone, is_read_by_row}
-use Rattle.hwdb_spec.specs.declared.vocabulary.Misuse.TheVariants.{ScanCode, TwoDefaults, UnfitValue, ZeroRow}
+use Rattle.hwdb_spec_commands.specs.Properties.{is_near, row_misuse}
+use Rattle.hwdb_spec_commands.specs.Surroundings.{is_alone, is_read_by_row}
+use Rattle.hwdb_spec_commands.specs.declared.vocabulary.Misuse.TheVariants.{ScanCode, TwoDefaults, UnfitValue, ZeroRow}
 use Prim.Native.String.{String}
 
 -- nothing is said of a property with this row, name and value

@@ -3,7 +3,7 @@ ghost use Rattle.std.specs.Prelude.{◌≡◌, drop};
 ghost use Rattle.std.specs.List.{prefix_len};
 ghost use Rattle.hwdb_spec.specs.Folders;
 ghost use Rattle.hwdb_spec.specs.Lines.{is_indent};
-ghost use Rattle.hwdb_spec.specs.Properties;
+ghost use Rattle.hwdb_spec_commands.specs.Properties;
 
 use hwdb_text::{begins_with, end_of};
 

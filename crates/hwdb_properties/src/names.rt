@@ -1,6 +1,6 @@
 //! Names that are nearly alike.
 ghost use Rattle.std.specs.Prelude.{◌≡◌};
-ghost use Rattle.hwdb_spec.specs.Properties;
+ghost use Rattle.hwdb_spec_commands.specs.Properties;
 
 use crate::cuts::after_one;
 

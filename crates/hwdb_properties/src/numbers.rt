@@ -1,7 +1,7 @@
 //! Texts that are numbers.
 ghost use Rattle.std.specs.Prelude.{◌≡◌};
 ghost use Rattle.std.specs.List.{list_all};
-ghost use Rattle.hwdb_spec.specs.Properties;
+ghost use Rattle.hwdb_spec_commands.specs.Properties;
 
 use crate::cuts::{after, after_one, before, same, without};
 use hwdb_text::begins_with;

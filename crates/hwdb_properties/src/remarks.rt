@@ -1,14 +1,14 @@
 //! What is said of a property that doesn't fit.
 ghost use Rattle.std.specs.Prelude.{◌≡◌, ◌++◌, [], OnOk};
-ghost use Rattle.hwdb_spec.specs.Properties;
-ghost use Rattle.hwdb_spec.specs.declared.vocabulary.TheConstants.{KEY_HINT, KEY_NAMES, PROPERTIES};
+ghost use Rattle.hwdb_spec_commands.specs.Properties;
+ghost use Rattle.hwdb_spec_commands.specs.declared.vocabulary.TheConstants.{KEY_HINT, KEY_NAMES, PROPERTIES};
 
 use crate::common::is_common;
 use crate::cuts::without;
 use crate::numbers::is_lower_hex;
 use crate::rows::{Likeness, first_row, row_form, word};
 use crate::values::{form_of, is_of_form, odd_value};
-use hwdb_spec::{KEY_HINT, KEY_NAMES, Misuse, PROPERTIES, ValueForm};
+use hwdb_spec_commands::{KEY_HINT, KEY_NAMES, Misuse, PROPERTIES, ValueForm};
 use std::alloc::AllocError;
 
 /// The row of a property.

@@ -1,6 +1,6 @@
 //! The row of a table for a name.
 ghost use Rattle.std.specs.Prelude.{◌≡◌, Bool, List, ℕ, ◌-◌, false, length, drop, true};
-ghost use Rattle.hwdb_spec.specs.Properties;
+ghost use Rattle.hwdb_spec_commands.specs.Properties;
 ghost use Rattle.hwdb_properties.specs.Internal.{passes};
 
 use crate::cuts::{after, before, same};

@@ -1,15 +1,15 @@
 //! Below which prefixes a property is read, and with which others.
 ghost use Rattle.std.specs.Prelude.{◌≡◌};
-ghost use Rattle.hwdb_spec.specs.Properties;
-ghost use Rattle.hwdb_spec.specs.Surroundings;
-ghost use Rattle.hwdb_spec.specs.declared.vocabulary.TheConstants.{COMPANIONS};
+ghost use Rattle.hwdb_spec_commands.specs.Properties;
+ghost use Rattle.hwdb_spec_commands.specs.Surroundings;
+ghost use Rattle.hwdb_spec_commands.specs.declared.vocabulary.TheConstants.{COMPANIONS};
 
 use crate::common::is_common;
 use crate::cuts::same;
 use crate::remarks::property_row;
 use crate::rows::{Likeness, after_word, first_row, row_form, word};
 use crate::values::is_choice;
-use hwdb_spec::COMPANIONS;
+use hwdb_spec_commands::COMPANIONS;
 
 /// The words of a row for the prefixes below which its property is read.
 fn row_prefixes(row: &[u8]) -> &[u8]

@@ -3,12 +3,12 @@ ghost use Rattle.std.specs.Prelude.{◌≡◌};
 ghost use Rattle.std.specs.List.{list_any};
 ghost use Rattle.hwdb_spec.specs.Lines;
 ghost use Rattle.hwdb_spec.specs.Patterns.{in_span};
-ghost use Rattle.hwdb_spec.specs.Properties;
+ghost use Rattle.hwdb_spec_commands.specs.Properties;
 
 use crate::cuts::{after, before, same, without};
 use crate::numbers::{is_byte, is_count, is_decimal, is_integer, is_number};
 use crate::rows::{Likeness, first_row};
-use hwdb_spec::{KEY_NAMES, Misuse, ValueForm};
+use hwdb_spec_commands::{KEY_NAMES, Misuse, ValueForm};
 use hwdb_text::{Pieces, unindented};
 
 /// Whether a text is three decimals with commas between.

@@ -5,7 +5,7 @@ use Rattle.std.specs.List.{find, onto_first, position_or_len, starts_with}
 use Rattle.std.specs.Prelude.{nat_eq}
 use Rattle.hwdb_spec.specs.Folders.{same}
 use Rattle.hwdb_spec.specs.Lines.{is, pieces}
-use Rattle.hwdb_spec.specs.Sysfs.{Ancestor, At, Attribute, first_at, line_with, value_of}
+use Rattle.hwdb_spec_commands.specs.Sysfs.{Ancestor, At, Attribute, first_at, line_with, value_of}
 
 pub value_here : (name : List ℕ) (a : Attribute) (more : List Attribute) → same a.name name ≡ true → value_of name (a ∷ more) ≡ Some a.value
 unfolding value_of

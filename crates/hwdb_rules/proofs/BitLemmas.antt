@@ -2,7 +2,7 @@
 use Rattle.std.proofs.Common.{◌≡◌, ℕ, zero, suc, ◌-◌, ◌+◌, ◌<◌, List, refl, ap, ◌∙◌, sym, arith}
 use Rattle.std.specs.Prelude.{if◌then◌else◌}
 use Rattle.std.specs.List.{after_first}
-use Rattle.hwdb_spec.specs.Inputs.{Bits, after_words, count_bits, has_bit}
+use Rattle.hwdb_spec_commands.specs.Inputs.{Bits, after_words, count_bits, has_bit}
 use Rattle.hwdb_spec.specs.Lines.{is}
 
 pub words_step : (n : ℕ) (mask : List ℕ) → 0 < n → after_words n mask ≡ after_words (n - 1) (after_first (is 32) mask)

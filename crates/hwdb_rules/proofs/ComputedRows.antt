@@ -1,9 +1,9 @@
 -- The worked rows, computed.
 use Rattle.std.proofs.Common.{refl}
-use Rattle.hwdb_spec.specs.Inputs.{after_words, count_bits}
+use Rattle.hwdb_spec_commands.specs.Inputs.{after_words, count_bits}
 use Rattle.hwdb_spec.specs.Lines.{pieces}
-use Rattle.hwdb_spec.specs.Lookups.{asked_in, flag_after, strings_from, told_value}
-use Rattle.hwdb_spec.specs.Sysfs.{cut_back, first_at, replaced, value_of}
+use Rattle.hwdb_spec_commands.specs.Lookups.{asked_in, flag_after, strings_from, told_value}
+use Rattle.hwdb_spec_commands.specs.Sysfs.{cut_back, first_at, replaced, value_of}
 use Rattle.hwdb_rules.specs.Rows.{BatteryRow, CameraRow, KeyboardRow, LongRow, MouseRow, NetRow, PadRow, SensorRow, TaggedRow, UsbRow, WalkRow, WrittenRow}
 
 pub keyboard_row : KeyboardRow

@@ -1,8 +1,8 @@
 -- Rules whose names are long.
 use Rattle.std.proofs.Common.{◌≡◌, ◌++◌, ◌∙◌, Bool, List, [], true, false, refl, ap, sym, append-nil, append_assoc, codes, Option, Some, ℕ}
 use Rattle.std.specs.Option.{option_map_or}
-use Rattle.hwdb_spec.specs.Sysfs.{At, first_of, is_in, is_named}
-use Rattle.hwdb_spec.specs.Lookups.{Lookup, Scene, address_rule, along_bus, ask_one, battery_rules, driver_rule, net_rules, serial_rules, when, battery_text, camera_rules, itself, name_text, named_rules, phys_text}
+use Rattle.hwdb_spec_commands.specs.Sysfs.{At, first_of, is_in, is_named}
+use Rattle.hwdb_spec_commands.specs.Lookups.{Lookup, Scene, address_rule, along_bus, ask_one, battery_rules, driver_rule, net_rules, serial_rules, when, battery_text, camera_rules, itself, name_text, named_rules, phys_text}
 use Rattle.hwdb_rules.specs.Internal.{battery_plan, camera_plan, is_battery, is_video}
 
 battery_when : (s : Scene) → is_battery s ≡ true → battery_rules s ≡ battery_plan s

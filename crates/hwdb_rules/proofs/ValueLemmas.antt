@@ -6,7 +6,7 @@ use Rattle.std.specs.Str.{IsUtf8}
 use Rattle.std.proofs.lemmas.Str.{is_utf8-from_IsUtf8}
 use Rattle.hwdb_spec.specs.Lines.{is_none}
 use Rattle.hwdb_rules.specs.Internal.{kept}
-use Rattle.hwdb_spec.specs.Sysfs.{cut_back, is_left, is_unused, is_used, left_whole, put_for, replaced}
+use Rattle.hwdb_spec_commands.specs.Sysfs.{cut_back, is_left, is_unused, is_used, left_whole, put_for, replaced}
 use Rattle.hwdb_spec.specs.Lemmas.Orders.{not_utf8}
 
 module _ (test : ℕ → Bool) where

@@ -1,8 +1,8 @@
 -- The strings of a walk, one parent after another.
 use Rattle.std.proofs.Common.{◌≡◌, ℕ, suc, ◌+◌, Bool, true, false, Option, None, Some, List, [], ◌∷◌, ◌++◌, length, map, refl, ap, ◌∙◌, sym, arith, append_assoc, append-nil, option_map}
 use Rattle.std.specs.Prelude.{if◌then◌else◌}
-use Rattle.hwdb_spec.specs.Lookups.{Question, is_walked, string_of, strings_from}
-use Rattle.hwdb_spec.specs.Sysfs.{Ancestor, is_usb_device}
+use Rattle.hwdb_spec_commands.specs.Lookups.{Question, is_walked, string_of, strings_from}
+use Rattle.hwdb_spec_commands.specs.Sysfs.{Ancestor, is_usb_device}
 use Rattle.hwdb_rules.specs.Internal.{one_question}
 
 pub no_strings : (subsystem prefix : List ℕ) (place : ℕ) (is_last : Bool) {A : Type 0} (f : A → Ancestor) (list : List A) → length list ≡ 0

@@ -1,10 +1,10 @@
 -- What the proofs of this crate speak of.
 use Rattle.std.specs.Prelude.{Bool, List, ℕ, [], ◌∷◌, ◌++◌, codes, false, if◌then◌else◌}
-use Rattle.hwdb_spec.specs.Inputs.{Bits, has_events}
+use Rattle.hwdb_spec_commands.specs.Inputs.{Bits, has_events}
 use Rattle.hwdb_spec.specs.Lines.{byte}
-use Rattle.hwdb_spec.specs.Lookups.{Lookup, Question, Scene, ask_one, battery_text, camera_text, itself, of_first, upper, is_carrier, is_driven, is_input_on, is_limited, is_no_tablet, is_psmouse}
+use Rattle.hwdb_spec_commands.specs.Lookups.{Lookup, Question, Scene, ask_one, battery_text, camera_text, itself, of_first, upper, is_carrier, is_driven, is_input_on, is_limited, is_no_tablet, is_psmouse}
 use Rattle.hwdb_rules.specs.declared.inputs.Bits.{Bits as OwnedBits}
-use Rattle.hwdb_spec.specs.Sysfs.{Ancestor, At, attribute_is, has_driver, has_text, is_in, is_left, is_line_end, is_named, is_usb_device, is_white, left_whole}
+use Rattle.hwdb_spec_commands.specs.Sysfs.{Ancestor, At, attribute_is, has_driver, has_text, is_in, is_left, is_line_end, is_named, is_usb_device, is_white, left_whole}
 use Rattle.hwdb_sysfs.specs.Views.{ancestor_of}
 use Rattle.hwdb_rules.specs.declared.ancestors.At.{At as FoundAt}
 use Rattle.hwdb_rules.specs.declared.ancestors.Wanted.{Wanted}

@@ -2,8 +2,8 @@
 use Rattle.std.specs.Prelude.{Bool, List, ℕ, [], ◌∷◌, ◌++◌, ◌≡◌, codes, false, filter, if◌then◌else◌, length, map, replicate, true}
 use Rattle.hwdb_spec.specs.Assignment.{Assignment}
 use Rattle.hwdb_spec.specs.Folders.{same}
-use Rattle.hwdb_spec.specs.Lookups.{Found, Told, lookups}
-use Rattle.hwdb_spec.specs.Sysfs.{Ancestor, Attribute, Device, cut_short, is_run, put_in, written}
+use Rattle.hwdb_spec_commands.specs.Lookups.{Found, Told, lookups}
+use Rattle.hwdb_spec_commands.specs.Sysfs.{Ancestor, Attribute, Device, cut_short, is_run, put_in, written}
 
 -- an attribute, as its file has it
 abbrev pub attribute : List ℕ → List ℕ → Attribute

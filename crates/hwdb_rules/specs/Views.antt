@@ -1,8 +1,8 @@
 -- What the types of this crate mean.
 use Rattle.std.specs.Prelude.{List, map}
 use Rattle.hwdb_sysfs.specs.Views.{ancestor_of}
-use Rattle.hwdb_spec.specs.Inputs.{Kinds}
-use Rattle.hwdb_spec.specs.Lookups.{Lookup, Question, Scene}
+use Rattle.hwdb_spec_commands.specs.Inputs.{Kinds}
+use Rattle.hwdb_spec_commands.specs.Lookups.{Lookup, Question, Scene}
 use Rattle.hwdb_rules.specs.declared.inputs.Kinds.{Kinds as SeenKinds}
 use Rattle.hwdb_rules.specs.declared.plans.Plan.{Plan}
 use Rattle.hwdb_rules.specs.declared.plans.Question.{Question as OwnedQuestion}

@@ -1,10 +1,10 @@
 //! A device by itself, and the first of it and its parents that a rule is for.
 ghost use Rattle.std.specs.Prelude.{[], ◌≡◌, map};
 ghost use Rattle.std.specs.Option.{option_map, unwrap_or};
-ghost use Rattle.hwdb_spec.specs.Inputs;
-ghost use Rattle.hwdb_spec.specs.Lookups;
-ghost use Rattle.hwdb_spec.specs.Sysfs;
-ghost use Rattle.hwdb_spec.specs.Sysfs.{first_of, has_text, line_with, value_of};
+ghost use Rattle.hwdb_spec_commands.specs.Inputs;
+ghost use Rattle.hwdb_spec_commands.specs.Lookups;
+ghost use Rattle.hwdb_spec_commands.specs.Sysfs;
+ghost use Rattle.hwdb_spec_commands.specs.Sysfs.{first_of, has_text, line_with, value_of};
 ghost use Rattle.hwdb_sysfs.specs.Views.{ancestor_of, attribute_of};
 ghost use Rattle.hwdb_rules.specs.Internal.{found_at, passes};
 

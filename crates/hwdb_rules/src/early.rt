@@ -1,7 +1,7 @@
 //! The rules of 50-udev-default, 60-dmi-id, 60-evdev and 60-input-id.
 ghost use Rattle.std.specs.Prelude.{◌≡◌, ◌++◌, codes, option_map, IfOk, OnOk};
-ghost use Rattle.hwdb_spec.specs.Lookups;
-ghost use Rattle.hwdb_spec.specs.Lookups.{ask_one};
+ghost use Rattle.hwdb_spec_commands.specs.Lookups;
+ghost use Rattle.hwdb_spec_commands.specs.Lookups.{ask_one};
 ghost use Rattle.hwdb_rules.specs.Views.{plans_of, questions_of, scene_of};
 ghost use Rattle.hwdb_sysfs.specs.Views.{ancestor_of};
 ghost use Rattle.hwdb_rules.specs.Internal.{found_at};

@@ -1,9 +1,9 @@
 //! What kinds of input device udev sees in one: the builtin `input_id`.
 ghost use Rattle.std.specs.Prelude.{◌≡◌, ◌+◌, ◌/◌, ◌%◌, ◌^◌, ◌==◌, ◌<◌, ◌≤◌, false, filter, get_or, if◌then◌else◌, length, map, reverse, IfOk};
-ghost use Rattle.hwdb_spec.specs.Sysfs.{attribute_text};
-ghost use Rattle.hwdb_spec.specs.Inputs;
-ghost use Rattle.hwdb_spec.specs.Inputs.{after_words, count_bits, has_bit, kinds_by_bits, with_bits};
-ghost use Rattle.hwdb_spec.specs.Lookups;
+ghost use Rattle.hwdb_spec_commands.specs.Sysfs.{attribute_text};
+ghost use Rattle.hwdb_spec_commands.specs.Inputs;
+ghost use Rattle.hwdb_spec_commands.specs.Inputs.{after_words, count_bits, has_bit, kinds_by_bits, with_bits};
+ghost use Rattle.hwdb_spec_commands.specs.Lookups;
 ghost use Rattle.hwdb_rules.specs.Views.{kinds_of, scene_of};
 ghost use Rattle.hwdb_sysfs.specs.Views.{ancestor_of};
 ghost use Rattle.hwdb_rules.specs.Internal.{bits_in};

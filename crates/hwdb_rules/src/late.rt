@@ -1,6 +1,6 @@
 //! The rules from 70-camera to 78-sound-card.
 ghost use Rattle.std.specs.Prelude.{◌≡◌, ◌++◌, codes, option_map, IfOk, OnOk};
-ghost use Rattle.hwdb_spec.specs.Lookups;
+ghost use Rattle.hwdb_spec_commands.specs.Lookups;
 ghost use Rattle.hwdb_rules.specs.Views.{kinds_of, plans_of, questions_of, scene_of};
 ghost use Rattle.hwdb_rules.specs.Internal.{camera_plan, found_at, is_video};
 

@@ -32,7 +32,7 @@ mod walks;
 
 pub use ancestors::first_text;
 pub use early::{early_rules, input_id_rules};
-pub use hwdb_spec::ATTRIBUTES;
+pub use hwdb_spec_commands::ATTRIBUTES;
 pub use inputs::{Kinds, kinds_seen};
 pub use late::late_rules;
 pub use laws::lookup_rows;

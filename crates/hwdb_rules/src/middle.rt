@@ -1,6 +1,6 @@
 //! The rules of 60-sensor and 60-serial, and of the packages upower and libwacom.
 ghost use Rattle.std.specs.Prelude.{◌≡◌, ◌++◌, codes, option_map, IfOk, OnOk};
-ghost use Rattle.hwdb_spec.specs.Lookups;
+ghost use Rattle.hwdb_spec_commands.specs.Lookups;
 ghost use Rattle.hwdb_rules.specs.Views.{kinds_of, plans_of, questions_of, scene_of};
 ghost use Rattle.hwdb_rules.specs.Internal.{battery_plan, found_at, is_battery};
 ghost use Rattle.hwdb_sysfs.specs.Views.{ancestor_of};

@@ -1,6 +1,6 @@
 //! Strings that are to be asked.
 ghost use Rattle.std.specs.Prelude.{◌≡◌, ◌++◌, ◌∷◌, [], OnOk};
-ghost use Rattle.hwdb_spec.specs.Lookups.{ask_one, question_at};
+ghost use Rattle.hwdb_spec_commands.specs.Lookups.{ask_one, question_at};
 ghost use Rattle.hwdb_rules.specs.Views.{plans_of, questions_of};
 ghost use Rattle.hwdb_rules.specs.Internal.{found_at, one_plan, one_question};
 

@@ -1,9 +1,9 @@
 //! What a rule sees of a device, and strings of its parts.
 ghost use Rattle.std.specs.Prelude.{◌≡◌, ◌++◌, ◌∷◌, [], codes, option_map, IfOk, OnOk};
 ghost use Rattle.std.specs.Option.{option_or, unwrap_or};
-ghost use Rattle.hwdb_spec.specs.Lookups;
-ghost use Rattle.hwdb_spec.specs.Lookups.{attr, ids_and_name};
-ghost use Rattle.hwdb_spec.specs.Sysfs.{attribute_text, cut_short};
+ghost use Rattle.hwdb_spec_commands.specs.Lookups;
+ghost use Rattle.hwdb_spec_commands.specs.Lookups.{attr, ids_and_name};
+ghost use Rattle.hwdb_spec_commands.specs.Sysfs.{attribute_text, cut_short};
 ghost use Rattle.hwdb_rules.specs.Views.{scene_of};
 ghost use Rattle.hwdb_sysfs.specs.Views.{ancestor_of};
 ghost use Rattle.hwdb_rules.specs.Internal.{found_at};

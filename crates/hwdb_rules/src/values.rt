@@ -2,8 +2,8 @@
 ghost use Rattle.std.specs.Prelude.{◌≡◌, ◌++◌, ◌≤◌, ◌<◌, drop, get_or, length, take, OnOk};
 ghost use Rattle.hwdb_spec.specs.Folders;
 ghost use Rattle.hwdb_spec.specs.Lines;
-ghost use Rattle.hwdb_spec.specs.Sysfs;
-ghost use Rattle.hwdb_spec.specs.Sysfs.{cut_back, cut_short, left_whole, put_in, replaced, written};
+ghost use Rattle.hwdb_spec_commands.specs.Sysfs;
+ghost use Rattle.hwdb_spec_commands.specs.Sysfs.{cut_back, cut_short, left_whole, put_in, replaced, written};
 ghost use Rattle.hwdb_rules.specs.Internal.{is_cut, kept};
 
 use std::alloc::AllocError;

@@ -1,8 +1,8 @@
 //! Walks: the strings of a device and its parents, from it up.
 ghost use Rattle.std.specs.Prelude.{◌≡◌, ◌++◌, ◌+◌, ◌<◌, ◌^◌, false, true, if◌then◌else◌, length, map, option_map, IfOk, OnOk};
-ghost use Rattle.hwdb_spec.specs.Sysfs;
-ghost use Rattle.hwdb_spec.specs.Lookups;
-ghost use Rattle.hwdb_spec.specs.Lookups.{strings_from, upper, walk, when};
+ghost use Rattle.hwdb_spec_commands.specs.Sysfs;
+ghost use Rattle.hwdb_spec_commands.specs.Lookups;
+ghost use Rattle.hwdb_spec_commands.specs.Lookups.{strings_from, upper, walk, when};
 ghost use Rattle.hwdb_rules.specs.Views.{plans_of, questions_of, scene_of};
 ghost use Rattle.hwdb_sysfs.specs.Views.{ancestor_of};
 ghost use Rattle.hwdb_rules.specs.Internal.{usb_text_of};

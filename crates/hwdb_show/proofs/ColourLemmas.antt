@@ -3,13 +3,13 @@ use Rattle.std.proofs.Common.{◌≡◌, ◌≢◌, ◌∙◌, ◌++◌, ◌∷�
 use Rattle.std.specs.Prelude.{◌==◌, if◌then◌else◌}
 use Rattle.std.proofs.lemmas.List.{append-nil}
 use Rattle.std.proofs.lemmas.List.Elements.{All-head, All-tail}
-use Rattle.hwdb_spec.specs.Colours.{is_same, painted_after, part_at, plain, sequence, style_of, styled_after, turn, without_sequences}
-use Rattle.hwdb_spec.specs.declared.colours.LinePart.{LinePart}
-use Rattle.hwdb_spec.specs.declared.colours.LinePart.TheVariants as part
-use Rattle.hwdb_spec.specs.declared.colours.Style.{Style}
-use Rattle.hwdb_spec.specs.declared.colours.Style.TheVariants as style
-use Rattle.hwdb_spec.specs.declared.colours.TextKind.{TextKind}
-use Rattle.hwdb_spec.specs.declared.colours.TextKind.TheVariants as text
+use Rattle.hwdb_spec_commands.specs.Colours.{is_same, painted_after, part_at, plain, sequence, style_of, styled_after, turn, without_sequences}
+use Rattle.hwdb_spec_commands.specs.declared.colours.LinePart.{LinePart}
+use Rattle.hwdb_spec_commands.specs.declared.colours.LinePart.TheVariants as part
+use Rattle.hwdb_spec_commands.specs.declared.colours.Style.{Style}
+use Rattle.hwdb_spec_commands.specs.declared.colours.Style.TheVariants as style
+use Rattle.hwdb_spec_commands.specs.declared.colours.TextKind.{TextKind}
+use Rattle.hwdb_spec_commands.specs.declared.colours.TextKind.TheVariants as text
 
 pub same_bytes : (kind : TextKind) (before : LinePart) (bytes : List ℕ) → plain (styled_after kind before bytes) ≡ bytes
 same_bytes kind before [] = refl

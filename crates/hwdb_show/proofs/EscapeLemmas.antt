@@ -4,7 +4,7 @@ use Rattle.std.specs.Prelude.{get_or, if◌then◌else◌, slice_index}
 use Rattle.std.specs.List.{list_all}
 use Rattle.std.proofs.lemmas.List.{append-nil, drop-drop, drop_all, length-drop}
 use Rattle.std.proofs.str.Laws.{both}
-use Rattle.hwdb_spec.specs.Json.{begins_control, escaped_after, escaped_byte, escaped_code}
+use Rattle.hwdb_spec_commands.specs.Json.{begins_control, escaped_after, escaped_byte, escaped_code}
 use Rattle.hwdb_spec.specs.Patterns.{in_span}
 use Rattle.hwdb_show.specs.Escapes.{is_clean}
 

@@ -17,7 +17,7 @@ use Rattle.hex.specs.Hex.{IsBytes, encode_with, lower_digits}
 use Rattle.std.proofs.lemmas.Bool.{cases_lt, leb-true}
 use Rattle.hwdb_show.specs.Lemmas.Names.{implied, implies, refuted, upto_sound}
 use Rattle.hwdb_spec.specs.Patterns.{in_span}
-use Rattle.hwdb_spec.specs.Json.{escaped_after}
+use Rattle.hwdb_spec_commands.specs.Json.{escaped_after}
 use Rattle.hwdb_show.specs.Rows.{Rows}
 use Rattle.hwdb_spec.specs.Lemmas.Orders.{not_utf8}
 use Rattle.hwdb_spec.specs.Visible.{are_kept, first_bytes, hex_byte, is_kept, is_layout, shown_as, visible_after}

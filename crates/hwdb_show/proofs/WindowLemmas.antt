@@ -4,7 +4,7 @@ use Rattle.std.proofs.lemmas.Bool.{lt-ltb, le-ltb, ltb-false, ltb-true}
 use Rattle.std.proofs.lemmas.List.{get_or-drop, get_or-take, length-drop, length-take, take_all}
 use Rattle.std.proofs.lemmas.Grind.{flat_map-append}
 use Rattle.hwdb_spec.specs.Lines.{byte}
-use Rattle.hwdb_spec.specs.Reports.{above_mark, back_cut, front_cut, shown, shown_byte, window, window_start}
+use Rattle.hwdb_spec_commands.specs.Reports.{above_mark, back_cut, front_cut, shown, shown_byte, window, window_start}
 use Rattle.hwdb_show.specs.Laws.{FittingIsWhole, FrontIsShown, MarkIsAtEnd, MarkIsBelowByte, WindowRow}
 
 pub window_row : WindowRow

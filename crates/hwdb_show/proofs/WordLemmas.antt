@@ -3,7 +3,7 @@ use Rattle.std.proofs.Common.{◌≡◌, ◌∙◌, ap, refl, sym, subst, cond, 
 use Rattle.std.specs.Prelude.{◌==◌, ◌||◌, codes}
 use Rattle.std.specs.List.{list_all, list_any}
 use Rattle.std.proofs.str.Laws.{both}
-use Rattle.hwdb_spec.specs.Commands.{is_bare_byte, quoted, quoted_byte, shell_word}
+use Rattle.hwdb_spec_commands.specs.Commands.{is_bare_byte, quoted, quoted_byte, shell_word}
 use Rattle.hwdb_spec.specs.Lines.{byte, has, is, is_none}
 use Rattle.hwdb_show.specs.Shell.{Place, WordRows, WordsAreRead, read_from, special_bytes}
 use Rattle.hwdb_show.specs.Shell.Place.{Escaped, Outside, Quoted}

@@ -1,7 +1,7 @@
 -- What the laws say of a line that is shown, and of the mark below it.
 use Rattle.std.specs.Prelude.{List, [], ◌∷◌, ◌++◌, ◌<◌, ◌≤◌, ◌≡◌, codes, get_or, length, replicate, take, ℕ}
 use Rattle.hwdb_spec.specs.Lines.{byte}
-use Rattle.hwdb_spec.specs.Reports.{mark_line, max_shown, shown, shown_byte, shown_line, spaces}
+use Rattle.hwdb_spec_commands.specs.Reports.{mark_line, max_shown, shown, shown_byte, shown_line, spaces}
 
 -- The mark is below the byte of its place. Before that byte the shown line has as many bytes as the mark's line has spaces.
 abbrev pub MarkIsBelowByte : Type 0

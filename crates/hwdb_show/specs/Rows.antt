@@ -1,7 +1,7 @@
 -- Worked rows: what is shown of some bytes. Which characters are for control, and their bytes, are from ECMA-48 (C0, C1) and
 -- the tables of Unicode.
 use Rattle.std.specs.Prelude.{◌≡◌, ◌∷◌, ◌++◌, [], codes}
-use Rattle.hwdb_spec.specs.Json.{escaped}
+use Rattle.hwdb_spec_commands.specs.Json.{escaped}
 use Rattle.hwdb_spec.specs.Visible.{shown_name, visible}
 
 pub record Rows : Type 0 where

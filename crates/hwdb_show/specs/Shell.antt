@@ -1,7 +1,7 @@
 -- What the laws say of a word of a shell: how a shell reads it (POSIX, Shell Command Language, 2.2).
 use Rattle.std.specs.Prelude.{List, [], ◌∷◌, ◌++◌, ◌==◌, ◌≡◌, None, Option, Some, codes, false, if◌then◌else◌, option_map, true, ℕ}
 use Rattle.std.specs.List.{list_any}
-use Rattle.hwdb_spec.specs.Commands.{is_bare_byte, removing_words, shell_word, update_words}
+use Rattle.hwdb_spec_commands.specs.Commands.{is_bare_byte, removing_words, shell_word, update_words}
 use Rattle.hwdb_spec.specs.Lines.{byte, has}
 
 -- where a shell is in a word: outside of quotes, between single quotes, or after a `\`

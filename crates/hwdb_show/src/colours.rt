@@ -1,8 +1,8 @@
 //! Texts in colour.
 ghost use Rattle.std.specs.Prelude.{◌≡◌, ◌≢◌, ◌++◌, ℕ, All, List, IfOk, OnOk, false};
-ghost use Rattle.hwdb_spec.specs.Colours.{at, first_part, is_same, next_part, painted, part_at, part_in_line, plain, sequence, style_of, styled, turn, without_sequences};
+ghost use Rattle.hwdb_spec_commands.specs.Colours.{at, first_part, is_same, next_part, painted, part_at, part_in_line, plain, sequence, style_of, styled, turn, without_sequences};
 
-use hwdb_spec::{LinePart, Style, TextKind};
+use hwdb_spec_commands::{LinePart, Style, TextKind};
 use std::alloc::{AllocError, Global};
 
 /// A part is left at a byte for another one.

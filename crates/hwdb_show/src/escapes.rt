@@ -2,8 +2,8 @@
 ghost use Rattle.std.specs.Prelude.{◌≡◌, ◌<◌, ◌+◌, ◌++◌, drop, length, IfOk, OnOk};
 ghost use Rattle.std.specs.List.{list_all};
 ghost use Rattle.hwdb_show.specs.Escapes.{is_clean};
-ghost use Rattle.hwdb_spec.specs.Json;
-ghost use Rattle.hwdb_spec.specs.Json.{escaped_after, escaped_code};
+ghost use Rattle.hwdb_spec_commands.specs.Json;
+ghost use Rattle.hwdb_spec_commands.specs.Json.{escaped_after, escaped_code};
 
 use crate::shown::DIGITS;
 use std::alloc::{AllocError, Global};

@@ -4,7 +4,7 @@ ghost use Rattle.json.specs.Json.{boolean};
 ghost use Rattle.json.specs.Print.{print};
 ghost use Rattle.json.specs.Tree.{json_tokens};
 ghost use Rattle.hwdb_spec.specs.Lines.{byte};
-ghost use Rattle.hwdb_spec.specs.Json.{text_json, number_json, array_of, escaped};
+ghost use Rattle.hwdb_spec_commands.specs.Json.{text_json, number_json, array_of, escaped};
 ghost use Rattle.hwdb_show.specs.JsonTokens.{tokens_of_member};
 
 use crate::escapes::escaped;

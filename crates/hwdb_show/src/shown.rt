@@ -2,8 +2,8 @@
 ghost use Rattle.std.specs.Prelude.{◌≡◌, ◌≤◌, ◌++◌, ◌∷◌, [], codes, drop, take, IfOk, OnOk};
 ghost use Rattle.hex.specs.Hex.{encode_lower};
 ghost use Rattle.hwdb_spec.specs.Patterns.{in_span};
-ghost use Rattle.hwdb_spec.specs.Reports;
-ghost use Rattle.hwdb_spec.specs.Reports.{back_cut, front_cut, mark_line, shown, shown_byte, shown_line, spaces};
+ghost use Rattle.hwdb_spec_commands.specs.Reports;
+ghost use Rattle.hwdb_spec_commands.specs.Reports.{back_cut, front_cut, mark_line, shown, shown_byte, shown_line, spaces};
 
 use std::alloc::{AllocError, Global};
 

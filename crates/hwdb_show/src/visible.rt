@@ -3,7 +3,7 @@ ghost use Rattle.std.specs.Prelude.{◌≡◌, ◌<◌, ◌≤◌, ◌+◌, ◌+
 ghost use Rattle.std.specs.List.{list_all};
 ghost use Rattle.std.specs.Str.{continuation_len};
 ghost use Rattle.hex.specs.Hex.{IsBytes};
-ghost use Rattle.hwdb_spec.specs.Colours.{painted, without_sequences};
+ghost use Rattle.hwdb_spec_commands.specs.Colours.{painted, without_sequences};
 ghost use Rattle.hwdb_spec.specs.Outputs.{CutShort, Took};
 ghost use Rattle.hwdb_spec.specs.Patterns.{in_span};
 ghost use Rattle.hwdb_spec.specs.Visible.{are_kept, hex_byte, is_kept, shown_as, shown_name, visible, visible_after};
@@ -11,7 +11,8 @@ ghost use Rattle.hwdb_show.specs.Rows.{Rows};
 
 use crate::shown::{DIGITS, is_printed, push_digits};
 use hwdb_io::{Sink, write_text};
-use hwdb_spec::{DeviceFailed, TextKind};
+use hwdb_spec::DeviceFailed;
+use hwdb_spec_commands::TextKind;
 use std::alloc::AllocError;
 
 /// Whether a character is kept as it is.

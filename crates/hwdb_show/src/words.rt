@@ -1,8 +1,8 @@
 //! Words of a shell, as commands that are told have them.
 ghost use Rattle.std.specs.Prelude.{◌≡◌, ◌++◌, codes, flat_map, OnOk};
 ghost use Rattle.std.specs.List.{list_all};
-ghost use Rattle.hwdb_spec.specs.Commands;
-ghost use Rattle.hwdb_spec.specs.Commands.{quoted, quoted_byte, shell_word};
+ghost use Rattle.hwdb_spec_commands.specs.Commands;
+ghost use Rattle.hwdb_spec_commands.specs.Commands.{quoted, quoted_byte, shell_word};
 ghost use Rattle.hwdb_spec.specs.Lines.{has};
 
 use std::alloc::AllocError;

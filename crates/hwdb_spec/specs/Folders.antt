@@ -1,7 +1,7 @@
 -- Which files of two folders count, after hwdb(7). A file of /etc masks that of the same name in /usr/lib, and all are
 -- ordered by name, whatever folder they are in. Then what they assign together, and when they are accepted. Which names
 -- count is our choice but for the ending, and so are the limits.
-use Rattle.std.specs.Prelude.{Bool, List, codes, false, nat_eq, not, ℕ, if◌then◌else◌, [], ◌∷◌, filter, ◌++◌, count_by, ◌+◌, map, flat_map, length, ◌≤◌, ◌<◌, All, Any}
+use Rattle.std.specs.Prelude.{Bool, List, codes, false, nat_eq, not, ℕ, if◌then◌else◌, [], ◌∷◌, filter, ◌++◌, count_by, ◌+◌, ◌-◌, ◌^◌, map, min, flat_map, length, ◌≤◌, ◌<◌, All, Any}
 use Rattle.std.specs.List.{ends_with, list_any}
 use Rattle.std.specs.Ordering.{is_lt, is_eq}
 use Rattle.hwdb_spec.specs.Lines.{begins_with, byte, has, lines}
@@ -105,3 +105,7 @@ pub record AreAccepted (etc usr : List Source) : Type 0 where
 pub record HaveManyLines (etc usr : List Source) : Type 0 where
   pub files : length (chosen_of etc usr) ≤ max_files
   pub lines : Any (λ c. max_lines < length (lines (contents etc usr c))) (chosen_of etc usr)
+
+-- a number, or the greatest one of 64 bits if it is larger
+abbrev pub within_64_bits : ℕ → ℕ
+within_64_bits n = min n (2 ^ 64 - 1)

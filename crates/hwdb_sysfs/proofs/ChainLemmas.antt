@@ -4,7 +4,7 @@ use Rattle.std.proofs.lemmas.List.{reverse-append, reverse-reverse, take_all, ta
 use Rattle.std.proofs.lemmas.List.Elements.{filter_map-append}
 use Rattle.std.specs.List.{cons_option}
 use Rattle.std.specs.Prelude.{filter_map}
-use Rattle.hwdb_spec.specs.DeviceTree.{above}
+use Rattle.hwdb_spec_commands.specs.DeviceTree.{above}
 use Rattle.hwdb_spec.specs.Lines.{byte}
 use Rattle.hwdb_sysfs.specs.Internal.{folder_before}
 

@@ -1,7 +1,7 @@
 -- Names as a set.
 use Rattle.std.proofs.Common.{◌≡◌, ℕ, List, [], ◌∷◌, refl, Bool, true, false, filter}
 use Rattle.hwdb_spec.specs.Assignment.{put_all, text_cmp}
-use Rattle.hwdb_spec.specs.SysfsAnswers.{leads_on}
+use Rattle.hwdb_spec_commands.specs.SysfsAnswers.{leads_on}
 
 entry_by : (b : Bool) (name : List ℕ) (rest kept : List (List ℕ)) → leads_on name ≡ b
     → put_all text_cmp (filter leads_on (name ∷ rest)) kept ≡ put_all text_cmp (filter leads_on rest) (put_all text_cmp (filter leads_on (name ∷ [])) kept)

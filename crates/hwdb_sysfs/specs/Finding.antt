@@ -1,8 +1,8 @@
 -- Why no device is found, and which error comes first. Our choice.
 use Rattle.std.specs.Prelude.{◌≡◌, ℕ, List, ◌++◌, IfSome, None, Option, Some, true, Err, is_some, option_map}
-use Rattle.hwdb_spec.specs.DeviceTree.{absolute, device_for, missing_folder, unread_for}
+use Rattle.hwdb_spec_commands.specs.DeviceTree.{absolute, device_for, missing_folder, unread_for}
 use Rattle.hwdb_spec.specs.Lines.{byte, has}
-use Rattle.hwdb_spec.specs.SysfsAnswers.{Answers, IsUnreadFor, seen}
+use Rattle.hwdb_spec_commands.specs.SysfsAnswers.{Answers, IsUnreadFor, seen}
 use Rattle.hwdb_sysfs.specs.declared.finding.Unfound.{Unfound}
 use Rattle.hwdb_sysfs.specs.declared.unread.UnreadPath.{UnreadPath as Found}
 use Rattle.hwdb_sysfs.specs.declared.finding.Unfound.TheVariants.{Memory, NoSysfs, Untold, Unread, NoDevice}

@@ -2,7 +2,7 @@
 -- in the file of `mouse2`. What the definitions give when they are computed.
 use Rattle.std.specs.Prelude.{◌≡◌, ℕ, List, [], ◌∷◌, Option, Some, None, codes, find, map, option_map, false}
 use Rattle.std.specs.Option.{option_map_or}
-use Rattle.hwdb_spec.specs.DeviceTree.{Node, Sight, all_links, device_at, device_for, kernel_name, last_name, major, minor, missing_folder, near_name, sysfs_below, unread_for}
+use Rattle.hwdb_spec_commands.specs.DeviceTree.{Node, Sight, all_links, device_at, device_for, kernel_name, last_name, major, minor, missing_folder, near_name, sysfs_below, unread_for}
 use Rattle.hwdb_spec.specs.Folders.{same}
 
 -- what is beside a text in a table

@@ -1,10 +1,10 @@
 -- What a tree in memory answers: the first row of a path says what it leads to.
 use Rattle.std.specs.Prelude.{ℕ, List, Bool, true, false, Option, Some, None, Result, Ok, Err, find, if◌then◌else◌, length, nat_le, pos}
-use Rattle.hwdb_spec.specs.DeviceTree.{Node}
+use Rattle.hwdb_spec_commands.specs.DeviceTree.{Node}
 use Rattle.hwdb_spec.specs.Folders.{same}
 use Rattle.hwdb_spec.specs.declared.causes.Cause.{Cause}
 use Rattle.hwdb_spec.specs.declared.causes.Cause.TheVariants.{System, Unknown}
-use Rattle.hwdb_spec.specs.SysfsAnswers.{Answers}
+use Rattle.hwdb_spec_commands.specs.SysfsAnswers.{Answers}
 use Rattle.hwdb_sysfs.specs.Views.{node_of}
 use Rattle.hwdb_sysfs.specs.declared.table.Row.{Row}
 use Rattle.hwdb_sysfs.specs.declared.table.Thing.{Thing}

@@ -1,7 +1,7 @@
 -- What the types of this crate mean.
 use Rattle.std.specs.Prelude.{map}
-use Rattle.hwdb_spec.specs.DeviceTree.{Node}
-use Rattle.hwdb_spec.specs.Sysfs.{Ancestor, Attribute, Device}
+use Rattle.hwdb_spec_commands.specs.DeviceTree.{Node}
+use Rattle.hwdb_spec_commands.specs.Sysfs.{Ancestor, Attribute, Device}
 use Rattle.hwdb_sysfs.specs.declared.device.Ancestor.{Ancestor as Read}
 use Rattle.hwdb_sysfs.specs.declared.device.Attribute.{Attribute as ReadAttribute}
 use Rattle.hwdb_sysfs.specs.declared.device.Device.{Device as ReadDevice}

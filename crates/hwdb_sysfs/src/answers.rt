@@ -1,8 +1,8 @@
 //! What is made of the answers of a file system: what can't be told is as if it weren't there, unless there was no memory.
 ghost use Rattle.std.specs.Prelude.{◌≡◌, ◌≢◌, ◌≤◌, None, Ok, IfOk, IfSome, length, option_map};
 ghost use Rattle.hwdb_spec.specs.declared.causes.Cause.TheVariants.{Memory};
-ghost use Rattle.hwdb_spec.specs.DeviceTree as tree;
-ghost use Rattle.hwdb_spec.specs.SysfsAnswers.{seen, told};
+ghost use Rattle.hwdb_spec_commands.specs.DeviceTree as tree;
+ghost use Rattle.hwdb_spec_commands.specs.SysfsAnswers.{seen, told};
 ghost use Rattle.hwdb_sysfs.specs.Views.{node_of};
 
 use crate::files::{DeviceFiles, DeviceNode};

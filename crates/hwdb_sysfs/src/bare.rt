@@ -1,5 +1,5 @@
 //! A store in memory as it is asked for devices: it has files alone, and no sysfs.
-ghost use Rattle.hwdb_spec.specs.SysfsAnswers.{nothing_there};
+ghost use Rattle.hwdb_spec_commands.specs.SysfsAnswers.{nothing_there};
 
 use crate::files::{DeviceFiles, DeviceNode, NO_ENTRY};
 use hwdb_io::Cause;

@@ -1,6 +1,6 @@
 //! What a file system answers of devices, call by call, and nothing decided.
 ghost use Rattle.std.specs.Prelude.{◌≡◌, ◌≤◌, ◌⊎◌, ℕ, IfOk, List, Ok, Option, Result, length, option_map, true};
-ghost use Rattle.hwdb_spec.specs.SysfsAnswers.{Answers, IsTold};
+ghost use Rattle.hwdb_spec_commands.specs.SysfsAnswers.{Answers, IsTold};
 ghost use Rattle.hwdb_sysfs.specs.Views.{node_of};
 
 use hwdb_io::Cause;

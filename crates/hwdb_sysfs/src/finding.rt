@@ -1,10 +1,10 @@
 //! The device that is meant by a path or a name.
 ghost use Rattle.std.specs.Prelude.{ℕ, List, is_some, ◌≡◌, ◌++◌, ◌∷◌, [], None, Some, IfErr, IfOk, OnOk, codes, map, option_map, true};
 ghost use Rattle.std.specs.Option.{option_map_or};
-ghost use Rattle.hwdb_spec.specs.DeviceTree as tree;
+ghost use Rattle.hwdb_spec_commands.specs.DeviceTree as tree;
 ghost use Rattle.hwdb_spec.specs.Lines.{byte, has};
 ghost use Rattle.hwdb_spec.specs.Store as store;
-ghost use Rattle.hwdb_spec.specs.SysfsAnswers.{seen};
+ghost use Rattle.hwdb_spec_commands.specs.SysfsAnswers.{seen};
 ghost use Rattle.hwdb_sysfs.specs.Finding.{IsMissing, IsNone, IsNoSysfs, IsUnfound, IsUnread, LeadsAstray};
 ghost use Rattle.hwdb_sysfs.specs.Views.{node_of};
 ghost use Rattle.hwdb_sysfs.specs.declared.finding.Unfound.TheVariants.{Memory};
@@ -186,7 +186,7 @@ fn push_named<F: DeviceFiles>(
 }
 
 /// The first of some paths at which a device is.
-#[tactic(auto, unfolding(hwdb_spec::specs::DeviceTree::first_given))]
+#[tactic(auto, unfolding(hwdb_spec_commands::specs::DeviceTree::first_given))]
 fn first_device<F: DeviceFiles>(
     alloc: Global,
     files: &F,
@@ -208,7 +208,7 @@ fn first_device<F: DeviceFiles>(
 }
 
 /// What can't be read first of some paths at which a device may be.
-#[tactic(auto, unfolding(hwdb_spec::specs::DeviceTree::first_given))]
+#[tactic(auto, unfolding(hwdb_spec_commands::specs::DeviceTree::first_given))]
 fn first_unread<F: DeviceFiles>(
     alloc: Global,
     files: &F,

@@ -1,7 +1,7 @@
 //! The paths of all devices.
 ghost use Rattle.std.specs.Prelude.{◌≡◌, ◌++◌, IfOk, OnOk, map};
-ghost use Rattle.hwdb_spec.specs.DeviceTree as tree;
-ghost use Rattle.hwdb_spec.specs.SysfsAnswers.{seen};
+ghost use Rattle.hwdb_spec_commands.specs.DeviceTree as tree;
+ghost use Rattle.hwdb_spec_commands.specs.SysfsAnswers.{seen};
 
 use crate::files::DeviceFiles;
 use crate::finding::folders_with_links;

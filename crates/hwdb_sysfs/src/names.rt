@@ -1,8 +1,8 @@
 //! The names in a folder.
 ghost use Rattle.std.specs.Prelude.{◌≡◌, ◌∷◌, [], IfOk, OnOk, filter, map};
 ghost use Rattle.hwdb_spec.specs.Assignment.{in_order, put, put_all, text_cmp};
-ghost use Rattle.hwdb_spec.specs.DeviceTree.{names_in};
-ghost use Rattle.hwdb_spec.specs.SysfsAnswers.{leads_on, names_listed, seen};
+ghost use Rattle.hwdb_spec_commands.specs.DeviceTree.{names_in};
+ghost use Rattle.hwdb_spec_commands.specs.SysfsAnswers.{leads_on, names_listed, seen};
 
 use crate::answers::{listing_at, place_of};
 use crate::files::DeviceFiles;

@@ -1,7 +1,7 @@
 //! The name that is near one which no device has.
 ghost use Rattle.std.specs.Prelude.{◌≡◌, ◌≤◌, IfOk, length, map};
-ghost use Rattle.hwdb_spec.specs.DeviceTree as tree;
-ghost use Rattle.hwdb_spec.specs.SysfsAnswers.{seen};
+ghost use Rattle.hwdb_spec_commands.specs.DeviceTree as tree;
+ghost use Rattle.hwdb_spec_commands.specs.SysfsAnswers.{seen};
 
 use crate::files::DeviceFiles;
 use crate::finding::folders_with_links;
@@ -9,7 +9,7 @@ use crate::names::names_in;
 use std::alloc::{AllocError, Global};
 
 /// How many bytes two texts begin with alike.
-#[tactic(auto, unfolding(hwdb_spec::specs::DeviceTree::alike))]
+#[tactic(auto, unfolding(hwdb_spec_commands::specs::DeviceTree::alike))]
 fn alike(one: &[u8], other: &[u8]) -> usize
     ensures alike { result ≡ tree.alike one.now other.now }
     ensures within { result ≤ length one.now }
@@ -38,7 +38,7 @@ fn nearer(alloc: Global, wanted: &[u8], before: Vec<u8>, name: &[u8]) -> Result<
 }
 
 /// The nearest of some names, and of one before them.
-#[tactic(auto, unfolding(hwdb_spec::specs::DeviceTree::nearest_of))]
+#[tactic(auto, unfolding(hwdb_spec_commands::specs::DeviceTree::nearest_of))]
 fn nearest_of(
     alloc: Global,
     wanted: &[u8],
@@ -60,7 +60,7 @@ fn nearest_of(
 /// The name in a class or at a bus that begins most as the one that is wanted, which no device has. Empty if none begins as it does.
 ///
 /// The only error is want of memory. Looks into each class and bus once.
-#[tactic(auto, unfolding(hwdb_spec::specs::DeviceTree::nearest_of))]
+#[tactic(auto, unfolding(hwdb_spec_commands::specs::DeviceTree::nearest_of))]
 pub fn near_name<F: DeviceFiles>(
     alloc: Global,
     files: &F,

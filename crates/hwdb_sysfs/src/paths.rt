@@ -1,6 +1,6 @@
 //! Names and folders of a path.
 ghost use Rattle.std.specs.Prelude.{◌≡◌, ◌++◌, IfOk, drop, length};
-ghost use Rattle.hwdb_spec.specs.DeviceTree as tree;
+ghost use Rattle.hwdb_spec_commands.specs.DeviceTree as tree;
 ghost use Rattle.hwdb_spec.specs.Store as store;
 
 use hwdb_text::Pieces;
@@ -26,7 +26,7 @@ pub fn path_in(alloc: Global, folder: &[u8], name: &[u8]) -> Result<Vec<u8>, All
 }
 
 /// The last name of a path.
-#[tactic(auto, unfolding(hwdb_spec::specs::DeviceTree::last_after, hwdb_spec::specs::Lines::pieces))]
+#[tactic(auto, unfolding(hwdb_spec_commands::specs::DeviceTree::last_after, hwdb_spec::specs::Lines::pieces))]
 pub fn last_name(path: &[u8]) -> &[u8]
     ensures { result.now ≡ tree.last_name path.now }
 {

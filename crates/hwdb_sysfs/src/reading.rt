@@ -2,10 +2,10 @@
 ghost use Rattle.std.specs.Prelude.{◌≡◌, ◌++◌, ◌∷◌, [], ◌<◌, codes, IfOk, OnOk, filter_map, length, map, option_map, reverse};
 ghost use Rattle.std.specs.List.{cons_option};
 ghost use Rattle.std.specs.Option.{unwrap_or};
-ghost use Rattle.hwdb_spec.specs.DeviceTree as tree;
+ghost use Rattle.hwdb_spec_commands.specs.DeviceTree as tree;
 ghost use Rattle.hwdb_spec.specs.Store as store;
 ghost use Rattle.hwdb_spec.specs.Lines.{is, pieces};
-ghost use Rattle.hwdb_spec.specs.SysfsAnswers.{seen};
+ghost use Rattle.hwdb_spec_commands.specs.SysfsAnswers.{seen};
 ghost use Rattle.hwdb_sysfs.specs.Internal.{folder_before};
 ghost use Rattle.hwdb_sysfs.specs.Views.{ancestor_of, attribute_of, device_of};
 

@@ -1,6 +1,6 @@
 //! A tree in memory that tells its answers, for laws and tests: what is at each path.
 ghost use Rattle.std.specs.Prelude.{◌≡◌, ◌≤◌, IfOk, Ok, length, option_map};
-ghost use Rattle.hwdb_spec.specs.SysfsAnswers.{IsTold};
+ghost use Rattle.hwdb_spec_commands.specs.SysfsAnswers.{IsTold};
 ghost use Rattle.hwdb_sysfs.specs.Tables.{answers_of, page_if, row_at};
 
 use crate::files::{DeviceFiles, DeviceNode, NO_ENTRY};

@@ -1,8 +1,8 @@
 //! What can't be read, so that it can't be told whether a device is there.
 ghost use Rattle.std.specs.Prelude.{◌≡◌, ◌≢◌, IfOk, IfSome, None, Ok, Some, if◌then◌else◌, option_map, true};
 ghost use Rattle.hwdb_spec.specs.declared.causes.Cause.TheVariants.{Memory};
-ghost use Rattle.hwdb_spec.specs.DeviceTree as tree;
-ghost use Rattle.hwdb_spec.specs.SysfsAnswers.{is_nowhere, seen};
+ghost use Rattle.hwdb_spec_commands.specs.DeviceTree as tree;
+ghost use Rattle.hwdb_spec_commands.specs.SysfsAnswers.{is_nowhere, seen};
 ghost use Rattle.hwdb_sysfs.specs.Finding.{IsUnread};
 
 use crate::files::{DeviceFiles, NO_ENTRY};

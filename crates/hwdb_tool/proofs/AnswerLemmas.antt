@@ -1,11 +1,11 @@
 -- Commands that answer from the database, and end with errors.
 use Rattle.std.proofs.Common.{◌≡◌, ◌≤◌, inl, inr, length, refl, subst, sym, ℕ, List, Option, None, Some, IfErr, IfSome, Result, Ok, Err, Vec, Global}
 use Rattle.std.specs.Prelude.{codes, true}
-use Rattle.hwdb_spec.specs.Asked.{IsAnswered, IsAskedPath}
-use Rattle.hwdb_spec.specs.Databases.{IsTextOf}
+use Rattle.hwdb_spec_commands.specs.Asked.{IsAnswered, IsAskedPath}
+use Rattle.hwdb_spec_commands.specs.Databases.{IsTextOf}
 use Rattle.hwdb_spec.specs.Failures.{after_failure}
-use Rattle.hwdb_spec.specs.ManyDevices.{HasLongLine}
-use Rattle.hwdb_spec.specs.Runs.{Told}
+use Rattle.hwdb_spec_commands.specs.ManyDevices.{HasLongLine}
+use Rattle.hwdb_spec_commands.specs.Runs.{Told}
 use Rattle.hwdb_spec.specs.declared.DbFault.{DbFault}
 use Rattle.hwdb_spec.specs.declared.causes.Cause.{Cause}
 use Rattle.hwdb_spec.specs.Outputs.{TookOne, Wrote}
@@ -14,16 +14,16 @@ use Rattle.hwdb_spec.specs.System.{asked_database}
 use Rattle.hwdb_spec.specs.Texts.{devices_of, max_file}
 use Rattle.hwdb_spec.specs.declared.errors.ToolError.{ToolError}
 use Rattle.hwdb_spec.specs.declared.errors.ToolError.TheVariants.{Read, Write, TooLong, TooManyFiles, TooManyLines, TooLarge, BadPosition, BadDatabase, Replace, Memory}
-use Rattle.hwdb_spec.specs.declared.form.Form.{Form}
-use Rattle.hwdb_spec.specs.Streams.{IfBadDatabase, texts_of}
-use Rattle.hwdb_spec.specs.Refusals.{HasReason, IsAt, IsOfDatabase, IsUnreadAt}
-use Rattle.hwdb_spec.specs.Queries.{IsInputUnread, IsOfInput}
-use Rattle.hwdb_spec.specs.Reasons.{HasAskedReason, IsOfAsked}
-use Rattle.hwdb_spec.specs.Undone.{IsUnanswered, IsUnfound}
+use Rattle.hwdb_spec_commands.specs.declared.form.Form.{Form}
+use Rattle.hwdb_spec_commands.specs.Streams.{IfBadDatabase, texts_of}
+use Rattle.hwdb_spec_commands.specs.Refusals.{HasReason, IsAt, IsOfDatabase, IsUnreadAt}
+use Rattle.hwdb_spec_commands.specs.Queries.{IsInputUnread, IsOfInput}
+use Rattle.hwdb_spec_commands.specs.Reasons.{HasAskedReason, IsOfAsked}
+use Rattle.hwdb_spec_commands.specs.Undone.{IsUnanswered, IsUnfound}
 use Rattle.hwdb_tool.specs.Views.{IsNotPrinted}
 use Rattle.hwdb_tool.specs.declared.answer.Answer.{Answer}
-use Rattle.hwdb_spec.specs.declared.refusals.Refusal.{Refusal}
-use Rattle.hwdb_spec.specs.declared.refusals.Refusal.TheVariants.{At, InWords, NoDatabase, Plain}
+use Rattle.hwdb_spec_commands.specs.declared.refusals.Refusal.{Refusal}
+use Rattle.hwdb_spec_commands.specs.declared.refusals.Refusal.TheVariants.{At, InWords, NoDatabase, Plain}
 use Rattle.hwdb_spec.specs.Lemmas.Calls.{failed_call}
 
 -- reading the database that is asked

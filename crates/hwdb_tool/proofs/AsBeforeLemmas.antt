@@ -5,24 +5,24 @@ use Rattle.std.proofs.lemmas.List.{length-append}
 use denote.RawPtr.{null_ptr}
 use Rattle.hex.specs.Hex.{encode_lower}
 use Rattle.hwdb_spec.specs.Patterns.{in_span}
-use Rattle.hwdb_spec.specs.Reports.{shown, shown_byte}
+use Rattle.hwdb_spec_commands.specs.Reports.{shown, shown_byte}
 use Rattle.hwdb_plan.specs.Lemmas.Streams.{same_or_less}
 use Rattle.std.specs.Option.{option_or}
-use Rattle.hwdb_spec.specs.Asked.{IsAskedPath, IsDumped, IsNamedPath, IsPrinted, database_path, named_database, unsayable_text}
+use Rattle.hwdb_spec_commands.specs.Asked.{IsAskedPath, IsDumped, IsNamedPath, IsPrinted, database_path, named_database, unsayable_text}
 use Rattle.hwdb_spec.specs.Assignment.{Assignment}
-use Rattle.hwdb_spec.specs.Databases.{IsSummary}
-use Rattle.hwdb_spec.specs.Dump.{dump_text, dumped, first_unsaid}
+use Rattle.hwdb_spec_commands.specs.Databases.{IsSummary}
+use Rattle.hwdb_spec_commands.specs.Dump.{dump_text, dumped, first_unsaid}
 use Rattle.hwdb_spec.specs.Format.{IsDatabase}
-use Rattle.hwdb_spec.specs.NamedDatabases.{IsDumpRefused, IsUnnamed, IsVerifyRefused}
-use Rattle.hwdb_spec.specs.Refusals.{HasReason, IsUnreadAt, IsUnreadable}
-use Rattle.hwdb_spec.specs.Runs.{OnOut}
+use Rattle.hwdb_spec_program.specs.NamedDatabases.{IsDumpRefused, IsUnnamed, IsVerifyRefused}
+use Rattle.hwdb_spec_commands.specs.Refusals.{HasReason, IsUnreadAt, IsUnreadable}
+use Rattle.hwdb_spec_commands.specs.Runs.{OnOut}
 use Rattle.hwdb_spec.specs.Store.{Contents}
 use Rattle.hwdb_spec.specs.System.{asked_database, bytes_at}
-use Rattle.hwdb_spec.specs.Summary.{summary_of, summary_text}
+use Rattle.hwdb_spec_commands.specs.Summary.{summary_of, summary_text}
 use Rattle.hwdb_spec.specs.Texts.{max_file}
 use Rattle.hwdb_spec.specs.Tree.{Tree}
-use Rattle.hwdb_spec.specs.Undone.{IsUnfound, IsUnreadableIf}
-use Rattle.hwdb_spec.specs.Verdicts.{verdict_text}
+use Rattle.hwdb_spec_commands.specs.Undone.{IsUnfound, IsUnreadableIf}
+use Rattle.hwdb_spec_commands.specs.Verdicts.{verdict_text}
 use Rattle.hwdb_spec.specs.Visible.{shown_name}
 use Rattle.hwdb_spec.specs.declared.causes.Cause.{Cause}
 use Rattle.hwdb_spec.specs.declared.causes.Cause.TheVariants as why
@@ -30,17 +30,17 @@ use Rattle.hwdb_spec.specs.declared.errors.ToolError.{ToolError}
 use Rattle.hwdb_spec.specs.declared.errors.ToolError.TheVariants.{BadDatabase, Memory, Read, TooLong}
 use Rattle.hwdb_spec.specs.declared.errors.DumpError.TheVariants as dumping
 use Rattle.hwdb_spec.specs.declared.errors.VerifyError.TheVariants as verifying
-use Rattle.hwdb_spec.specs.declared.refusals.Refusal.{Refusal}
-use Rattle.hwdb_spec.specs.declared.refusals.Refusal.TheVariants as refusal
-use Rattle.hwdb_spec.specs.declared.unread.Unread.{Unread}
-use Rattle.hwdb_spec.specs.declared.unread.Unread.TheVariants as unread
+use Rattle.hwdb_spec_commands.specs.declared.refusals.Refusal.{Refusal}
+use Rattle.hwdb_spec_commands.specs.declared.refusals.Refusal.TheVariants as refusal
+use Rattle.hwdb_spec_commands.specs.declared.unread.Unread.{Unread}
+use Rattle.hwdb_spec_commands.specs.declared.unread.Unread.TheVariants as unread
 use Rattle.hwdb_plan.specs.Asking.{asked, if_read, if_there, named}
 use Rattle.hwdb_plan.specs.Dump.{dump_plan, if_said, text_form}
 use Rattle.hwdb_plan.specs.Plans.{End, Ends, Follows, Next}
 use Rattle.hwdb_plan.specs.Plans.End.{Stops}
 use Rattle.hwdb_plan.specs.Plans.Plan.{Database, Done}
-use Rattle.hwdb_spec.specs.Told.{AreReadsOf, IsSo, Reads, Stop, stop_of, unread_stop}
-use Rattle.hwdb_spec.specs.Told.Stop.{NoDatabase, Over, Plain, Says}
+use Rattle.hwdb_spec_commands.specs.Told.{AreReadsOf, IsSo, Reads, Stop, stop_of, unread_stop}
+use Rattle.hwdb_spec_commands.specs.Told.Stop.{NoDatabase, Over, Plain, Says}
 use Rattle.hwdb_plan.specs.Verify.{summary, verify_plan}
 use Rattle.hwdb_tool.specs.Views.{end_of}
 use Rattle.hwdb_tool.specs.declared.answer.Answer.{Answer}

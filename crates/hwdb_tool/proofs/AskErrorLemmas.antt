@@ -2,27 +2,27 @@
 use Rattle.std.proofs.Common.{◌≡◌, ◌≤◌, ◌<◌, ◌⊎◌, ◌∙◌, inl, inr, ⊎_elim, ap, sym, subst, refl, arith, ℕ, Bool, true, false, List, [], length, Option, Some, IfSome, All}
 use Rattle.std.specs.Prelude.{Any, codes}
 use Rattle.std.proofs.lemmas.List.Elements.{All-contains}
-use Rattle.hwdb_spec.specs.Done.{IsAsked}
+use Rattle.hwdb_spec_commands.specs.Done.{IsAsked}
 use Rattle.hwdb_spec.specs.Failures.{HasFailed}
 use Rattle.hwdb_spec.specs.Folders.{AreAccepted, Choice, HaveManyLines, chosen_of, contents, max_lines}
-use Rattle.hwdb_spec.specs.Given.{IsContent, is_dash}
+use Rattle.hwdb_spec_commands.specs.Given.{IsContent, is_dash}
 use Rattle.hwdb_spec.specs.Lines.{lines}
-use Rattle.hwdb_spec.specs.LoneFile.{lone}
+use Rattle.hwdb_spec_commands.specs.LoneFile.{lone}
 use Rattle.hwdb_spec.specs.Outputs.{Texts}
 use Rattle.hwdb_spec.specs.Store.{Contents}
 use Rattle.hwdb_spec.specs.System.{bytes_at}
 use Rattle.hwdb_spec.specs.Texts.{max_file}
 use Rattle.hwdb_spec.specs.Tree.{Map, map_of_files}
 use Rattle.hwdb_spec.specs.Written.{IsTooLarge, IsWritten}
-use Rattle.hwdb_spec.specs.UpdateErrors.{IsAskRefusal}
+use Rattle.hwdb_spec_commands.specs.UpdateErrors.{IsAskRefusal}
 use Rattle.hwdb_spec.specs.declared.errors.ToolError.{ToolError}
 use Rattle.hwdb_spec.specs.declared.errors.ToolError.TheVariants.{Read, Write, TooLong, TooManyFiles, TooManyLines, TooLarge, BadPosition, BadDatabase, Replace, Memory}
-use Rattle.hwdb_spec.specs.Refusals.{IsOver, IsUnread}
-use Rattle.hwdb_spec.specs.declared.refusals.Refusal.{Refusal}
-use Rattle.hwdb_spec.specs.declared.refusals.Refusal.TheVariants.{At, InWords, NoDatabase, Plain}
+use Rattle.hwdb_spec_commands.specs.Refusals.{IsOver, IsUnread}
+use Rattle.hwdb_spec_commands.specs.declared.refusals.Refusal.{Refusal}
+use Rattle.hwdb_spec_commands.specs.declared.refusals.Refusal.TheVariants.{At, InWords, NoDatabase, Plain}
 use Rattle.hwdb_tool.specs.OneRefusal.{IsOfWhatIsRead, IsOneError}
-use Rattle.hwdb_spec.specs.Reasons.{HasGivenReason}
-use Rattle.hwdb_spec.specs.Undone.{IsAskRefused, IsNotAsked, IsUnreadGiven}
+use Rattle.hwdb_spec_commands.specs.Reasons.{HasGivenReason}
+use Rattle.hwdb_spec_commands.specs.Undone.{IsAskRefused, IsNotAsked, IsUnreadGiven}
 use Rattle.hwdb_tool.proofs.GivenLemmas.{plain_reason}
 use Rattle.hwdb_tool.proofs.UnreadLemmas.{IsUnreadOne, held_or_unread, unread_one}
 use Rattle.hwdb_tool.proofs.RefusalLemmas.{one_inside, over_over, unread_given}

@@ -3,7 +3,7 @@ use Rattle.std.proofs.Common.{◌≡◌, ◌∙◌, ap, sym, refl, subst, Bool, 
 use Rattle.std.proofs.lemmas.Bool.{true≢false}
 use Rattle.std.proofs.lemmas.Option.{IfSome_then, same_Some}
 use Rattle.std.specs.Option.{option_or}
-use Rattle.hwdb_spec.specs.Asked.{database_path}
+use Rattle.hwdb_spec_commands.specs.Asked.{database_path}
 use Rattle.hwdb_spec.specs.Store.{Contents}
 use Rattle.hwdb_spec.specs.System.{asked_database, bytes_at}
 use Rattle.hwdb_tool.specs.Internal.{IsAskedFile}

@@ -7,21 +7,21 @@ use Rattle.std.specs.Option.{option_map_or}
 use Rattle.std.proofs.lemmas.List.{length-map, get_or-map, drop_all, map-append, take_more}
 use Rattle.hwdb_spec.specs.Folders.{Choice, Source, path_of}
 use Rattle.std.proofs.lemmas.List.Elements.{All-nil, All-cons, All-head, All-map, All-tail}
-use Rattle.hwdb_spec.specs.Given.{IsContent, IsGiven, is_dash, any_dash}
+use Rattle.hwdb_spec_commands.specs.Given.{IsContent, IsGiven, is_dash, any_dash}
 use Rattle.hwdb_spec.specs.Store.{Contents}
 use Rattle.hwdb_spec.specs.System.{bytes_at}
-use Rattle.hwdb_spec.specs.Runs.{OnOut}
+use Rattle.hwdb_spec_commands.specs.Runs.{OnOut}
 use Rattle.hwdb_spec.specs.Texts.{max_file}
-use Rattle.hwdb_lint.specs.Checks.{source_of}
-use Rattle.hwdb_lint.specs.declared.files.TextFile.{TextFile}
-use Rattle.hwdb_spec.specs.CheckedFiles.{AreCheckedFiles, AreChosenFiles, AreGivenFiles, AreNamedFiles, IsChecked, StandFor}
+use Rattle.hwdb_check.specs.Checks.{source_of}
+use Rattle.hwdb_check.specs.declared.files.TextFile.{TextFile}
+use Rattle.hwdb_spec_commands.specs.CheckedFiles.{AreCheckedFiles, AreChosenFiles, AreGivenFiles, AreNamedFiles, IsChecked, StandFor}
 use Rattle.hwdb_spec.specs.Selected.{AreSelected}
 use Rattle.hwdb_tool.specs.Internal.{AreTextsGiven, bytes_given, bytes_if}
-use Rattle.hwdb_spec.specs.Refusals.{IsUnread}
-use Rattle.hwdb_spec.specs.GivenFolders.{IsNamedUnread}
-use Rattle.hwdb_spec.specs.Reasons.{IsFirstGiven, IsReadGiven}
-use Rattle.hwdb_spec.specs.Undone.{AreNotChecked, AreUncheckable, IsCheckRefused, IsGivenUnread, told_as, told_path}
-use Rattle.hwdb_spec.specs.declared.refusals.Refusal.{Refusal}
+use Rattle.hwdb_spec_commands.specs.Refusals.{IsUnread}
+use Rattle.hwdb_spec_commands.specs.GivenFolders.{IsNamedUnread}
+use Rattle.hwdb_spec_commands.specs.Reasons.{IsFirstGiven, IsReadGiven}
+use Rattle.hwdb_spec_commands.specs.Undone.{AreNotChecked, AreUncheckable, IsCheckRefused, IsGivenUnread, told_as, told_path}
+use Rattle.hwdb_spec_commands.specs.declared.refusals.Refusal.{Refusal}
 use Rattle.hwdb_tool.specs.Views.{texts_in}
 use Rattle.hwdb_tool.specs.declared.answer.Answer.{Answer}
 use Rattle.hwdb_spec.specs.Lemmas.Truth.{or_left, or_right}

@@ -1,13 +1,13 @@
 -- Errors over the files of devices of `diff` and its two sides: each comes alone.
 use Rattle.std.proofs.Common.{◌≡◌, ◌⊎◌, inl, inr, refl, subst, sym, ◌∙◌, Bool, true, false, ℕ, List, Option, Some}
-use Rattle.hwdb_spec.specs.CheckedFiles.{AreGivenFiles, StandFor}
-use Rattle.hwdb_spec.specs.ComparedDatabases.{HasDiffReason, IsDiffed, IsDiffRefused}
-use Rattle.hwdb_spec.specs.GivenDatabases.{names_twice, twice_text}
-use Rattle.hwdb_spec.specs.Comparisons.{comparison_form, devices_named, has_changed}
+use Rattle.hwdb_spec_commands.specs.CheckedFiles.{AreGivenFiles, StandFor}
+use Rattle.hwdb_spec_program.specs.ComparedDatabases.{HasDiffReason, IsDiffed, IsDiffRefused}
+use Rattle.hwdb_spec_program.specs.GivenDatabases.{names_twice, twice_text}
+use Rattle.hwdb_spec_commands.specs.Comparisons.{comparison_form, devices_named, has_changed}
 use Rattle.hwdb_spec.specs.Failures.{HasFailed}
 use Rattle.hwdb_spec.specs.Folders.{Source}
 use Rattle.hwdb_spec.specs.Store.{Contents}
-use Rattle.hwdb_spec.specs.declared.refusals.Refusal.{Refusal}
+use Rattle.hwdb_spec_commands.specs.declared.refusals.Refusal.{Refusal}
 use Rattle.hwdb_tool.specs.OneOutcome.{ListingsGiveOneChoice, ListingsGiveOneReading}
 use Rattle.hwdb_tool.specs.OneRefusal.{IsOfDiffed, IsOfSideListing, IsOfWhatIsRead, IsOneError}
 use Rattle.hwdb_tool.proofs.AskErrorLemmas.{OneForm}

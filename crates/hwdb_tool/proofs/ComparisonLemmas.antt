@@ -1,20 +1,20 @@
 -- What `diff` reads, and its errors.
 use Rattle.std.proofs.Common.{◌≡◌, ◌==◌, ◌∷◌, ap, inl, inr, sym, ℕ, Bool, true, false, length, List, [], map, Option, Some, Result, Ok, Err, IfErr, IfOk, flat_map}
-use Rattle.hwdb_lint.specs.Checks.{source_of}
-use Rattle.hwdb_lint.specs.declared.files.TextFile.{TextFile}
-use Rattle.hwdb_spec.specs.CheckedFiles.{AreGivenFiles}
-use Rattle.hwdb_spec.specs.ComparedDatabases.{HasDiffReason, IsAny, IsCompared, IsDiffed, IsDiffRefused, IsGivenSideRefused, IsPairRefused}
-use Rattle.hwdb_spec.specs.Given.{is_dash}
-use Rattle.hwdb_spec.specs.GivenDatabases.{names_twice}
-use Rattle.hwdb_spec.specs.Reasons.{HasGivenReason}
-use Rattle.hwdb_spec.specs.Comparisons.{comparison_form, devices_named, has_changed}
+use Rattle.hwdb_check.specs.Checks.{source_of}
+use Rattle.hwdb_check.specs.declared.files.TextFile.{TextFile}
+use Rattle.hwdb_spec_commands.specs.CheckedFiles.{AreGivenFiles}
+use Rattle.hwdb_spec_program.specs.ComparedDatabases.{HasDiffReason, IsAny, IsCompared, IsDiffed, IsDiffRefused, IsGivenSideRefused, IsPairRefused}
+use Rattle.hwdb_spec_commands.specs.Given.{is_dash}
+use Rattle.hwdb_spec_program.specs.GivenDatabases.{names_twice}
+use Rattle.hwdb_spec_commands.specs.Reasons.{HasGivenReason}
+use Rattle.hwdb_spec_commands.specs.Comparisons.{comparison_form, devices_named, has_changed}
 use Rattle.hwdb_spec.specs.Folders.{Source}
-use Rattle.hwdb_spec.specs.Refusals.{HasReason, IsUnreadable}
-use Rattle.hwdb_spec.specs.Runs.{OnOut}
-use Rattle.hwdb_spec.specs.Sides.{AreNotMadeAt, IsSideRefused}
+use Rattle.hwdb_spec_commands.specs.Refusals.{HasReason, IsUnreadable}
+use Rattle.hwdb_spec_commands.specs.Runs.{OnOut}
+use Rattle.hwdb_spec_commands.specs.Sides.{AreNotMadeAt, IsSideRefused}
 use Rattle.hwdb_spec.specs.Store.{Contents}
 use Rattle.hwdb_spec.specs.Texts.{devices_of}
-use Rattle.hwdb_spec.specs.declared.refusals.Refusal.{Refusal}
+use Rattle.hwdb_spec_commands.specs.declared.refusals.Refusal.{Refusal}
 use Rattle.hwdb_tool.specs.SideSteps.{IsPairError}
 use Rattle.hwdb_tool.specs.Views.{texts_in}
 use Rattle.hwdb_tool.specs.declared.answer.Answer.{Answer}

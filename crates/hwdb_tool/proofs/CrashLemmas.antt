@@ -5,11 +5,11 @@ use Rattle.std.specs.Option.{option_map_or, option_or}
 use Rattle.std.proofs.lemmas.List.{append-nil, append_cancel_left}
 use Rattle.clap.specs.Walk.{Row, Text}
 use Rattle.clap.specs.Simple.{matches_of, subcommand_of}
-use Rattle.hwdb_spec.specs.Jobs.{IsJobOf, IsTask, has_flag}
-use Rattle.hwdb_spec.specs.CommandLine.{hwdb_app}
-use Rattle.hwdb_spec.specs.declared.job.Job.{Job}
-use Rattle.hwdb_spec.specs.declared.job.Task.{Task}
-use Rattle.hwdb_spec.specs.declared.job.Task.TheVariants.{Status, Update}
+use Rattle.hwdb_spec_commands.specs.Jobs.{IsJobOf, IsTask, has_flag}
+use Rattle.hwdb_spec_commands.specs.CommandLine.{hwdb_app}
+use Rattle.hwdb_spec_commands.specs.declared.job.Job.{Job}
+use Rattle.hwdb_spec_commands.specs.declared.job.Task.{Task}
+use Rattle.hwdb_spec_commands.specs.declared.job.Task.TheVariants.{Status, Update}
 use Rattle.hwdb_query.specs.Laws.{AllCompiledAnswersAreLast, LastAssignmentsAreLast}
 use Rattle.hwdb_spec.specs.Answers.{effective_of, last_assignments}
 use Rattle.hwdb_spec.specs.Assignment.{Assignment}
@@ -19,9 +19,9 @@ use Rattle.hwdb_spec.specs.Store.{Contents, IsPartPath, LeftAtParts, Outcomes, S
 use Rattle.hwdb_spec.specs.System.{asked_database, bytes_at, database_folder}
 use Rattle.hwdb_spec.specs.Texts as texts
 use Rattle.hwdb_spec.specs.Texts.{properties_text}
-use Rattle.hwdb_spec.specs.Done.{IsLeftByUpdate}
-use Rattle.hwdb_spec.specs.LeftOut.{AreLeftOut, without}
-use Rattle.hwdb_spec.specs.Program.{root_of, skips}
+use Rattle.hwdb_spec_commands.specs.Done.{IsLeftByUpdate}
+use Rattle.hwdb_spec_commands.specs.LeftOut.{AreLeftOut, without}
+use Rattle.hwdb_spec_program.specs.Program.{root_of, skips}
 use Rattle.hwdb_tool.specs.Crash.{AnswersFrom, CrashThenQuery, CrashThenQueryOfAll, FaultsLeaveAll}
 use Rattle.hwdb_tool.proofs.JobLemmas.{one_root}
 use Rattle.hwdb_tool.proofs.OutcomeLemmas.{one_held}

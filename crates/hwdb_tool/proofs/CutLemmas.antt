@@ -1,10 +1,10 @@
 -- A task that ends with an error since an output failed changes nothing.
 use Rattle.std.proofs.Common.{⊎_elim, Bool, true, false, List, ℕ}
-use Rattle.hwdb_spec.specs.declared.job.Task.{Task}
-use Rattle.hwdb_spec.specs.declared.job.Task.TheVariants.{Update}
-use Rattle.hwdb_spec.specs.Runs.{AreKept, World}
-use Rattle.hwdb_spec.specs.declared.refusals.Refusal.TheVariants.{Plain}
-use Rattle.hwdb_spec.specs.TaskRefusals.{IsNotDoneFrom, IsTaskRefused}
+use Rattle.hwdb_spec_commands.specs.declared.job.Task.{Task}
+use Rattle.hwdb_spec_commands.specs.declared.job.Task.TheVariants.{Update}
+use Rattle.hwdb_spec_commands.specs.Runs.{AreKept, World}
+use Rattle.hwdb_spec_commands.specs.declared.refusals.Refusal.TheVariants.{Plain}
+use Rattle.hwdb_spec_program.specs.TaskRefusals.{IsNotDoneFrom, IsTaskRefused}
 use Rattle.hwdb_spec.specs.declared.errors.ToolError.TheVariants.{Write}
 
 module _ (root : List ℕ) (usr strict : Bool) (before now : World) where

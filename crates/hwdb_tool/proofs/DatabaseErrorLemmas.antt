@@ -2,36 +2,36 @@
 use Rattle.std.proofs.Common.{◌≡◌, ◌≢◌, ◌≤◌, ◌⊎◌, ◌∙◌, inl, inr, ⊎_elim, ap, sym, subst, refl, ℕ, Bool, List, [], length, Option, None, Some}
 use Rattle.std.specs.Prelude.{is_some}
 use Rattle.std.specs.Option.{option_map_or}
-use Rattle.hwdb_spec.specs.Asked.{IsAnswered, IsDumped, IsFrom, IsListFrom, IsNamedPath, IsPrinted, named_database, unsayable_text}
+use Rattle.hwdb_spec_commands.specs.Asked.{IsAnswered, IsDumped, IsFrom, IsListFrom, IsNamedPath, IsPrinted, named_database, unsayable_text}
 use Rattle.hwdb_spec.specs.Assignment.{Assignment, Position}
-use Rattle.hwdb_spec.specs.Databases.{IsSummary, IsTextOf, IsNoDatabase, IsUnsayable}
-use Rattle.hwdb_spec.specs.Dump.{dumped, first_unsaid}
+use Rattle.hwdb_spec_commands.specs.Databases.{IsSummary, IsTextOf, IsNoDatabase, IsUnsayable}
+use Rattle.hwdb_spec_commands.specs.Dump.{dumped, first_unsaid}
 use Rattle.hwdb_spec.specs.Format.{Applies, IsDatabase}
-use Rattle.hwdb_spec.specs.Runs.{Told}
+use Rattle.hwdb_spec_commands.specs.Runs.{Told}
 use Rattle.hwdb_spec.specs.Store.{Contents}
 use Rattle.hwdb_spec.specs.System.{bytes_at}
 use Rattle.hwdb_spec.specs.Texts.{max_file}
 use Rattle.hwdb_spec.specs.Tree.{Tree}
-use Rattle.hwdb_spec.specs.Verdicts.{verdict_text}
+use Rattle.hwdb_spec_commands.specs.Verdicts.{verdict_text}
 use Rattle.hwdb_spec.specs.declared.DbFault.{DbFault}
 use Rattle.hwdb_reader.specs.Laws.{IsOfHeader}
-use Rattle.hwdb_spec.specs.DumpErrors.{IsDumpRefusal}
-use Rattle.hwdb_spec.specs.VerifyErrors.{IsVerifyRefusal}
+use Rattle.hwdb_spec_commands.specs.DumpErrors.{IsDumpRefusal}
+use Rattle.hwdb_spec_commands.specs.VerifyErrors.{IsVerifyRefusal}
 use Rattle.hwdb_spec.specs.declared.errors.DumpError.{DumpError}
 use Rattle.hwdb_spec.specs.declared.errors.VerifyError.{VerifyError}
 use Rattle.hwdb_spec.specs.declared.errors.DumpError.TheVariants as dumping
 use Rattle.hwdb_spec.specs.declared.errors.VerifyError.TheVariants as verifying
 use Rattle.hwdb_spec.specs.declared.errors.Unreplaced.{Unreplaced}
-use Rattle.hwdb_spec.specs.DatabaseErrors.{IsDatabaseRefusal}
-use Rattle.hwdb_spec.specs.Listings.{IsListFault, IsListRefusal}
+use Rattle.hwdb_spec_commands.specs.DatabaseErrors.{IsDatabaseRefusal}
+use Rattle.hwdb_spec_commands.specs.Listings.{IsListFault, IsListRefusal}
 use Rattle.hwdb_spec.specs.declared.errors.ToolError.{ToolError}
 use Rattle.hwdb_spec.specs.declared.errors.ToolError.TheVariants.{Read, Write, TooLong, TooManyFiles, TooManyLines, TooLarge, BadPosition, BadDatabase, Replace, Memory}
-use Rattle.hwdb_spec.specs.Refusals.{HasReason, IsAt, IsInWords, IsOfDatabase, IsOver}
-use Rattle.hwdb_spec.specs.declared.refusals.Refusal.{Refusal}
-use Rattle.hwdb_spec.specs.declared.refusals.Refusal.TheVariants.{At, InWords, NoDatabase, Plain}
-use Rattle.hwdb_spec.specs.NamedDatabases.{IsDumpRefused, IsNotDumped, IsNotVerified, IsOfDump, IsOfVerify, IsVerifyRefused}
+use Rattle.hwdb_spec_commands.specs.Refusals.{HasReason, IsAt, IsInWords, IsOfDatabase, IsOver}
+use Rattle.hwdb_spec_commands.specs.declared.refusals.Refusal.{Refusal}
+use Rattle.hwdb_spec_commands.specs.declared.refusals.Refusal.TheVariants.{At, InWords, NoDatabase, Plain}
+use Rattle.hwdb_spec_program.specs.NamedDatabases.{IsDumpRefused, IsNotDumped, IsNotVerified, IsOfDump, IsOfVerify, IsVerifyRefused}
 use Rattle.hwdb_tool.specs.OneRefusal.{IsOfWhatIsRead, IsOneError, IsOneFault, IsOneText}
-use Rattle.hwdb_spec.specs.Undone.{IsListRefused, IsNotAnswered, IsUnanswered, IsUnlisted, IsUnreadableIf}
+use Rattle.hwdb_spec_commands.specs.Undone.{IsListRefused, IsNotAnswered, IsUnanswered, IsUnlisted, IsUnreadableIf}
 use Rattle.hwdb_tool.proofs.RefusalLemmas.{NeverNamed, IsUnreadNamed, one_inside, one_named_path, named_at, over_over, read_or_unread, unnamed, unread_unread}
 
 -- the words of an error

@@ -4,24 +4,24 @@ use Rattle.std.specs.Option.{option_map_or}
 use Rattle.std.specs.Prelude.{codes, option_map, ◌++◌}
 use Rattle.clap.specs.Simple.{matches_of, subcommand_of}
 use Rattle.clap.specs.Walk.{Row, Text}
-use Rattle.hwdb_spec.specs.CommandLine.{hwdb_app}
-use Rattle.hwdb_spec.specs.DeviceAsked.{IsDevicePrinted, device_form, device_list, device_meant, leads_nowhere, missing_text, no_sysfs_text, unread_text}
-use Rattle.hwdb_spec.specs.DeviceErrors.{IsDeviceRefused, IsNoDevice, IsNoSysfs, asked_names}
-use Rattle.hwdb_spec.specs.DeviceTexts.{device_text}
-use Rattle.hwdb_spec.specs.DeviceTree.{Sight, device_at, device_for, last_name, missing_folder, near_name, sysfs_below, unread_for}
-use Rattle.hwdb_spec.specs.Jobs.{IsJobOf, IsTask}
-use Rattle.hwdb_spec.specs.Program.{IsDeviceAnswer, IsTaskDone, root_of}
-use Rattle.hwdb_spec.specs.Refusals.{HasReason}
-use Rattle.hwdb_spec.specs.Runs.{AreKept, Told, World}
+use Rattle.hwdb_spec_commands.specs.CommandLine.{hwdb_app}
+use Rattle.hwdb_spec_commands.specs.DeviceAsked.{IsDevicePrinted, device_form, device_list, device_meant, leads_nowhere, missing_text, no_sysfs_text, unread_text}
+use Rattle.hwdb_spec_program.specs.DeviceErrors.{IsDeviceRefused, IsNoDevice, IsNoSysfs, asked_names}
+use Rattle.hwdb_spec_commands.specs.DeviceTexts.{device_text}
+use Rattle.hwdb_spec_commands.specs.DeviceTree.{Sight, device_at, device_for, last_name, missing_folder, near_name, sysfs_below, unread_for}
+use Rattle.hwdb_spec_commands.specs.Jobs.{IsJobOf, IsTask}
+use Rattle.hwdb_spec_program.specs.Program.{IsDeviceAnswer, IsTaskDone, root_of}
+use Rattle.hwdb_spec_commands.specs.Refusals.{HasReason}
+use Rattle.hwdb_spec_commands.specs.Runs.{AreKept, Told, World}
 use Rattle.hwdb_spec.specs.Store.{Contents, Outcomes}
 use Rattle.hwdb_spec.specs.System.{database_folder}
-use Rattle.hwdb_spec.specs.TaskRefusals.{IsNotDone}
-use Rattle.hwdb_spec.specs.Undone.{IsUnwritable}
-use Rattle.hwdb_spec.specs.declared.devices.DeviceForm.{DeviceForm}
-use Rattle.hwdb_spec.specs.declared.job.Job.{Job}
-use Rattle.hwdb_spec.specs.declared.job.Task.{Task}
-use Rattle.hwdb_spec.specs.declared.job.Task.TheVariants.{Device as DeviceTask, Status}
-use Rattle.hwdb_spec.specs.declared.refusals.Refusal.{Refusal}
+use Rattle.hwdb_spec_program.specs.TaskRefusals.{IsNotDone}
+use Rattle.hwdb_spec_commands.specs.Undone.{IsUnwritable}
+use Rattle.hwdb_spec_commands.specs.declared.devices.DeviceForm.{DeviceForm}
+use Rattle.hwdb_spec_commands.specs.declared.job.Job.{Job}
+use Rattle.hwdb_spec_commands.specs.declared.job.Task.{Task}
+use Rattle.hwdb_spec_commands.specs.declared.job.Task.TheVariants.{Device as DeviceTask, Status}
+use Rattle.hwdb_spec_commands.specs.declared.refusals.Refusal.{Refusal}
 use Rattle.hwdb_tool.specs.OneOutcome.{IsOneInput, Scene, scene_of}
 use Rattle.hwdb_tool.specs.OneRefusal.{DoneEndsSo, EndAlike, IsDevice, IsOfWhatIsRead, IsOneEnd, IsOneError, NeverFails}
 use Rattle.hwdb_tool.proofs.DatabaseErrorLemmas.{OneHeader, SaysSo, Unanswered, answer_answer, answer_done, said_said, says_so, unanswered}

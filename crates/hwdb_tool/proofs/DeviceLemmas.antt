@@ -1,8 +1,8 @@
 -- A device, the lines of all of them, and what is said if there is none.
 use Rattle.std.proofs.Common.{◌≡◌, ◌<◌, ◌≤◌, ◌+◌, ◌∙◌, ◌++◌, [], ap, append_assoc, false, flat_map, get_or, if◌then◌else◌, is_some, length, map, not, refl, sym, take, true, Bool, Global, List, Vec, ℕ}
 use Rattle.std.proofs.lemmas.List.{flat_map_more, take_all}
-use Rattle.hwdb_spec.specs.DeviceAsked.{leads_nowhere}
-use Rattle.hwdb_spec.specs.DeviceTree.{Sight, absolute}
+use Rattle.hwdb_spec_commands.specs.DeviceAsked.{leads_nowhere}
+use Rattle.hwdb_spec_commands.specs.DeviceTree.{Sight, absolute}
 use Rattle.hwdb_spec.specs.Lines.{byte, has}
 use Rattle.hwdb_sysfs.specs.Lemmas.Names.{items, one_more}
 

@@ -1,25 +1,25 @@
 -- Errors over the two sides of `diff`: each comes alone.
 use Rattle.std.proofs.Common.{◌≡◌, ◌<◌, ◌⊎◌, ◌∙◌, inl, inr, ⊎_elim, ap, arith, sym, subst, refl, Bool, true, false, ℕ, List, length, Option, Some}
-use Rattle.hwdb_spec.specs.CheckedFiles.{StandFor}
-use Rattle.hwdb_spec.specs.Databases.{IsNewRefused, IsNoDatabase}
+use Rattle.hwdb_spec_commands.specs.CheckedFiles.{StandFor}
+use Rattle.hwdb_spec_commands.specs.Databases.{IsNewRefused, IsNoDatabase}
 use Rattle.hwdb_spec.specs.Failures.{HasFailed}
 use Rattle.hwdb_spec.specs.Format.{IsDatabase}
-use Rattle.hwdb_spec.specs.Sides.{IsSide}
+use Rattle.hwdb_spec_commands.specs.Sides.{IsSide}
 use Rattle.hwdb_spec.specs.Store.{Contents}
 use Rattle.hwdb_spec.specs.Tree.{Tree}
 use Rattle.hwdb_spec.specs.declared.DbFault.{DbFault}
-use Rattle.hwdb_spec.specs.DiffErrors.{IsDiffRefusal}
+use Rattle.hwdb_spec_commands.specs.DiffErrors.{IsDiffRefusal}
 use Rattle.hwdb_spec.specs.declared.errors.DiffError.{DiffError}
 use Rattle.hwdb_spec.specs.declared.errors.DiffError.TheVariants as differing
 use Rattle.hwdb_spec.specs.declared.errors.ToolError.TheVariants.{BadDatabase}
-use Rattle.hwdb_spec.specs.Refusals.{HasReason, IsOver, IsUnreadable}
-use Rattle.hwdb_spec.specs.declared.refusals.Refusal.{Refusal}
-use Rattle.hwdb_spec.specs.ComparedDatabases.{AreHeld, IsCompared, IsGivenSideRefused, IsNotCompared, IsOfDiff, IsPairRefused, IsSideGiven}
-use Rattle.hwdb_spec.specs.Given.{is_dash}
-use Rattle.hwdb_spec.specs.GivenDatabases.{OfGiven}
-use Rattle.hwdb_spec.specs.Reasons.{HasGivenReason}
+use Rattle.hwdb_spec_commands.specs.Refusals.{HasReason, IsOver, IsUnreadable}
+use Rattle.hwdb_spec_commands.specs.declared.refusals.Refusal.{Refusal}
+use Rattle.hwdb_spec_program.specs.ComparedDatabases.{AreHeld, IsCompared, IsGivenSideRefused, IsNotCompared, IsOfDiff, IsPairRefused, IsSideGiven}
+use Rattle.hwdb_spec_commands.specs.Given.{is_dash}
+use Rattle.hwdb_spec_program.specs.GivenDatabases.{OfGiven}
+use Rattle.hwdb_spec_commands.specs.Reasons.{HasGivenReason}
 use Rattle.hwdb_spec.specs.Texts.{max_file}
-use Rattle.hwdb_spec.specs.Undone.{told_path}
+use Rattle.hwdb_spec_commands.specs.Undone.{told_path}
 use Rattle.hwdb_tool.specs.OneOutcome.{ListingsGiveOneChoice, ListingsGiveOneReading}
 use Rattle.hwdb_tool.specs.OneRefusal.{IsOfSide, IsOfSideListing, IsOfWhatIsRead, IsOneError}
 use Rattle.hwdb_tool.proofs.AskErrorLemmas.{IsUnreadFrom, OneForm, unread_from, unread_unread}

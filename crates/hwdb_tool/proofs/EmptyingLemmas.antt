@@ -2,19 +2,19 @@
 use Rattle.std.proofs.Common.{◌≡◌, ◌≢◌, ◌≤◌, ◌⊎◌, ◌∙◌, ◌++◌, ◌==◌, ap, sym, subst, refl, inl, inr, append_assoc, eqb-true, true≢false, ℕ, suc, Bool, true, false, not, List, [], ◌∷◌, length, map, Option, Some, None, IfSome, IfErr, IfOk, OnOk, Result, Ok, Err, arith}
 use Rattle.std.specs.Io.KnownBytes.{Appends}
 use Rattle.std.specs.Prelude.{if◌then◌else◌, option_map}
-use Rattle.hwdb_spec.specs.Asked.{database_path}
-use Rattle.hwdb_spec.specs.Emptied.{IsLoss, IsLossOf, IsLossUnseen, IsLost, IsOneUnseen, IsShort, loss_text}
+use Rattle.hwdb_spec_commands.specs.Asked.{database_path}
+use Rattle.hwdb_spec_commands.specs.Emptied.{IsLoss, IsLossOf, IsLossUnseen, IsLost, IsOneUnseen, IsShort, loss_text}
 use Rattle.hwdb_spec.specs.Folders.{Choice}
 use Rattle.hwdb_spec.specs.Format.{IsDatabase}
 use Rattle.hwdb_spec.specs.Outputs.{Took}
-use Rattle.hwdb_spec.specs.Runs.{HasTaken, Told}
-use Rattle.hwdb_spec.specs.Status.{Amount, IsAmountOf, amount_of, is_bare}
-use Rattle.hwdb_spec.specs.Status.Amount.{Counted, Uncounted}
+use Rattle.hwdb_spec_commands.specs.Runs.{HasTaken, Told}
+use Rattle.hwdb_spec_commands.specs.Status.{Amount, IsAmountOf, amount_of, is_bare}
+use Rattle.hwdb_spec_commands.specs.Status.Amount.{Counted, Uncounted}
 use Rattle.hwdb_spec.specs.Store.{Contents}
-use Rattle.hwdb_spec.specs.Summary.{summary_of}
+use Rattle.hwdb_spec_commands.specs.Summary.{summary_of}
 use Rattle.hwdb_spec.specs.System.{bytes_at}
 use Rattle.hwdb_spec.specs.Tree.{Tree, members_under}
-use Rattle.hwdb_spec.specs.declared.refusals.Refusal.{Refusal}
+use Rattle.hwdb_spec_commands.specs.declared.refusals.Refusal.{Refusal}
 use Rattle.hwdb_spec.specs.Texts.{max_file}
 use Rattle.hwdb_tool.specs.Emptying.{is_nothing}
 use Rattle.hwdb_tool.specs.declared.databases.FoundDatabase.{FoundDatabase}

@@ -3,7 +3,7 @@ use Rattle.std.proofs.Common.{◌≡◌, ◌≢◌, ◌⊎◌, ◌∙◌, ◌<�
 use Rattle.std.specs.Prelude.{◌^◌}
 use Rattle.clap.specs.Faults.{fault_of}
 use Rattle.clap.proofs.OnLiterals.{clap_on_literals}
-use Rattle.hwdb_spec.specs.CommandLine.{hwdb_app}
+use Rattle.hwdb_spec_commands.specs.CommandLine.{hwdb_app}
 use Rattle.hwdb_spec.specs.Failures.{HasFailed}
 use Rattle.hwdb_tool.specs.Failures.{words_with_one_too_many}
 

@@ -2,20 +2,20 @@
 use Rattle.std.proofs.Common.{◌≡◌, ◌<◌, ◌≤◌, ◌⊎◌, inl, inr, ap, arith, sym, subst, ℕ, Bool, true, false, List, [], ◌∷◌, ◌++◌, length, Option, refl}
 use Rattle.std.proofs.lemmas.List.Elements.{Contains-append_right}
 use Rattle.std.specs.Prelude.{Contains, None}
-use Rattle.hwdb_spec.specs.CheckedFiles.{StandFor, StandsFor, folder_of, is_file}
-use Rattle.hwdb_spec.specs.CheckedReasons.{HasNamedReason}
+use Rattle.hwdb_spec_commands.specs.CheckedFiles.{StandFor, StandsFor, folder_of, is_file}
+use Rattle.hwdb_spec_program.specs.CheckedReasons.{HasNamedReason}
 use Rattle.hwdb_spec.specs.Failures.{HasFailed}
 use Rattle.hwdb_spec.specs.Folders.{max_files, names}
-use Rattle.hwdb_spec.specs.Given.{is_dash}
-use Rattle.hwdb_spec.specs.GivenFolders.{AreFoldersUnread, IsFolderUnread, IsNamedUnread, IsUnlistedFolder}
-use Rattle.hwdb_spec.specs.Reasons.{HasFilesReason}
-use Rattle.hwdb_spec.specs.Refusals.{HasReason, IsOver}
+use Rattle.hwdb_spec_commands.specs.Given.{is_dash}
+use Rattle.hwdb_spec_commands.specs.GivenFolders.{AreFoldersUnread, IsFolderUnread, IsNamedUnread, IsUnlistedFolder}
+use Rattle.hwdb_spec_commands.specs.Reasons.{HasFilesReason}
+use Rattle.hwdb_spec_commands.specs.Refusals.{HasReason, IsOver}
 use Rattle.hwdb_spec.specs.Store.{Contents}
 use Rattle.hwdb_spec.specs.System.{AreNamesIn, bytes_at}
-use Rattle.hwdb_spec.specs.Undone.{IsGivenUnread, told_as}
+use Rattle.hwdb_spec_commands.specs.Undone.{IsGivenUnread, told_as}
 use Rattle.hwdb_spec.specs.declared.errors.ToolError.TheVariants.{BadDatabase, BadPosition, Memory, Read, Replace, TooLarge, TooLong, TooManyFiles, TooManyLines, Write}
-use Rattle.hwdb_spec.specs.declared.refusals.Refusal.{Refusal}
-use Rattle.hwdb_spec.specs.declared.refusals.Refusal.TheVariants.{At, InWords, NoDatabase, Plain}
+use Rattle.hwdb_spec_commands.specs.declared.refusals.Refusal.{Refusal}
+use Rattle.hwdb_spec_commands.specs.declared.refusals.Refusal.TheVariants.{At, InWords, NoDatabase, Plain}
 use Rattle.hwdb_text.specs.Laws.{NamesAreThoseThatCount, NamesAscend, OneAscendingList}
 use Rattle.hwdb_tool.specs.OneRefusal.{IsOfWhatIsRead}
 use Rattle.hwdb_tool.proofs.StandLemmas.{one_set}

@@ -13,9 +13,9 @@ use Rattle.hwdb_text.specs.declared.choice.ChosenFile.{ChosenFile}
 use Rattle.hwdb_compile.specs.Views.{AreChosenOf}
 use Rattle.hwdb_text.specs.Views.{bytes_in, choice_in}
 use Rattle.hwdb_tool.specs.Internal.{AreReadOf}
-use Rattle.hwdb_spec.specs.Reading.{IsText}
+use Rattle.hwdb_spec_commands.specs.Reading.{IsText}
 use Rattle.hwdb_spec.specs.Texts.{max_file}
-use Rattle.hwdb_spec.specs.Readable.{AreAllRead}
+use Rattle.hwdb_spec_commands.specs.Readable.{AreAllRead}
 use Rattle.hwdb_spec.specs.Lemmas.Orders.{same_itself, same_text}
 
 -- what an option holds, or nothing

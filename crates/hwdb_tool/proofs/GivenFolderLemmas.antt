@@ -3,14 +3,14 @@ use Rattle.std.proofs.Common.{◌≡◌, ◌<◌, ◌∙◌, ◌++◌, ◌+◌, 
 use Rattle.std.specs.Prelude.{nat_eq}
 use Rattle.std.specs.Result.{IsErrAnd}
 use Rattle.std.proofs.lemmas.List.{map-append, take_more}
-use Rattle.hwdb_spec.specs.CheckedFiles.{StandFor, StandsFor, folder_of, is_file}
+use Rattle.hwdb_spec_commands.specs.CheckedFiles.{StandFor, StandsFor, folder_of, is_file}
 use Rattle.hwdb_spec.specs.Folders.{Choice}
-use Rattle.hwdb_spec.specs.Given.{any_dash, is_dash}
+use Rattle.hwdb_spec_commands.specs.Given.{any_dash, is_dash}
 use Rattle.hwdb_spec.specs.Store.{Contents, path_in}
-use Rattle.hwdb_spec.specs.declared.refusals.Refusal.{Refusal}
-use Rattle.hwdb_spec.specs.declared.refusals.Refusal.TheVariants.{Plain}
+use Rattle.hwdb_spec_commands.specs.declared.refusals.Refusal.{Refusal}
+use Rattle.hwdb_spec_commands.specs.declared.refusals.Refusal.TheVariants.{Plain}
 use Rattle.hwdb_spec.specs.declared.errors.ToolError.TheVariants.{Memory}
-use Rattle.hwdb_spec.specs.GivenFolders.{AreFoldersUnread, IsFolderUnread}
+use Rattle.hwdb_spec_commands.specs.GivenFolders.{AreFoldersUnread, IsFolderUnread}
 use Rattle.hwdb_spec.specs.Lemmas.Calls.{given_error}
 use Rattle.hwdb_spec.specs.Lemmas.Truth.{neither_or, or_neither}
 

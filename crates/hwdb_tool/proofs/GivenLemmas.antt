@@ -1,20 +1,20 @@
 -- The errors of files that words name.
 use Rattle.std.proofs.Common.{◌≡◌, ◌≤◌, ◌⊎◌, ◌==◌, inl, inr, sym, subst, refl, ℕ, Bool, true, false, length, not, List, [], ◌∷◌, Option, None, Some, map, string_bytes, Global, String, IfSome}
 use Rattle.std.specs.Prelude.{is_some}
-use Rattle.hwdb_spec.specs.CheckedFiles.{AreCheckedFiles}
+use Rattle.hwdb_spec_commands.specs.CheckedFiles.{AreCheckedFiles}
 use Rattle.hwdb_spec.specs.Folders.{Source}
-use Rattle.hwdb_spec.specs.Given.{any_dash, is_dash}
+use Rattle.hwdb_spec_commands.specs.Given.{any_dash, is_dash}
 use Rattle.hwdb_spec.specs.Store.{Contents}
 use Rattle.hwdb_spec.specs.System.{bytes_at}
 use Rattle.hwdb_spec.specs.Texts.{max_file}
 use Rattle.hwdb_spec.specs.declared.errors.ToolError.{ToolError}
 use Rattle.hwdb_spec.specs.declared.errors.ToolError.TheVariants.{Read, Write, TooLong, TooManyFiles, TooManyLines, TooLarge, BadPosition, BadDatabase, Replace, Memory}
-use Rattle.hwdb_spec.specs.Refusals.{HasReason, IsUnreadAt, IsUnreadable}
-use Rattle.hwdb_spec.specs.declared.refusals.Refusal.{Refusal}
-use Rattle.hwdb_spec.specs.declared.refusals.Refusal.TheVariants.{At, InWords, NoDatabase, Plain}
-use Rattle.hwdb_spec.specs.CheckedReasons.{HasCheckedReason, HasNamedReason}
-use Rattle.hwdb_spec.specs.Queries.{IsWholeInputUnread}
-use Rattle.hwdb_spec.specs.Reasons.{HasFilesReason, HasGivenReason, IsFileReason, IsFirstGiven, IsInputRead, IsOfFiles, TellsNoPath}
+use Rattle.hwdb_spec_commands.specs.Refusals.{HasReason, IsUnreadAt, IsUnreadable}
+use Rattle.hwdb_spec_commands.specs.declared.refusals.Refusal.{Refusal}
+use Rattle.hwdb_spec_commands.specs.declared.refusals.Refusal.TheVariants.{At, InWords, NoDatabase, Plain}
+use Rattle.hwdb_spec_program.specs.CheckedReasons.{HasCheckedReason, HasNamedReason}
+use Rattle.hwdb_spec_commands.specs.Queries.{IsWholeInputUnread}
+use Rattle.hwdb_spec_commands.specs.Reasons.{HasFilesReason, HasGivenReason, IsFileReason, IsFirstGiven, IsInputRead, IsOfFiles, TellsNoPath}
 
 module _ (fails : List ℕ → Type 0) (U : Type 0) (files : Contents) (input : Option (List ℕ)) (n m : ℕ) where
   of_plain : (r : Refusal) → HasGivenReason false fails files input n m r → HasReason (IsUnreadable fails files) U files r

@@ -3,37 +3,37 @@ use Rattle.std.proofs.Common.{◌≡◌, ◌<◌, ◌⊎◌, ◌∙◌, ◌++◌
 use Rattle.std.proofs.lemmas.List.{reverse-append}
 use Rattle.std.proofs.lemmas.List.Elements.{Contains-append_right}
 use Rattle.std.specs.Prelude.{Contains, codes, option_map}
-use Rattle.hwdb_spec.specs.declared.job.Task.TheVariants.{Ask, Check, Diff, Dump, Explain, Near, Query, Test, Verify}
-use Rattle.hwdb_spec.specs.Asked.{IsAskedPath}
-use Rattle.hwdb_spec.specs.CheckedFiles.{StandFor, folder_of}
+use Rattle.hwdb_spec_commands.specs.declared.job.Task.TheVariants.{Ask, Check, Diff, Dump, Explain, Near, Query, Test, Verify}
+use Rattle.hwdb_spec_commands.specs.Asked.{IsAskedPath}
+use Rattle.hwdb_spec_commands.specs.CheckedFiles.{StandFor, folder_of}
 use Rattle.hwdb_spec.specs.Failures.{HasFailed}
 use Rattle.hwdb_spec.specs.Folders.{Choice, Source, path_of}
-use Rattle.hwdb_spec.specs.Given.{any_dash, is_dash, is_input}
-use Rattle.hwdb_spec.specs.ManyDevices.{HasLongLine}
+use Rattle.hwdb_spec_commands.specs.Given.{any_dash, is_dash, is_input}
+use Rattle.hwdb_spec_commands.specs.ManyDevices.{HasLongLine}
 use Rattle.hwdb_spec.specs.Store.{Contents, Outcomes, database_name, path_in}
 use Rattle.hwdb_spec.specs.System.{database_folder, etc_files, usr_files}
 use Rattle.hwdb_spec.specs.Texts.{max_file}
 use Rattle.hwdb_spec.specs.declared.DbFault.{DbFault}
-use Rattle.hwdb_spec.specs.ComparedDatabases.{HasDiffReason, IsGivenSideRefused, IsOfDiff, IsPairRefused}
-use Rattle.hwdb_spec.specs.GivenDatabases.{twice_text}
+use Rattle.hwdb_spec_program.specs.ComparedDatabases.{HasDiffReason, IsGivenSideRefused, IsOfDiff, IsPairRefused}
+use Rattle.hwdb_spec_program.specs.GivenDatabases.{twice_text}
 use Rattle.hwdb_spec.specs.declared.errors.DiffError.{DiffError}
 use Rattle.hwdb_spec.specs.declared.errors.DiffError.TheVariants as differing
 use Rattle.hwdb_spec.specs.declared.errors.ToolError.{ToolError}
 use Rattle.hwdb_spec.specs.declared.errors.ToolError.TheVariants.{Read, Write, TooLong, TooManyFiles, TooManyLines, TooLarge, BadPosition, BadDatabase, Replace, Memory}
-use Rattle.hwdb_spec.specs.Reading.{AreUnread}
-use Rattle.hwdb_spec.specs.Refusals.{HasReason, IsAt, IsInWords, IsOfDatabase, IsOver, IsUnlisted, IsUnread, IsUnreadAt, IsUnreadable}
-use Rattle.hwdb_spec.specs.Sides.{AreNotMadeAt, IsSideRefused, no_texts_text}
+use Rattle.hwdb_spec_commands.specs.Reading.{AreUnread}
+use Rattle.hwdb_spec_commands.specs.Refusals.{HasReason, IsAt, IsInWords, IsOfDatabase, IsOver, IsUnlisted, IsUnread, IsUnreadAt, IsUnreadable}
+use Rattle.hwdb_spec_commands.specs.Sides.{AreNotMadeAt, IsSideRefused, no_texts_text}
 use Rattle.hwdb_spec.specs.Errors.{refusal_of_compile}
-use Rattle.hwdb_spec.specs.declared.refusals.Refusal.{Refusal}
-use Rattle.hwdb_spec.specs.declared.refusals.Refusal.TheVariants.{At, InWords, NoDatabase, Plain}
-use Rattle.hwdb_spec.specs.CheckedReasons.{HasCheckedReason, HasNamedReason}
-use Rattle.hwdb_spec.specs.GivenFolders.{AreFoldersUnread, IsFolderUnread, IsUnlistedFolder}
+use Rattle.hwdb_spec_commands.specs.declared.refusals.Refusal.{Refusal}
+use Rattle.hwdb_spec_commands.specs.declared.refusals.Refusal.TheVariants.{At, InWords, NoDatabase, Plain}
+use Rattle.hwdb_spec_program.specs.CheckedReasons.{HasCheckedReason, HasNamedReason}
+use Rattle.hwdb_spec_commands.specs.GivenFolders.{AreFoldersUnread, IsFolderUnread, IsUnlistedFolder}
 use Rattle.hwdb_tool.specs.OneRefusal.{InputIsLong, InputIsRead, IsInNamed, IsOfDiffed, IsOfSide, LineIsLong}
 use Rattle.hwdb_tool.proofs.SideErrorLemmas.{stand_below}
-use Rattle.hwdb_spec.specs.NamedDatabases.{IsUnnamed}
-use Rattle.hwdb_spec.specs.TestErrors.{AreUntried, HasTestReason}
-use Rattle.hwdb_spec.specs.Undone.{IsUnfound, told_path}
-use Rattle.hwdb_spec.specs.Reasons.{HasAskedReason, HasFilesReason, HasGivenReason, IsFirstGiven, IsGivenTooLong, IsGivenUnreadable, IsOfFiles}
+use Rattle.hwdb_spec_program.specs.NamedDatabases.{IsUnnamed}
+use Rattle.hwdb_spec_program.specs.TestErrors.{AreUntried, HasTestReason}
+use Rattle.hwdb_spec_commands.specs.Undone.{IsUnfound, told_path}
+use Rattle.hwdb_spec_commands.specs.Reasons.{HasAskedReason, HasFilesReason, HasGivenReason, IsFirstGiven, IsGivenTooLong, IsGivenUnreadable, IsOfFiles}
 
 not_false : (b : Bool) → not b ≡ false → b ≡ true
 not_false true is = refl

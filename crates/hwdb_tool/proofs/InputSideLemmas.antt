@@ -1,21 +1,21 @@
 -- A side of `diff` that is standard input: a database that has what is told of it.
 use Rattle.std.proofs.Common.{◌≡◌, ◌≤◌, ◌⊎◌, ◌∙◌, ◌∷◌, ◌&&◌, ◌||◌, inl, inr, sym, subst, refl, ℕ, Bool, true, false, List, length, Option, Some, Result, Ok, Err, IfErr, IfOk, IfSome, Vec, Global}
-use Rattle.hwdb_spec.specs.CheckedFiles.{folder_of, is_file}
-use Rattle.hwdb_spec.specs.ComparedDatabases.{AreHeld, IsCompared, IsGivenSideRefused, IsSideGiven}
-use Rattle.hwdb_spec.specs.Given.{any_dash, is_dash}
-use Rattle.hwdb_spec.specs.GivenDatabases.{OfGiven, names_twice, with_input}
-use Rattle.hwdb_spec.specs.Queries.{IsWholeInputUnread}
-use Rattle.hwdb_spec.specs.Reasons.{HasGivenReason}
-use Rattle.hwdb_spec.specs.Refusals.{HasReason, IsUnread, IsUnreadable}
-use Rattle.hwdb_spec.specs.Sides.{AreBytesOf, IsKind, IsSide, Kind, file_name, names_text}
-use Rattle.hwdb_spec.specs.Sides.Kind.{Database, Empty, Root, Texts}
+use Rattle.hwdb_spec_commands.specs.CheckedFiles.{folder_of, is_file}
+use Rattle.hwdb_spec_program.specs.ComparedDatabases.{AreHeld, IsCompared, IsGivenSideRefused, IsSideGiven}
+use Rattle.hwdb_spec_commands.specs.Given.{any_dash, is_dash}
+use Rattle.hwdb_spec_program.specs.GivenDatabases.{OfGiven, names_twice, with_input}
+use Rattle.hwdb_spec_commands.specs.Queries.{IsWholeInputUnread}
+use Rattle.hwdb_spec_commands.specs.Reasons.{HasGivenReason}
+use Rattle.hwdb_spec_commands.specs.Refusals.{HasReason, IsUnread, IsUnreadable}
+use Rattle.hwdb_spec_commands.specs.Sides.{AreBytesOf, IsKind, IsSide, Kind, file_name, names_text}
+use Rattle.hwdb_spec_commands.specs.Sides.Kind.{Database, Empty, Root, Texts}
 use Rattle.hwdb_spec.specs.Store.{Contents}
 use Rattle.hwdb_spec.specs.System.{bytes_at}
 use Rattle.hwdb_spec.specs.Texts.{max_file}
 use Rattle.hwdb_spec.specs.Tree.{Tree}
 use Rattle.hwdb_spec.specs.declared.errors.ToolError.TheVariants.{Memory}
-use Rattle.hwdb_spec.specs.declared.refusals.Refusal.{Refusal}
-use Rattle.hwdb_spec.specs.declared.refusals.Refusal.TheVariants.{Plain}
+use Rattle.hwdb_spec_commands.specs.declared.refusals.Refusal.{Refusal}
+use Rattle.hwdb_spec_commands.specs.declared.refusals.Refusal.TheVariants.{Plain}
 use Rattle.hwdb_tool.specs.SideSteps.{IsGivenSideError, IsOneDash, IsPairError, IsSideError}
 use Rattle.hwdb_tool.proofs.GivenLemmas.{input_reason}
 use Rattle.hwdb_tool.proofs.NamedInputLemmas.{input_at, name}

@@ -6,28 +6,28 @@ use Rattle.clap.specs.Kinds.{IsAmong, Kinds}
 use Rattle.clap.specs.Simple.{matches_of, subcommand_of}
 use Rattle.clap.specs.Walk.{Row, Text, first_of, all_of}
 use Rattle.clap.specs.declared.error.kind.ErrorKind.TheVariants.{DisplayHelp, DisplayVersion}
-use Rattle.hwdb_spec.specs.Jobs.{IsJobOf, IsTask}
-use Rattle.hwdb_spec.specs.CommandLine.{hwdb_app}
-use Rattle.hwdb_spec.specs.WordFaults.{IsToldOfOne}
-use Rattle.hwdb_spec.specs.Words.{AskFor}
-use Rattle.hwdb_spec.specs.declared.job.Job.{Job}
-use Rattle.hwdb_spec.specs.declared.job.Task.{Task}
-use Rattle.hwdb_spec.specs.declared.job.Task.TheVariants.{Ask, Check, Device, Diff, Dump, Explain, List as ListHits, Near, Query, Status, Test, Update, Verify}
-use Rattle.hwdb_spec.specs.declared.job.WordsFault.TheVariants as words_fault
-use Rattle.hwdb_spec.specs.declared.job.WordsFault.{WordsFault}
-use Rattle.hwdb_spec.specs.Given.{is_input}
-use Rattle.hwdb_spec.specs.Hiding.{hiding_text}
+use Rattle.hwdb_spec_commands.specs.Jobs.{IsJobOf, IsTask}
+use Rattle.hwdb_spec_commands.specs.CommandLine.{hwdb_app}
+use Rattle.hwdb_spec_commands.specs.WordFaults.{IsToldOfOne}
+use Rattle.hwdb_spec_program.specs.Words.{AskFor}
+use Rattle.hwdb_spec_commands.specs.declared.job.Job.{Job}
+use Rattle.hwdb_spec_commands.specs.declared.job.Task.{Task}
+use Rattle.hwdb_spec_commands.specs.declared.job.Task.TheVariants.{Ask, Check, Device, Diff, Dump, Explain, List as ListHits, Near, Query, Status, Test, Update, Verify}
+use Rattle.hwdb_spec_commands.specs.declared.job.WordsFault.TheVariants as words_fault
+use Rattle.hwdb_spec_commands.specs.declared.job.WordsFault.{WordsFault}
+use Rattle.hwdb_spec_commands.specs.Given.{is_input}
+use Rattle.hwdb_spec_program.specs.Hiding.{hiding_text}
 use Rattle.hwdb_spec.specs.Store.{Contents, Outcomes}
 use Rattle.hwdb_spec.specs.System.{database_folder}
 use Rattle.hwdb_spec.specs.declared.errors.ToolError.TheVariants.{Read, Write, TooLong, TooManyFiles, TooManyLines, TooLarge, BadPosition, BadDatabase, Replace, Memory}
-use Rattle.hwdb_spec.specs.Refusals.{HasReason, IsUnentered}
-use Rattle.hwdb_spec.specs.declared.refusals.Refusal.{Refusal}
-use Rattle.hwdb_spec.specs.declared.refusals.Refusal.TheVariants.{At, InWords, NoDatabase, Plain}
+use Rattle.hwdb_spec_commands.specs.Refusals.{HasReason, IsUnentered}
+use Rattle.hwdb_spec_commands.specs.declared.refusals.Refusal.{Refusal}
+use Rattle.hwdb_spec_commands.specs.declared.refusals.Refusal.TheVariants.{At, InWords, NoDatabase, Plain}
 use Rattle.hwdb_tool.specs.OneOutcome.{IsOneInput, ListingsGiveOneChoice, ListingsGiveOneReading, Scene, scene_of}
 use Rattle.hwdb_tool.specs.OneRefusal.{IsCovered, IsOfReading, IsOfWhatIsRead, IsOneEnd, JobIsNotTold, RootIsEntered}
-use Rattle.hwdb_spec.specs.Program.{IsTaskDone, root_of}
-use Rattle.hwdb_spec.specs.TaskRefusals.{IsNotDone, refused_status}
-use Rattle.hwdb_spec.specs.Undone.{IsUnwritable}
+use Rattle.hwdb_spec_program.specs.Program.{IsTaskDone, root_of}
+use Rattle.hwdb_spec_program.specs.TaskRefusals.{IsNotDone, refused_status}
+use Rattle.hwdb_spec_commands.specs.Undone.{IsUnwritable}
 use Rattle.hwdb_tool.proofs.DatabaseErrorLemmas.{OneHeader, OneTree, Unlisted}
 use Rattle.hwdb_tool.proofs.NamedErrorLemmas.{NoDump, NoVerify}
 use Rattle.hwdb_tool.proofs.AskErrorLemmas.{OneForm, Unasked}

@@ -9,45 +9,45 @@ use Rattle.clap.specs.declared.error.kind.ErrorKind.TheVariants.{DisplayHelp, Di
 use Rattle.clap.specs.Kinds.{IsAmong}
 use Rattle.clap.specs.Walk.{Row, Text, all_of, first_of, one_of}
 use Rattle.clap.specs.Simple.{matches_of, subcommand_of}
-use Rattle.hwdb_spec.specs.Once.{once}
-use Rattle.hwdb_spec.specs.Jobs.{IsJob, IsJobOf, IsLimit, IsTask}
-use Rattle.hwdb_spec.specs.CommandLine.{hwdb_app}
-use Rattle.hwdb_spec.specs.declared.job.Job.{Job}
-use Rattle.hwdb_spec.specs.declared.job.Task.{Task}
-use Rattle.hwdb_spec.specs.declared.job.Task.TheVariants.{Ask, Check, Device, Diff, Dump, Explain, List as ListHits, Near, Query, Status, Test, Update, Verify}
+use Rattle.hwdb_spec_commands.specs.Once.{once}
+use Rattle.hwdb_spec_commands.specs.Jobs.{IsJob, IsJobOf, IsLimit, IsTask}
+use Rattle.hwdb_spec_commands.specs.CommandLine.{hwdb_app}
+use Rattle.hwdb_spec_commands.specs.declared.job.Job.{Job}
+use Rattle.hwdb_spec_commands.specs.declared.job.Task.{Task}
+use Rattle.hwdb_spec_commands.specs.declared.job.Task.TheVariants.{Ask, Check, Device, Diff, Dump, Explain, List as ListHits, Near, Query, Status, Test, Update, Verify}
 use Rattle.hwdb_spec.specs.Outputs.{Texts}
 use Rattle.std.specs.Io.KnownBytes.{Appends}
 use Rattle.hwdb_spec.specs.Answers.{is_wanted}
 use Rattle.hwdb_spec.specs.Assignment.{Assignment}
-use Rattle.hwdb_spec.specs.Replacements.{masked_files, masked_form, replaced_form, replacements, replacements_for, replacements_form}
-use Rattle.hwdb_spec.specs.Runs.{AreKept, HasTaken, OnOut, Printed, Told, World}
+use Rattle.hwdb_spec_commands.specs.Replacements.{masked_files, masked_form, replaced_form, replacements, replacements_for, replacements_form}
+use Rattle.hwdb_spec_commands.specs.Runs.{AreKept, HasTaken, OnOut, Printed, Told, World}
 use Rattle.hwdb_spec.specs.Store.{Contents, Outcomes}
-use Rattle.hwdb_spec.specs.CheckedFiles.{AreCheckedFiles, IsChecked}
-use Rattle.hwdb_spec.specs.Asked.{IsAnswered, IsListFrom, IsDumped, IsPrinted}
-use Rattle.hwdb_spec.specs.ComparedDatabases.{IsDiffed}
-use Rattle.hwdb_spec.specs.GivenDatabases.{OfNamed}
-use Rattle.hwdb_spec.specs.Done.{IsAsked}
-use Rattle.hwdb_spec.specs.Status.{IsMade, IsStatus}
-use Rattle.hwdb_spec.specs.Databases.{IsSummary}
-use Rattle.hwdb_spec.specs.NearAsked.{IsNear, near_form, near_limit}
-use Rattle.hwdb_spec.specs.DeviceAsked.{device_form}
-use Rattle.hwdb_spec.specs.declared.devices.DeviceForm.{DeviceForm}
-use Rattle.hwdb_spec.specs.Queries.{AreAnswered, IfNamed, IsQuiet}
-use Rattle.hwdb_spec.specs.declared.form.Form.{Form}
-use Rattle.hwdb_spec.specs.declared.form.Form.TheVariants as form
-use Rattle.hwdb_spec.specs.Given.{is_dash, is_input}
-use Rattle.hwdb_spec.specs.Program.{IsAnswerOf, IsDeviceAnswer, IsDone, IsDoneFrom, IsTaskDone, asks_text, root_of, streams}
+use Rattle.hwdb_spec_commands.specs.CheckedFiles.{AreCheckedFiles, IsChecked}
+use Rattle.hwdb_spec_commands.specs.Asked.{IsAnswered, IsListFrom, IsDumped, IsPrinted}
+use Rattle.hwdb_spec_program.specs.ComparedDatabases.{IsDiffed}
+use Rattle.hwdb_spec_program.specs.GivenDatabases.{OfNamed}
+use Rattle.hwdb_spec_commands.specs.Done.{IsAsked}
+use Rattle.hwdb_spec_commands.specs.Status.{IsMade, IsStatus}
+use Rattle.hwdb_spec_commands.specs.Databases.{IsSummary}
+use Rattle.hwdb_spec_commands.specs.NearAsked.{IsNear, near_form, near_limit}
+use Rattle.hwdb_spec_commands.specs.DeviceAsked.{device_form}
+use Rattle.hwdb_spec_commands.specs.declared.devices.DeviceForm.{DeviceForm}
+use Rattle.hwdb_spec_commands.specs.Queries.{AreAnswered, IfNamed, IsQuiet}
+use Rattle.hwdb_spec_commands.specs.declared.form.Form.{Form}
+use Rattle.hwdb_spec_commands.specs.declared.form.Form.TheVariants as form
+use Rattle.hwdb_spec_commands.specs.Given.{is_dash, is_input}
+use Rattle.hwdb_spec_program.specs.Program.{IsAnswerOf, IsDeviceAnswer, IsDone, IsDoneFrom, IsTaskDone, asks_text, root_of, streams}
 use Rattle.hwdb_spec.specs.Folders.{Source}
-use Rattle.hwdb_spec.specs.OverText.{misuse_text, said_besides, takes_text, text_besides, text_if, with_database, with_out, world_over}
+use Rattle.hwdb_spec_commands.specs.OverText.{misuse_text, said_besides, takes_text, text_besides, text_if, with_database, with_out, world_over}
 use Rattle.hwdb_spec.specs.Store.{Same}
 use Rattle.hwdb_spec.specs.System.{database_folder}
-use Rattle.hwdb_spec.specs.TaskRefusals.{IsNotDone, IsNotDoneFrom}
+use Rattle.hwdb_spec_program.specs.TaskRefusals.{IsNotDone, IsNotDoneFrom}
 use Rattle.hwdb_spec.specs.Tree.{Map, map_of_files}
-use Rattle.hwdb_spec.specs.declared.refusals.Refusal.{Refusal}
+use Rattle.hwdb_spec_commands.specs.declared.refusals.Refusal.{Refusal}
 use Rattle.hwdb_spec.specs.Written.{IsWritten}
 use Rattle.hwdb_tool.proofs.OutcomeLemmas.{one_assignments, one_kept, one_map, one_taken}
 use Rattle.hwdb_tool.proofs.StatusLemmas.{all_masked}
-use Rattle.hwdb_spec.specs.Tested.{IsTested}
+use Rattle.hwdb_spec_program.specs.Tested.{IsTested}
 use Rattle.hwdb_tool.specs.OneOutcome.{DoneIsNotTold, IsOneInput, IsOneOutcome, IsOneReading, JobsAreOne, LeavesNothingOut, ListingsGiveOneReading, Scene, TasksAreOne, scene_of}
 
 pub one_value : (o : Option (List ℕ)) (a b : List ℕ) → Some a ≡ o → Some b ≡ o → a ≡ b

@@ -4,10 +4,10 @@ use Rattle.hwdb_spec.specs.Store.{Contents, LeavesOnly, Outcomes, Stored}
 use Rattle.hwdb_spec.specs.System.{database_folder}
 use Rattle.hwdb_text.specs.declared.choice.ChosenFile.{ChosenFile}
 use Rattle.hwdb_compile.specs.Views.{ForFolders}
-use Rattle.hwdb_spec.specs.Done.{OldOrWritten, OldOrUpdated, OldOrUpdatedLess}
+use Rattle.hwdb_spec_commands.specs.Done.{OldOrWritten, OldOrUpdated, OldOrUpdatedLess}
 use Rattle.hwdb_tool.specs.Internal.{AreReadOf}
 use Rattle.hwdb_spec.specs.Folders.{Choice}
-use Rattle.hwdb_spec.specs.LeftOut.{AreLeftOut, without}
+use Rattle.hwdb_spec_commands.specs.LeftOut.{AreLeftOut, without}
 
 -- what leaves less leaves only that
 pub leaves_more : {D : Type 0} (moment : D → ℕ) (left_since : D → ℕ → Outcomes) (old new : D) (less more : Outcomes)

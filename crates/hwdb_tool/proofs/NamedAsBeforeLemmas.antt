@@ -1,28 +1,28 @@
 -- The older promises of `verify` and `dump`, if the database that words name may be standard input.
 use Rattle.std.proofs.Common.{◌≡◌, inl, inr, ap, sym, subst, refl, List, Option, None, Some, Result, Ok, Err, IfOk, IfErr, ℕ, Bool, true, false, []}
 use Rattle.std.specs.Prelude.{is_some}
-use Rattle.hwdb_spec.specs.Asked.{IsDumped, IsPrinted, unsayable_text}
+use Rattle.hwdb_spec_commands.specs.Asked.{IsDumped, IsPrinted, unsayable_text}
 use Rattle.hwdb_spec.specs.Assignment.{Assignment}
-use Rattle.hwdb_spec.specs.Databases.{IsSummary}
-use Rattle.hwdb_spec.specs.Dump.{dump_text, dumped, first_unsaid}
-use Rattle.hwdb_spec.specs.Given.{is_dash}
-use Rattle.hwdb_spec.specs.GivenDatabases.{HasDatabaseReason, OfGiven, OfNamed, with_input}
+use Rattle.hwdb_spec_commands.specs.Databases.{IsSummary}
+use Rattle.hwdb_spec_commands.specs.Dump.{dump_text, dumped, first_unsaid}
+use Rattle.hwdb_spec_commands.specs.Given.{is_dash}
+use Rattle.hwdb_spec_program.specs.GivenDatabases.{HasDatabaseReason, OfGiven, OfNamed, with_input}
 use Rattle.hwdb_spec.specs.Lemmas.Calls.{each_error}
-use Rattle.hwdb_spec.specs.NamedDatabases.{IsDumpRefused, IsVerifyRefused}
-use Rattle.hwdb_spec.specs.Reasons.{HasGivenReason}
-use Rattle.hwdb_spec.specs.Refusals.{HasReason, IsUnread}
-use Rattle.hwdb_spec.specs.Runs.{OnOut}
+use Rattle.hwdb_spec_program.specs.NamedDatabases.{IsDumpRefused, IsVerifyRefused}
+use Rattle.hwdb_spec_commands.specs.Reasons.{HasGivenReason}
+use Rattle.hwdb_spec_commands.specs.Refusals.{HasReason, IsUnread}
+use Rattle.hwdb_spec_commands.specs.Runs.{OnOut}
 use Rattle.hwdb_spec.specs.Store.{Contents}
-use Rattle.hwdb_spec.specs.Told.{AreReadsOf, Reads, stop_of, unread_stop}
-use Rattle.hwdb_spec.specs.Told.Stop.{Over, Says}
-use Rattle.hwdb_spec.specs.Undone.{IsUnreadableIf}
-use Rattle.hwdb_spec.specs.Verdicts.{verdict_text}
+use Rattle.hwdb_spec_commands.specs.Told.{AreReadsOf, Reads, stop_of, unread_stop}
+use Rattle.hwdb_spec_commands.specs.Told.Stop.{Over, Says}
+use Rattle.hwdb_spec_commands.specs.Undone.{IsUnreadableIf}
+use Rattle.hwdb_spec_commands.specs.Verdicts.{verdict_text}
 use Rattle.hwdb_spec.specs.declared.causes.Cause.TheVariants as why
 use Rattle.hwdb_spec.specs.declared.errors.ToolError.TheVariants.{BadDatabase, Memory, Read, TooLong}
-use Rattle.hwdb_spec.specs.declared.refusals.Refusal.{Refusal}
-use Rattle.hwdb_spec.specs.declared.refusals.Refusal.TheVariants.{Plain}
-use Rattle.hwdb_spec.specs.declared.unread.Unread.{Unread}
-use Rattle.hwdb_spec.specs.declared.unread.Unread.TheVariants as unread
+use Rattle.hwdb_spec_commands.specs.declared.refusals.Refusal.{Refusal}
+use Rattle.hwdb_spec_commands.specs.declared.refusals.Refusal.TheVariants.{Plain}
+use Rattle.hwdb_spec_commands.specs.declared.unread.Unread.{Unread}
+use Rattle.hwdb_spec_commands.specs.declared.unread.Unread.TheVariants as unread
 use Rattle.hwdb_plan.specs.Dump.{dump_plan, if_said, text_form}
 use Rattle.hwdb_plan.specs.Input.{IsInputTold, OverGiven, OverInput, OverNamed, reads_with}
 use Rattle.hwdb_plan.specs.Plans.{Ends, Follows}

@@ -2,11 +2,11 @@
 use Rattle.std.proofs.Common.{◌≡◌, ◌<◌, ◌∙◌, ap, inl, inr, sym, subst, refl, ℕ, Bool, true, false, List, length, Option, None, Some, IfSome}
 use Rattle.std.specs.Prelude.{codes}
 use Rattle.hwdb_spec.specs.Failures.{HasFailed}
-use Rattle.hwdb_spec.specs.Given.{is_dash}
-use Rattle.hwdb_spec.specs.GivenDatabases.{HasDatabaseReason, OfGiven, OfNamed, with_input}
-use Rattle.hwdb_spec.specs.NamedDatabases.{IsDumpRefused, IsOfDump, IsOfVerify, IsUnnamed, IsVerifyRefused}
-use Rattle.hwdb_spec.specs.Reasons.{HasGivenReason}
-use Rattle.hwdb_spec.specs.Refusals.{HasReason, IsUnreadable}
+use Rattle.hwdb_spec_commands.specs.Given.{is_dash}
+use Rattle.hwdb_spec_program.specs.GivenDatabases.{HasDatabaseReason, OfGiven, OfNamed, with_input}
+use Rattle.hwdb_spec_program.specs.NamedDatabases.{IsDumpRefused, IsOfDump, IsOfVerify, IsUnnamed, IsVerifyRefused}
+use Rattle.hwdb_spec_commands.specs.Reasons.{HasGivenReason}
+use Rattle.hwdb_spec_commands.specs.Refusals.{HasReason, IsUnreadable}
 use Rattle.hwdb_spec.specs.Store.{Contents}
 use Rattle.hwdb_spec.specs.System.{bytes_at}
 use Rattle.hwdb_spec.specs.Texts.{max_file}
@@ -15,8 +15,8 @@ use Rattle.hwdb_spec.specs.declared.errors.DumpError.TheVariants as dumping
 use Rattle.hwdb_spec.specs.declared.errors.ToolError.TheVariants.{BadDatabase, BadPosition, Memory, Read, Replace, TooLarge, TooLong, TooManyFiles, TooManyLines, Write}
 use Rattle.hwdb_spec.specs.declared.errors.VerifyError.{VerifyError}
 use Rattle.hwdb_spec.specs.declared.errors.VerifyError.TheVariants as verifying
-use Rattle.hwdb_spec.specs.declared.refusals.Refusal.{Refusal}
-use Rattle.hwdb_spec.specs.declared.refusals.Refusal.TheVariants.{At, InWords, NoDatabase, Plain}
+use Rattle.hwdb_spec_commands.specs.declared.refusals.Refusal.{Refusal}
+use Rattle.hwdb_spec_commands.specs.declared.refusals.Refusal.TheVariants.{At, InWords, NoDatabase, Plain}
 use Rattle.hwdb_tool.specs.OneRefusal.{IsOfWhatIsRead}
 use Rattle.hwdb_tool.proofs.DatabaseErrorLemmas.{OneHeader, Undumped, Unverified, undumped, unverified}
 use Rattle.hwdb_tool.proofs.GivenLemmas.{plain_reason}

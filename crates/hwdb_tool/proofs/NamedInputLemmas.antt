@@ -2,25 +2,25 @@
 use Rattle.std.proofs.Common.{Global, Vec, arith, ◌≡◌, ◌≢◌, ◌≤◌, ◌<◌, ◌⊎◌, ◌∙◌, inl, inr, ap, sym, subst, refl, ℕ, Bool, true, false, List, [], length, Option, None, Some, Result, Ok, Err, IfErr, IfOk, IfSome, option_map}
 use Rattle.std.specs.Prelude.{codes, is_some, vec_len}
 use Rattle.std.specs.Result.{IsErrAnd}
-use Rattle.hwdb_spec.specs.Asked.{IsDumped, IsPrinted, named_database}
-use Rattle.hwdb_spec.specs.Databases.{IsSayable, IsSummary, IsTextOf}
-use Rattle.hwdb_spec.specs.Dump.{dump_text}
-use Rattle.hwdb_spec.specs.DumpErrors.{IsDumpRefusal}
+use Rattle.hwdb_spec_commands.specs.Asked.{IsDumped, IsPrinted, named_database}
+use Rattle.hwdb_spec_commands.specs.Databases.{IsSayable, IsSummary, IsTextOf}
+use Rattle.hwdb_spec_commands.specs.Dump.{dump_text}
+use Rattle.hwdb_spec_commands.specs.DumpErrors.{IsDumpRefusal}
 use Rattle.hwdb_spec.specs.Errors.{refusal_of_read}
 use Rattle.hwdb_spec.specs.Failures.{HasFailed}
-use Rattle.hwdb_spec.specs.GivenDatabases.{HasDatabaseReason, OfGiven, OfNamed, names_input, with_input}
-use Rattle.hwdb_spec.specs.NamedDatabases.{IsDumpRefused, IsOfDump, IsOfVerify, IsVerifyRefused}
-use Rattle.hwdb_spec.specs.Queries.{IsOfWholeInput, IsWholeInputUnread}
-use Rattle.hwdb_spec.specs.Reasons.{HasGivenReason}
-use Rattle.hwdb_spec.specs.Refusals.{HasReason, IsAt, IsInWords, IsOfCause, IsUnread, IsUnreadAt}
-use Rattle.hwdb_spec.specs.Runs.{OnOut}
+use Rattle.hwdb_spec_program.specs.GivenDatabases.{HasDatabaseReason, OfGiven, OfNamed, names_input, with_input}
+use Rattle.hwdb_spec_program.specs.NamedDatabases.{IsDumpRefused, IsOfDump, IsOfVerify, IsVerifyRefused}
+use Rattle.hwdb_spec_commands.specs.Queries.{IsOfWholeInput, IsWholeInputUnread}
+use Rattle.hwdb_spec_commands.specs.Reasons.{HasGivenReason}
+use Rattle.hwdb_spec_commands.specs.Refusals.{HasReason, IsAt, IsInWords, IsOfCause, IsUnread, IsUnreadAt}
+use Rattle.hwdb_spec_commands.specs.Runs.{OnOut}
 use Rattle.hwdb_spec.specs.Store.{Contents}
 use Rattle.hwdb_spec.specs.System.{bytes_at}
 use Rattle.hwdb_spec.specs.Texts.{max_file}
-use Rattle.hwdb_spec.specs.Told.{IsStop, IsUnreadAs, Reads, stop_of, unread_stop}
-use Rattle.hwdb_spec.specs.Told.Stop.{Over}
-use Rattle.hwdb_spec.specs.Undone.{IsUnreadableIf}
-use Rattle.hwdb_spec.specs.VerifyErrors.{IsVerifyRefusal}
+use Rattle.hwdb_spec_commands.specs.Told.{IsStop, IsUnreadAs, Reads, stop_of, unread_stop}
+use Rattle.hwdb_spec_commands.specs.Told.Stop.{Over}
+use Rattle.hwdb_spec_commands.specs.Undone.{IsUnreadableIf}
+use Rattle.hwdb_spec_commands.specs.VerifyErrors.{IsVerifyRefusal}
 use Rattle.hwdb_spec.specs.declared.causes.Cause.{Cause}
 use Rattle.hwdb_spec.specs.declared.causes.Cause.TheVariants as why
 use Rattle.hwdb_spec.specs.declared.errors.DumpError.{DumpError}
@@ -31,10 +31,10 @@ use Rattle.hwdb_spec.specs.declared.errors.ToolError.{ToolError}
 use Rattle.hwdb_spec.specs.declared.errors.ToolError.TheVariants.{BadDatabase, BadPosition, Memory, Read, Replace, TooLarge, TooLong, TooManyFiles, TooManyLines, Write}
 use Rattle.hwdb_spec.specs.declared.errors.VerifyError.{VerifyError}
 use Rattle.hwdb_spec.specs.declared.errors.VerifyError.TheVariants as verifying
-use Rattle.hwdb_spec.specs.declared.refusals.Refusal.{Refusal}
-use Rattle.hwdb_spec.specs.declared.refusals.Refusal.TheVariants.{At, InWords, NoDatabase, Plain}
-use Rattle.hwdb_spec.specs.declared.unread.Unread.{Unread}
-use Rattle.hwdb_spec.specs.declared.unread.Unread.TheVariants as unread
+use Rattle.hwdb_spec_commands.specs.declared.refusals.Refusal.{Refusal}
+use Rattle.hwdb_spec_commands.specs.declared.refusals.Refusal.TheVariants.{At, InWords, NoDatabase, Plain}
+use Rattle.hwdb_spec_commands.specs.declared.unread.Unread.{Unread}
+use Rattle.hwdb_spec_commands.specs.declared.unread.Unread.TheVariants as unread
 use Rattle.hwdb_plan.specs.Asking.{if_read}
 use Rattle.hwdb_plan.specs.Input.{IsInputTold, OverGiven, OverInput, OverNamed, reads_with}
 use Rattle.hwdb_plan.specs.Lemmas.Steps.{input_told, input_untold, plainly}

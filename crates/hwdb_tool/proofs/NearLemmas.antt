@@ -1,20 +1,20 @@
 -- What `near` reads, and its errors.
 use Rattle.std.proofs.Common.{◌≡◌, ℕ, Bool, true, false, List, [], ◌∷◌, length, map, arith, eqb-true, string_bytes, Global, Option, String}
 use Rattle.std.specs.Bool.{◌==◌}
-use Rattle.hwdb_spec.specs.Asked.{IsAnswered}
-use Rattle.hwdb_spec.specs.CheckedFiles.{AreGivenFiles}
-use Rattle.hwdb_spec.specs.Databases.{IsTextOf}
+use Rattle.hwdb_spec_commands.specs.Asked.{IsAnswered}
+use Rattle.hwdb_spec_commands.specs.CheckedFiles.{AreGivenFiles}
+use Rattle.hwdb_spec_commands.specs.Databases.{IsTextOf}
 use Rattle.hwdb_spec.specs.Folders.{Source}
-use Rattle.hwdb_spec.specs.Near.{PatternAt}
-use Rattle.hwdb_spec.specs.NearAsked.{IsNear, database_patterns, patterns_from}
+use Rattle.hwdb_spec_commands.specs.Near.{PatternAt}
+use Rattle.hwdb_spec_commands.specs.NearAsked.{IsNear, database_patterns, patterns_from}
 use Rattle.hwdb_spec.specs.Store.{Contents}
 use Rattle.hwdb_near.specs.Refusals.{IsNearRefusal}
 use Rattle.hwdb_spec.specs.declared.errors.NearError.{NearError}
 use Rattle.hwdb_spec.specs.declared.errors.NearError.TheVariants as comparing
-use Rattle.hwdb_spec.specs.DatabaseErrors.{IsDatabaseRefusal}
-use Rattle.hwdb_spec.specs.NearErrors.{IsNearRefused, error_of}
-use Rattle.hwdb_spec.specs.Undone.{IsGivenUnread, IsUnanswered}
-use Rattle.hwdb_spec.specs.declared.refusals.Refusal.{Refusal}
+use Rattle.hwdb_spec_commands.specs.DatabaseErrors.{IsDatabaseRefusal}
+use Rattle.hwdb_spec_program.specs.NearErrors.{IsNearRefused, error_of}
+use Rattle.hwdb_spec_commands.specs.Undone.{IsGivenUnread, IsUnanswered}
+use Rattle.hwdb_spec_commands.specs.declared.refusals.Refusal.{Refusal}
 
 -- an error of the comparison is one of a database
 pub compared_error : (bytes : List ℕ) (error : NearError) → IsNearRefusal bytes error → IsDatabaseRefusal bytes (error_of error)

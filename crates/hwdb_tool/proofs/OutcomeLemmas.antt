@@ -10,14 +10,15 @@ use Rattle.hwdb_spec.specs.Assignment.{Assignment}
 use Rattle.hwdb_spec.specs.Folders.{Source, Choice, FaultIn, all_assignments, chosen_of, contents, faults_of_files, file_assignments, file_faults, path_of}
 use Rattle.hwdb_spec.specs.Format.{IsDatabase}
 use Rattle.hwdb_spec.specs.Lines.{byte}
-use Rattle.hwdb_spec.specs.Progress.{chosen_line, deep_line, kept_line, listing, progress_text, too_long_lines, update_text, within_64_bits}
-use Rattle.hwdb_spec.specs.Once.{once}
+use Rattle.hwdb_spec.specs.Folders.{within_64_bits}
+use Rattle.hwdb_spec_commands.specs.Progress.{chosen_line, deep_line, kept_line, listing, progress_text, too_long_lines, update_text}
+use Rattle.hwdb_spec_commands.specs.Once.{once}
 use Rattle.hwdb_spec.specs.Store.{Contents, InPlace, IsKept, IsPartPath, Outcomes, Same, database_file, database_name, path_in}
 use Rattle.hwdb_spec.specs.System.{asked_database}
 use Rattle.hwdb_spec.specs.Tree.{Tree, map_of_files, surviving}
 use Rattle.hwdb_spec.specs.Texts.{faults_text, status_of}
-use Rattle.hwdb_spec.specs.Asked.{IsAnswered}
-use Rattle.hwdb_spec.specs.Databases.{IsTextOf}
+use Rattle.hwdb_spec_commands.specs.Asked.{IsAnswered}
+use Rattle.hwdb_spec_commands.specs.Databases.{IsTextOf}
 use Rattle.hwdb_tool.specs.OneOutcome.{IsOneReading}
 use Rattle.hwdb_spec.specs.Lemmas.Orders.{one_or_two}
 

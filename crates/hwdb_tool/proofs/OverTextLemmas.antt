@@ -2,20 +2,20 @@
 use Rattle.std.proofs.Common.{◌≡◌, ◌∙◌, ◌⊎◌, ◌&&◌, inl, inr, ⊎_elim, ap, sym, refl, subst, arith, true, false, true≢false, List, ℕ, Bool, Option, None, Some}
 use Rattle.std.specs.Borrow.{Bor}
 use Rattle.std.specs.Prelude.{option_map}
-use Rattle.hwdb_spec.specs.DeviceTree.{Sight}
+use Rattle.hwdb_spec_commands.specs.DeviceTree.{Sight}
 use Rattle.hwdb_spec.specs.Failures.{HasFailed}
-use Rattle.hwdb_spec.specs.OverText.{misuse_text, takes_text}
-use Rattle.hwdb_spec.specs.Program.{IsTaskDone, IsUpdate}
-use Rattle.hwdb_spec.specs.Refusals.{HasReason, IsInWords}
-use Rattle.hwdb_spec.specs.Runs.{Told, World}
+use Rattle.hwdb_spec_commands.specs.OverText.{misuse_text, takes_text}
+use Rattle.hwdb_spec_program.specs.Program.{IsTaskDone, IsUpdate}
+use Rattle.hwdb_spec_commands.specs.Refusals.{HasReason, IsInWords}
+use Rattle.hwdb_spec_commands.specs.Runs.{Told, World}
 use Rattle.hwdb_spec.specs.Store.{Contents, Outcomes}
-use Rattle.hwdb_spec.specs.TaskRefusals.{IsNotDone, IsTaskReason, IsTaskRefused}
-use Rattle.hwdb_spec.specs.Undone.{IsUnwritable}
+use Rattle.hwdb_spec_program.specs.TaskRefusals.{IsNotDone, IsTaskReason, IsTaskRefused}
+use Rattle.hwdb_spec_commands.specs.Undone.{IsUnwritable}
 use Rattle.hwdb_spec.specs.declared.errors.ToolError.TheVariants.{Read, Write, TooLong, TooManyFiles, TooManyLines, TooLarge, BadPosition, BadDatabase, Replace, Memory}
-use Rattle.hwdb_spec.specs.declared.job.Task.{Task}
-use Rattle.hwdb_spec.specs.declared.job.Task.TheVariants.{Ask, Check, Device, Diff, Dump, Explain, List as ListHits, Near, Query, Status, Test, Update, Verify}
-use Rattle.hwdb_spec.specs.declared.refusals.Refusal.{Refusal}
-use Rattle.hwdb_spec.specs.declared.refusals.Refusal.TheVariants.{At, InWords, NoDatabase, Plain}
+use Rattle.hwdb_spec_commands.specs.declared.job.Task.{Task}
+use Rattle.hwdb_spec_commands.specs.declared.job.Task.TheVariants.{Ask, Check, Device, Diff, Dump, Explain, List as ListHits, Near, Query, Status, Test, Update, Verify}
+use Rattle.hwdb_spec_commands.specs.declared.refusals.Refusal.{Refusal}
+use Rattle.hwdb_spec_commands.specs.declared.refusals.Refusal.TheVariants.{At, InWords, NoDatabase, Plain}
 
 and_false : {X : Type 0} (b : Bool) → (b && false) ≡ true → X
 and_false true e = absurd (true≢false (sym e))

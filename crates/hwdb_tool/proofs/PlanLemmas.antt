@@ -1,27 +1,27 @@
 -- Ends of `verify` and of `dump`, from what their calls promise.
 use Rattle.std.proofs.Common.{◌≡◌, ◌≤◌, ◌∙◌, ◌⊎◌, inl, inr, ap, sym, subst, List, None, Option, Some, Result, Ok, Err, IfOk, ℕ, [], length}
-use Rattle.hwdb_spec.specs.Asked.{IsDumped, IsPrinted, named_database, unsayable_text}
-use Rattle.hwdb_spec.specs.Runs.{OnOut}
+use Rattle.hwdb_spec_commands.specs.Asked.{IsDumped, IsPrinted, named_database, unsayable_text}
+use Rattle.hwdb_spec_commands.specs.Runs.{OnOut}
 use Rattle.hwdb_spec.specs.Store.{Contents}
 use Rattle.hwdb_spec.specs.Texts.{max_file}
 use Rattle.hwdb_tool.specs.Views.{texts_in}
 use Rattle.hwdb_tool.specs.declared.answer.Answer.{Answer}
-use Rattle.hwdb_spec.specs.Databases.{IsSayable, IsSummary, IsTextOf}
-use Rattle.hwdb_spec.specs.Dump.{dump_text, dumped, first_unsaid}
-use Rattle.hwdb_spec.specs.DumpErrors.{IsDumpRefusal}
+use Rattle.hwdb_spec_commands.specs.Databases.{IsSayable, IsSummary, IsTextOf}
+use Rattle.hwdb_spec_commands.specs.Dump.{dump_text, dumped, first_unsaid}
+use Rattle.hwdb_spec_commands.specs.DumpErrors.{IsDumpRefusal}
 use Rattle.hwdb_spec.specs.Format.{IsDatabase}
-use Rattle.hwdb_spec.specs.Summary.{summary_of, summary_text}
-use Rattle.hwdb_spec.specs.Told.{IsStop, Reads, stop_of}
-use Rattle.hwdb_spec.specs.Told.Stop.{Says}
+use Rattle.hwdb_spec_commands.specs.Summary.{summary_of, summary_text}
+use Rattle.hwdb_spec_commands.specs.Told.{IsStop, Reads, stop_of}
+use Rattle.hwdb_spec_commands.specs.Told.Stop.{Says}
 use Rattle.hwdb_spec.specs.Tree.{Tree}
-use Rattle.hwdb_spec.specs.VerifyErrors.{IsVerifyRefusal}
+use Rattle.hwdb_spec_commands.specs.VerifyErrors.{IsVerifyRefusal}
 use Rattle.hwdb_spec.specs.declared.errors.DumpError.{DumpError}
 use Rattle.hwdb_spec.specs.declared.errors.DumpError.TheVariants as dumping
 use Rattle.hwdb_spec.specs.declared.errors.ToolError.TheVariants as error
 use Rattle.hwdb_spec.specs.declared.errors.VerifyError.{VerifyError}
 use Rattle.hwdb_spec.specs.declared.errors.VerifyError.TheVariants as verifying
-use Rattle.hwdb_spec.specs.declared.refusals.Refusal.{Refusal}
-use Rattle.hwdb_spec.specs.declared.refusals.Refusal.TheVariants as refusal
+use Rattle.hwdb_spec_commands.specs.declared.refusals.Refusal.{Refusal}
+use Rattle.hwdb_spec_commands.specs.declared.refusals.Refusal.TheVariants as refusal
 use Rattle.hwdb_plan.specs.Dump.{dump_stop, if_said, text_form}
 use Rattle.hwdb_plan.specs.Lemmas.Steps.{plainly}
 use Rattle.hwdb_plan.specs.Plans.{Ends}

@@ -2,24 +2,24 @@
 use Rattle.std.proofs.Common.{◌≡◌, inl, inr, refl, subst, sym, Bool, true, ℕ, List, [], option_map, string_bytes, Option, None, Some, Result, Ok, Err, IfOk, IfErr, OnOk, IfSome, Global, String}
 use Rattle.std.proofs.lemmas.List.{append-nil}
 use Rattle.std.specs.Io.KnownBytes.{Appends}
-use Rattle.hwdb_spec.specs.declared.job.Task.TheVariants.{List as ListHits}
-use Rattle.hwdb_spec.specs.AnsweredLines.{line_error}
-use Rattle.hwdb_spec.specs.Streams.{texts_of}
-use Rattle.hwdb_spec.specs.declared.form.Form.{Form}
-use Rattle.hwdb_spec.specs.Asked.{IsAnswered, IsListFrom}
-use Rattle.hwdb_spec.specs.Databases.{IsTextOf}
-use Rattle.hwdb_spec.specs.DeviceTree.{Sight}
-use Rattle.hwdb_spec.specs.Given.{is_input}
+use Rattle.hwdb_spec_commands.specs.declared.job.Task.TheVariants.{List as ListHits}
+use Rattle.hwdb_spec_commands.specs.AnsweredLines.{line_error}
+use Rattle.hwdb_spec_commands.specs.Streams.{texts_of}
+use Rattle.hwdb_spec_commands.specs.declared.form.Form.{Form}
+use Rattle.hwdb_spec_commands.specs.Asked.{IsAnswered, IsListFrom}
+use Rattle.hwdb_spec_commands.specs.Databases.{IsTextOf}
+use Rattle.hwdb_spec_commands.specs.DeviceTree.{Sight}
+use Rattle.hwdb_spec_commands.specs.Given.{is_input}
 use Rattle.hwdb_spec.specs.Outputs.{Texts, TookOne}
-use Rattle.hwdb_spec.specs.Runs.{Files, Printed, Told}
+use Rattle.hwdb_spec_commands.specs.Runs.{Files, Printed, Told}
 use Rattle.hwdb_spec.specs.Store.{Contents}
 use Rattle.hwdb_spec.specs.Texts.{devices_of}
-use Rattle.hwdb_spec.specs.Refusals.{HasReason}
-use Rattle.hwdb_spec.specs.declared.refusals.Refusal.{Refusal}
-use Rattle.hwdb_spec.specs.declared.refusals.Refusal.TheVariants.{At, InWords, NoDatabase, Plain}
-use Rattle.hwdb_spec.specs.Program.{IsTaskDone}
-use Rattle.hwdb_spec.specs.Queries.{AreDone, AreDoneFrom, AreUnanswered, AreUnansweredFrom, IsStreamRefused}
-use Rattle.hwdb_spec.specs.Undone.{IsUnprinted}
+use Rattle.hwdb_spec_commands.specs.Refusals.{HasReason}
+use Rattle.hwdb_spec_commands.specs.declared.refusals.Refusal.{Refusal}
+use Rattle.hwdb_spec_commands.specs.declared.refusals.Refusal.TheVariants.{At, InWords, NoDatabase, Plain}
+use Rattle.hwdb_spec_program.specs.Program.{IsTaskDone}
+use Rattle.hwdb_spec_commands.specs.Queries.{AreDone, AreDoneFrom, AreUnanswered, AreUnansweredFrom, IsStreamRefused}
+use Rattle.hwdb_spec_commands.specs.Undone.{IsUnprinted}
 use Rattle.hwdb_tool.specs.Views.{IsNotPrinted, IsPrintedWith, texts_in}
 use Rattle.hwdb_tool.specs.declared.answer.Answer.{Answer}
 use Rattle.hwdb_spec.specs.declared.errors.ToolError.TheVariants.{Read, Write, TooLong, TooManyFiles, TooManyLines, TooLarge, BadPosition, BadDatabase, Replace, Memory}

@@ -10,14 +10,14 @@ use Rattle.std.proofs.lemmas.List.Elements.{recursion_from_All}
 use Rattle.hwdb_spec.specs.Assignment.{Assignment}
 use Rattle.hwdb_spec.specs.Folders.{Choice, Source, chosen_of, contents}
 use Rattle.hwdb_spec.specs.Format.{IsDatabase}
-use Rattle.hwdb_spec.specs.Progress.{chosen_line, deep_line, given_count, kept_line, progress_text, too_long_lines}
-use Rattle.hwdb_spec.specs.Summary.{depth}
+use Rattle.hwdb_spec_commands.specs.Progress.{chosen_line, deep_line, given_count, kept_line, progress_text, too_long_lines}
+use Rattle.hwdb_spec_commands.specs.Summary.{depth}
 use Rattle.hwdb_spec.specs.Tree.{IsTree, Map, Tree, entry_of, map_of, map_of_files, members_under}
 use Rattle.hwdb_spec.specs.Written.{IsCompiled, IsDatabaseOf}
 use Rattle.hwdb_compile.specs.Views.{AreChosenOf}
 use Rattle.hwdb_text.specs.Views.{bytes_in, choice_in}
 use Rattle.hwdb_text.specs.declared.choice.ChosenFile.{ChosenFile}
-use Rattle.hwdb_inspect.specs.Laws.{MembersAreTheMap}
+use Rattle.hwdb_databases.specs.Laws.{MembersAreTheMap}
 use Rattle.hwdb_spec.specs.Lemmas.Lists.{gathered_more, mapped_more}
 
 -- two pieces, added one after another

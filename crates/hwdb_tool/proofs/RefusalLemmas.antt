@@ -2,18 +2,18 @@
 use Rattle.std.proofs.Common.{◌≡◌, ◌≤◌, ◌<◌, ◌⊎◌, ◌∙◌, inl, inr, ⊎_elim, ap, sym, subst, refl, arith, ℕ, true, List, [], length, Option, None, Some, IfSome}
 use Rattle.std.specs.Prelude.{is_some}
 use Rattle.std.specs.Option.{option_map_or, option_or}
-use Rattle.hwdb_spec.specs.Asked.{IsAskedPath, IsNamedPath, database_path, named_database}
+use Rattle.hwdb_spec_commands.specs.Asked.{IsAskedPath, IsNamedPath, database_path, named_database}
 use Rattle.hwdb_spec.specs.Store.{Contents}
 use Rattle.hwdb_spec.specs.System.{asked_database, bytes_at}
 use Rattle.hwdb_spec.specs.Texts.{max_file}
 use Rattle.hwdb_spec.specs.declared.errors.ToolError.{ToolError}
 use Rattle.hwdb_spec.specs.declared.errors.ToolError.TheVariants.{Read, Write, TooLong, TooManyFiles, TooManyLines, TooLarge, BadPosition, BadDatabase, Replace, Memory}
-use Rattle.hwdb_spec.specs.Refusals.{HasReason, IsOver, IsUnreadAt, IsUnreadable}
-use Rattle.hwdb_spec.specs.declared.refusals.Refusal.{Refusal}
-use Rattle.hwdb_spec.specs.declared.refusals.Refusal.TheVariants.{At, InWords, NoDatabase, Plain}
-use Rattle.hwdb_spec.specs.NamedDatabases.{IsUnnamed}
+use Rattle.hwdb_spec_commands.specs.Refusals.{HasReason, IsOver, IsUnreadAt, IsUnreadable}
+use Rattle.hwdb_spec_commands.specs.declared.refusals.Refusal.{Refusal}
+use Rattle.hwdb_spec_commands.specs.declared.refusals.Refusal.TheVariants.{At, InWords, NoDatabase, Plain}
+use Rattle.hwdb_spec_program.specs.NamedDatabases.{IsUnnamed}
 use Rattle.hwdb_tool.specs.OneRefusal.{IsOfWhatIsRead, IsOneError, IsOneKind}
-use Rattle.hwdb_spec.specs.Undone.{IsUnfound, IsUnreadableIf}
+use Rattle.hwdb_spec_commands.specs.Undone.{IsUnfound, IsUnreadableIf}
 
 -- nothing is at the path
 pub record IsMissingAt (files : Contents) (path : List ℕ) (refusal : Refusal) : Type 0 where

@@ -2,17 +2,17 @@
 use Rattle.std.proofs.Common.{◌≡◌, ◌==◌, ◌<◌, ◌≤◌, ◌⊎◌, ◌∙◌, ◌++◌, ◌∷◌, [], Global, append_assoc, append-nil, inl, inr, ⊎_elim, ap, arith, eqb-true, sym, subst, refl, ℕ, zero, suc, Bool, true, false, not, List, length, map, Some}
 use Rattle.std.proofs.lemmas.List.{length-map}
 use Rattle.std.specs.Prelude.{Contains, Vec, codes}
-use Rattle.hwdb_spec.specs.CheckedFiles.{AreGivenFiles, StandFor, StandsFor, files_in, folder_of, is_file}
+use Rattle.hwdb_spec_commands.specs.CheckedFiles.{AreGivenFiles, StandFor, StandsFor, files_in, folder_of, is_file}
 use Rattle.hwdb_spec.specs.CompileErrors.{IsRefusal}
 use Rattle.hwdb_spec.specs.Errors.{refusal_of_compile}
 use Rattle.hwdb_spec.specs.Failures.{HasFailed}
 use Rattle.hwdb_spec.specs.Folders.{Choice, Source, choice, max_files, names}
-use Rattle.hwdb_spec.specs.Given.{any_dash}
-use Rattle.hwdb_spec.specs.GivenFolders.{IsUnlistedFolder}
-use Rattle.hwdb_spec.specs.Reasons.{IsInputRead}
-use Rattle.hwdb_spec.specs.Refusals.{HasReason, IsInWords, IsUnreadable}
-use Rattle.hwdb_spec.specs.Sides.{AreBytesOf, AreNotMadeAt, AreSideFiles, HasTexts, IsKind, IsSide, IsSideRefused, Kind, as_etc, no_texts_text}
-use Rattle.hwdb_spec.specs.Sides.Kind.{Database, Empty, Root, Texts}
+use Rattle.hwdb_spec_commands.specs.Given.{any_dash}
+use Rattle.hwdb_spec_commands.specs.GivenFolders.{IsUnlistedFolder}
+use Rattle.hwdb_spec_commands.specs.Reasons.{IsInputRead}
+use Rattle.hwdb_spec_commands.specs.Refusals.{HasReason, IsInWords, IsUnreadable}
+use Rattle.hwdb_spec_commands.specs.Sides.{AreBytesOf, AreNotMadeAt, AreSideFiles, HasTexts, IsKind, IsSide, IsSideRefused, Kind, as_etc, no_texts_text}
+use Rattle.hwdb_spec_commands.specs.Sides.Kind.{Database, Empty, Root, Texts}
 use Rattle.hwdb_spec.specs.Store.{Contents, path_in}
 use Rattle.hwdb_spec.specs.System.{AreNamesIn, bytes_at}
 use Rattle.hwdb_spec.specs.Texts.{max_file}
@@ -20,8 +20,8 @@ use Rattle.hwdb_spec.specs.Tree.{map_of_files}
 use Rattle.hwdb_spec.specs.declared.errors.CompileError.{CompileError}
 use Rattle.hwdb_spec.specs.declared.errors.CompileError.TheVariants as compiling
 use Rattle.hwdb_spec.specs.declared.errors.ToolError.TheVariants.{BadDatabase, BadPosition, Memory, Read, Replace, TooLarge, TooLong, TooManyFiles, TooManyLines, Write}
-use Rattle.hwdb_spec.specs.declared.refusals.Refusal.{Refusal}
-use Rattle.hwdb_spec.specs.declared.refusals.Refusal.TheVariants.{At, InWords, NoDatabase, Plain}
+use Rattle.hwdb_spec_commands.specs.declared.refusals.Refusal.{Refusal}
+use Rattle.hwdb_spec_commands.specs.declared.refusals.Refusal.TheVariants.{At, InWords, NoDatabase, Plain}
 use Rattle.hwdb_tool.specs.OneOutcome.{IsOneReading, ListingsGiveOneChoice, ListingsGiveOneReading}
 use Rattle.hwdb_tool.specs.OneRefusal.{IsOfFolders, IsOfSide, IsOfSideListing, IsOfWhatIsRead, IsOneError}
 use Rattle.hwdb_tool.proofs.AskErrorLemmas.{OneForm}

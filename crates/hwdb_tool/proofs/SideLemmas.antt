@@ -2,11 +2,11 @@
 use Rattle.std.proofs.Common.{◌≡◌, ◌==◌, ◌<◌, ◌∙◌, ◌∷◌, [], ap, arith, eqb-true, inl, inr, sym, subst, refl, ℕ, Bool, true, false, not, List, length, map, Some}
 use Rattle.std.specs.Prelude.{Contains}
 use Rattle.std.proofs.lemmas.List.Elements.{All-head}
-use Rattle.hwdb_spec.specs.CheckedFiles.{StandFor, folder_of}
+use Rattle.hwdb_spec_commands.specs.CheckedFiles.{StandFor, folder_of}
 use Rattle.hwdb_spec.specs.Folders.{Choice, Source}
-use Rattle.hwdb_spec.specs.Sides.{AreBytesOf, AreSideFiles, HasOwn, HasTexts, IsKind, IsSide, Kind, as_etc}
-use Rattle.hwdb_spec.specs.Sides.Kind.{Database, Empty, Root, Texts}
-use Rattle.hwdb_spec.specs.Status.{IsMade}
+use Rattle.hwdb_spec_commands.specs.Sides.{AreBytesOf, AreSideFiles, HasOwn, HasTexts, IsKind, IsSide, Kind, as_etc}
+use Rattle.hwdb_spec_commands.specs.Sides.Kind.{Database, Empty, Root, Texts}
+use Rattle.hwdb_spec_commands.specs.Status.{IsMade}
 use Rattle.hwdb_spec.specs.Store.{Contents}
 use Rattle.hwdb_spec.specs.System.{AreNamesIn, IsNameIn, bytes_at}
 use Rattle.hwdb_spec.specs.Tree.{Map, map_of_files}

@@ -2,21 +2,21 @@
 use Rattle.std.proofs.Common.{◌≡◌, ◌==◌, ◌<◌, ◌≤◌, ◌⊎◌, Global, ◌∙◌, ◌++◌, ◌∷◌, ◌||◌, [], append-nil, if◌then◌else◌, ap, arith, eqb-true, zero, suc, inl, inr, sym, subst, refl, ℕ, Bool, true, false, not, List, length, map, Some}
 use Rattle.std.specs.Borrow.{Bor}
 use Rattle.std.specs.Prelude.{IfErr, IfNone, IfOk, Err, MatchOption, Ok, Result, Vec, is_some, None, Option, slice_index, ◌≢◌}
-use Rattle.hwdb_spec.specs.CheckedFiles.{AreGivenFiles, StandFor, StandsFor, files_in, folder_of, is_file}
+use Rattle.hwdb_spec_commands.specs.CheckedFiles.{AreGivenFiles, StandFor, StandsFor, files_in, folder_of, is_file}
 use Rattle.hwdb_spec.specs.Folders.{Choice, Source, choice, max_files, names}
-use Rattle.hwdb_spec.specs.Given.{is_dash}
+use Rattle.hwdb_spec_commands.specs.Given.{is_dash}
 use Rattle.hwdb_spec.specs.Lines.{byte, has}
 use Rattle.hwdb_spec.specs.Selected.{AreSelected}
-use Rattle.hwdb_spec.specs.Sides.{AreMadeAt, AreSideFiles, HasOwn, HasTexts, IsKind, IsSide, as_etc, file_name, names_text, no_texts_text}
-use Rattle.hwdb_spec.specs.Sides.Kind.{Database, Texts}
-use Rattle.hwdb_spec.specs.Status.{IsMade}
-use Rattle.hwdb_spec.specs.StatusErrors.{AreNotMade}
+use Rattle.hwdb_spec_commands.specs.Sides.{AreMadeAt, AreSideFiles, HasOwn, HasTexts, IsKind, IsSide, as_etc, file_name, names_text, no_texts_text}
+use Rattle.hwdb_spec_commands.specs.Sides.Kind.{Database, Texts}
+use Rattle.hwdb_spec_commands.specs.Status.{IsMade}
+use Rattle.hwdb_spec_commands.specs.StatusErrors.{AreNotMade}
 use Rattle.hwdb_spec.specs.Store.{Contents}
 use Rattle.hwdb_spec.specs.System.{AreNamesIn, bytes_at}
-use Rattle.hwdb_spec.specs.Refusals.{HasReason, IsInWords, IsUnreadAt, IsUnreadable}
+use Rattle.hwdb_spec_commands.specs.Refusals.{HasReason, IsInWords, IsUnreadAt, IsUnreadable}
 use Rattle.hwdb_spec.specs.Texts.{max_file}
-use Rattle.hwdb_spec.specs.declared.refusals.Refusal.{Refusal}
-use Rattle.hwdb_spec.specs.declared.refusals.Refusal.TheVariants.{Plain}
+use Rattle.hwdb_spec_commands.specs.declared.refusals.Refusal.{Refusal}
+use Rattle.hwdb_spec_commands.specs.declared.refusals.Refusal.TheVariants.{Plain}
 use Rattle.hwdb_spec.specs.declared.errors.ToolError.TheVariants.{Memory, TooManyFiles}
 use Rattle.hwdb_tool.specs.SideSteps.{AreTextsError, IsFolderOf, IsSideError}
 use Rattle.hwdb_tool.specs.Statuses.{AreMadeOf}

@@ -4,7 +4,7 @@ use Rattle.std.proofs.Math.Path.{fun_ext}
 use Rattle.std.specs.Prelude.{count_by, ◌+◌}
 use Rattle.std.specs.Ordering.{is_lt}
 use Rattle.hwdb_spec.specs.Assignment.{text_cmp}
-use Rattle.hwdb_spec.specs.CheckedFiles.{StandFor, StandsFor, files_in, folder_of, is_file}
+use Rattle.hwdb_spec_commands.specs.CheckedFiles.{StandFor, StandsFor, files_in, folder_of, is_file}
 use Rattle.hwdb_spec.specs.Folders.{Choice, choice, counts, lists, names}
 use Rattle.hwdb_spec.specs.Store.{Contents, path_in}
 use Rattle.hwdb_spec.specs.System.{AreNamesIn}

@@ -3,18 +3,18 @@ use Rattle.std.proofs.Common.{◌≡◌, ◌≤◌, ◌⊎◌, ◌∙◌, ap, fa
 use Rattle.hwdb_spec.specs.CompileErrors.{IsRefusal}
 use Rattle.hwdb_spec.specs.Errors.{refusal_of_compile}
 use Rattle.hwdb_spec.specs.Folders.{Source}
-use Rattle.hwdb_spec.specs.Refusals.{HasReason}
-use Rattle.hwdb_spec.specs.Asked.{database_path}
-use Rattle.hwdb_spec.specs.Status.{IsMade, IsStatus, has_database, hidden_database}
-use Rattle.hwdb_spec.specs.StatusErrors.{IsAskedUnread, IsHiddenUnread, IsStatusRefused}
+use Rattle.hwdb_spec_commands.specs.Refusals.{HasReason}
+use Rattle.hwdb_spec_commands.specs.Asked.{database_path}
+use Rattle.hwdb_spec_commands.specs.Status.{IsMade, IsStatus, has_database, hidden_database}
+use Rattle.hwdb_spec_commands.specs.StatusErrors.{IsAskedUnread, IsHiddenUnread, IsStatusRefused}
 use Rattle.hwdb_spec.specs.Store.{Contents}
 use Rattle.hwdb_spec.specs.System.{asked_database, bytes_at}
 use Rattle.hwdb_spec.specs.Texts.{max_file}
 use Rattle.hwdb_spec.specs.declared.errors.CompileError.{CompileError}
 use Rattle.hwdb_spec.specs.declared.errors.CompileError.TheVariants as compiling
 use Rattle.hwdb_spec.specs.declared.errors.ToolError.TheVariants.{TooLong}
-use Rattle.hwdb_spec.specs.declared.refusals.Refusal.{Refusal}
-use Rattle.hwdb_spec.specs.declared.refusals.Refusal.TheVariants.{Plain}
+use Rattle.hwdb_spec_commands.specs.declared.refusals.Refusal.{Refusal}
+use Rattle.hwdb_spec_commands.specs.declared.refusals.Refusal.TheVariants.{Plain}
 use Rattle.hwdb_tool.specs.OneOutcome.{ListingsGiveOneChoice, ListingsGiveOneReading}
 use Rattle.hwdb_tool.specs.OneRefusal.{IsOfFolders, IsOfListing, IsOfWhatIsRead, IsOneError}
 use Rattle.hwdb_tool.proofs.AskErrorLemmas.{OneForm}

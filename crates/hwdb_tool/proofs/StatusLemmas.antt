@@ -7,32 +7,32 @@ use Rattle.std.specs.Option.{option_or}
 use Rattle.hwdb_compile.specs.Views.{ForFolders}
 use Rattle.hwdb_text.specs.Views.{choice_in}
 use Rattle.hwdb_text.specs.declared.choice.ChosenFile.{ChosenFile}
-use Rattle.hwdb_spec.specs.declared.refusals.Refusal.{Refusal}
-use Rattle.hwdb_spec.specs.declared.refusals.Refusal.TheVariants.{Plain}
+use Rattle.hwdb_spec_commands.specs.declared.refusals.Refusal.{Refusal}
+use Rattle.hwdb_spec_commands.specs.declared.refusals.Refusal.TheVariants.{Plain}
 use Rattle.hwdb_spec.specs.declared.errors.ToolError.TheVariants.{Memory}
 use Rattle.hwdb_spec.specs.Assignment.{ascending}
-use Rattle.hwdb_spec.specs.Ignored.{AreIgnoredIn, IsIgnoredIn}
-use Rattle.hwdb_spec.specs.Refusals.{IsUnreadAt}
-use Rattle.hwdb_spec.specs.Summary.{summary_of}
+use Rattle.hwdb_spec_commands.specs.Ignored.{AreIgnoredIn, IsIgnoredIn}
+use Rattle.hwdb_spec_commands.specs.Refusals.{IsUnreadAt}
+use Rattle.hwdb_spec_commands.specs.Summary.{summary_of}
 use Rattle.hwdb_spec.specs.Texts.{max_file}
 use Rattle.hwdb_text.specs.Lemmas.Ascending.{ascending_holds, ascending_ordered, holds_ascending, one_list}
 use Rattle.hwdb_text.specs.Lemmas.Members.{Holds, held, holds_it}
-use Rattle.hwdb_spec.specs.Status.{Amount, IsAmount, IsAmountOf, IsMade, IsOfMap, IsState, IsStateOf, IsStatus, Report, State, amount_of, has_database, hidden_database, ignored_paths, is_bare, masked_of, masked_paths, report_form, report_of, stale_by, status_of}
-use Rattle.hwdb_spec.specs.Status.Amount.{Counted, Uncounted}
-use Rattle.hwdb_spec.specs.Status.State.{Alike, Broken, Fresh, Missing, Stale}
-use Rattle.hwdb_spec.specs.Asked.{database_path}
-use Rattle.hwdb_spec.specs.Differences.{differences}
+use Rattle.hwdb_spec_commands.specs.Status.{Amount, IsAmount, IsAmountOf, IsMade, IsOfMap, IsState, IsStateOf, IsStatus, Report, State, amount_of, has_database, hidden_database, ignored_paths, is_bare, masked_of, masked_paths, report_form, report_of, stale_by, status_of}
+use Rattle.hwdb_spec_commands.specs.Status.Amount.{Counted, Uncounted}
+use Rattle.hwdb_spec_commands.specs.Status.State.{Alike, Broken, Fresh, Missing, Stale}
+use Rattle.hwdb_spec_commands.specs.Asked.{database_path}
+use Rattle.hwdb_spec_commands.specs.Differences.{differences}
 use Rattle.hwdb_spec.specs.Folders.{Choice, Source, chosen_of}
 use Rattle.hwdb_spec.specs.Format.{IsDatabase}
-use Rattle.hwdb_spec.specs.Readable.{AreAllRead}
-use Rattle.hwdb_spec.specs.Runs.{OnOut}
+use Rattle.hwdb_spec_commands.specs.Readable.{AreAllRead}
+use Rattle.hwdb_spec_commands.specs.Runs.{OnOut}
 use Rattle.hwdb_spec.specs.Store.{Contents}
 use Rattle.hwdb_spec.specs.System.{asked_database, bytes_at, etc_files, usr_files}
 use Rattle.hwdb_spec.specs.Tree.{Map, Tree, map_of, map_of_files}
 use Rattle.hwdb_spec.specs.Written.{IsDatabaseOf, IsWritten}
 use Rattle.hwdb_tool.specs.Internal.{AreReadOf}
 use Rattle.hwdb_tool.specs.OneOutcome.{IsOneReading, ListingsGiveOneReading}
-use Rattle.hwdb_spec.specs.StatusErrors.{AreNotMade, IsNotBeside, IsNotCompiled, IsStatusRefused}
+use Rattle.hwdb_spec_commands.specs.StatusErrors.{AreNotMade, IsNotBeside, IsNotCompiled, IsStatusRefused}
 use Rattle.hwdb_tool.specs.Statuses.{AreIgnored, AreMadeOf, IsNotMadeNow, IsOneUnread, IsReported}
 use Rattle.hwdb_tool.specs.Views.{texts_in}
 use Rattle.hwdb_tool.specs.declared.answer.Answer.{Answer}

@@ -4,36 +4,36 @@ use Rattle.std.specs.Io.KnownBytes.{Appends}
 use Rattle.std.specs.Prelude.{codes}
 use Rattle.clap.specs.Simple.{matches_of, subcommand_of}
 use Rattle.clap.specs.Walk.{Row, Text, all_of, first_of}
-use Rattle.hwdb_spec.specs.Jobs.{IsJobOf, IsTask}
-use Rattle.hwdb_spec.specs.CommandLine.{hwdb_app}
-use Rattle.hwdb_spec.specs.declared.job.Job.{Job}
-use Rattle.hwdb_spec.specs.declared.job.Task.{Task}
-use Rattle.hwdb_spec.specs.declared.job.Task.TheVariants.{Explain, Query, Status}
-use Rattle.hwdb_spec.specs.Asked.{IsAnswered}
-use Rattle.hwdb_spec.specs.Databases.{IsTextOf}
+use Rattle.hwdb_spec_commands.specs.Jobs.{IsJobOf, IsTask}
+use Rattle.hwdb_spec_commands.specs.CommandLine.{hwdb_app}
+use Rattle.hwdb_spec_commands.specs.declared.job.Job.{Job}
+use Rattle.hwdb_spec_commands.specs.declared.job.Task.{Task}
+use Rattle.hwdb_spec_commands.specs.declared.job.Task.TheVariants.{Explain, Query, Status}
+use Rattle.hwdb_spec_commands.specs.Asked.{IsAnswered}
+use Rattle.hwdb_spec_commands.specs.Databases.{IsTextOf}
 use Rattle.hwdb_spec.specs.Failures.{HasFailed}
-use Rattle.hwdb_spec.specs.Given.{is_input}
+use Rattle.hwdb_spec_commands.specs.Given.{is_input}
 use Rattle.hwdb_spec.specs.Outputs.{Wrote}
-use Rattle.hwdb_spec.specs.Runs.{AreKept, OnOut, Printed, Told, World}
+use Rattle.hwdb_spec_commands.specs.Runs.{AreKept, OnOut, Printed, Told, World}
 use Rattle.hwdb_spec.specs.Store.{Contents, Outcomes}
 use Rattle.hwdb_spec.specs.System.{asked_database}
 use Rattle.hwdb_spec.specs.Texts.{devices_of, max_file}
-use Rattle.hwdb_spec.specs.AnsweredLines.{IsLineError, IsPrintedBefore, answered_lines, line_error}
-use Rattle.hwdb_spec.specs.Streams.{IsStreamRefusal, texts_of}
+use Rattle.hwdb_spec_commands.specs.AnsweredLines.{IsLineError, IsPrintedBefore, answered_lines, line_error}
+use Rattle.hwdb_spec_commands.specs.Streams.{IsStreamRefusal, texts_of}
 use Rattle.hwdb_spec.specs.declared.errors.ToolError.{ToolError}
 use Rattle.hwdb_spec.specs.declared.errors.ToolError.TheVariants.{BadDatabase, BadPosition, Memory, Read, Replace, TooLarge, TooLong, TooManyFiles, TooManyLines, Write}
-use Rattle.hwdb_spec.specs.declared.form.Form.{Form}
-use Rattle.hwdb_spec.specs.declared.form.Form.TheVariants as forms
-use Rattle.hwdb_spec.specs.Refusals.{HasReason, IsOver}
-use Rattle.hwdb_spec.specs.declared.refusals.Refusal.{Refusal}
-use Rattle.hwdb_spec.specs.declared.refusals.Refusal.TheVariants.{At, InWords, NoDatabase, Plain}
+use Rattle.hwdb_spec_commands.specs.declared.form.Form.{Form}
+use Rattle.hwdb_spec_commands.specs.declared.form.Form.TheVariants as forms
+use Rattle.hwdb_spec_commands.specs.Refusals.{HasReason, IsOver}
+use Rattle.hwdb_spec_commands.specs.declared.refusals.Refusal.{Refusal}
+use Rattle.hwdb_spec_commands.specs.declared.refusals.Refusal.TheVariants.{At, InWords, NoDatabase, Plain}
 use Rattle.hwdb_tool.specs.OneOutcome.{IsOneInput, Scene, scene_of}
 use Rattle.hwdb_tool.specs.OneRefusal.{DoneEndsSo, EndAlike, IsOfDatabase, IsOfWhatIsRead, IsOneEnd, IsOneError, IsStream, NeverFails}
-use Rattle.hwdb_spec.specs.Program.{IsTaskDone, root_of}
-use Rattle.hwdb_spec.specs.Queries.{AreAnsweredFrom, AreNamedAnswered, AreUnansweredFrom, IfNamed, IsOfInput, IsStreamRefused, IsUnstreamed}
-use Rattle.hwdb_spec.specs.Reasons.{HasAskedReason}
-use Rattle.hwdb_spec.specs.TaskRefusals.{IsNotDone}
-use Rattle.hwdb_spec.specs.Undone.{IsUnfound}
+use Rattle.hwdb_spec_program.specs.Program.{IsTaskDone, root_of}
+use Rattle.hwdb_spec_commands.specs.Queries.{AreAnsweredFrom, AreNamedAnswered, AreUnansweredFrom, IfNamed, IsOfInput, IsStreamRefused, IsUnstreamed}
+use Rattle.hwdb_spec_commands.specs.Reasons.{HasAskedReason}
+use Rattle.hwdb_spec_program.specs.TaskRefusals.{IsNotDone}
+use Rattle.hwdb_spec_commands.specs.Undone.{IsUnfound}
 use Rattle.hwdb_tool.proofs.DatabaseErrorLemmas.{OneHeader, OneTree, Unanswered, answer_answer, answer_done, is_over, unanswered}
 use Rattle.hwdb_tool.proofs.InputErrorLemmas.{asked_not_input, asked_not_line}
 use Rattle.hwdb_tool.proofs.JobErrorLemmas.{DoneJobTaskEndsSo, JobTasksEndAlike}

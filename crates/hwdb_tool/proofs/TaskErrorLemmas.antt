@@ -3,46 +3,46 @@ use Rattle.std.proofs.Common.{◌≡◌, ◌⊎◌, ◌∙◌, ◌==◌, inl, in
 use Rattle.std.proofs.lemmas.List.{append-nil}
 use Rattle.std.specs.Io.KnownBytes.{Appends}
 use Rattle.std.specs.Prelude.{Contains, option_map}
-use Rattle.hwdb_spec.specs.declared.job.Task.{Task}
-use Rattle.hwdb_spec.specs.declared.job.Task.TheVariants.{Ask, Check, Device, Diff, Dump, Explain, List as ListHits, Near, Query, Status, Test, Update, Verify}
-use Rattle.hwdb_spec.specs.Asked.{IsAnswered, IsDumped, IsPrinted, database_path}
-use Rattle.hwdb_spec.specs.CheckedFiles.{AreCheckedFiles, AreChosenFiles, AreNamedFiles, StandFor, folder_of}
-use Rattle.hwdb_spec.specs.Databases.{IsSummary, IsTextOf}
-use Rattle.hwdb_spec.specs.GivenDatabases.{OfNamed}
-use Rattle.hwdb_spec.specs.Done.{IsAsked}
+use Rattle.hwdb_spec_commands.specs.declared.job.Task.{Task}
+use Rattle.hwdb_spec_commands.specs.declared.job.Task.TheVariants.{Ask, Check, Device, Diff, Dump, Explain, List as ListHits, Near, Query, Status, Test, Update, Verify}
+use Rattle.hwdb_spec_commands.specs.Asked.{IsAnswered, IsDumped, IsPrinted, database_path}
+use Rattle.hwdb_spec_commands.specs.CheckedFiles.{AreCheckedFiles, AreChosenFiles, AreNamedFiles, StandFor, folder_of}
+use Rattle.hwdb_spec_commands.specs.Databases.{IsSummary, IsTextOf}
+use Rattle.hwdb_spec_program.specs.GivenDatabases.{OfNamed}
+use Rattle.hwdb_spec_commands.specs.Done.{IsAsked}
 use Rattle.hwdb_spec.specs.Failures.{HasFailed}
 use Rattle.hwdb_spec.specs.Folders.{Choice, Source}
-use Rattle.hwdb_spec.specs.Hiding.{hiding_text}
-use Rattle.hwdb_spec.specs.LeftOut.{without}
-use Rattle.hwdb_spec.specs.Given.{is_input}
-use Rattle.hwdb_spec.specs.Near.{PatternAt}
-use Rattle.hwdb_spec.specs.NearAsked.{IsNear, database_patterns, near_form, near_limit}
+use Rattle.hwdb_spec_program.specs.Hiding.{hiding_text}
+use Rattle.hwdb_spec_commands.specs.LeftOut.{without}
+use Rattle.hwdb_spec_commands.specs.Given.{is_input}
+use Rattle.hwdb_spec_commands.specs.Near.{PatternAt}
+use Rattle.hwdb_spec_commands.specs.NearAsked.{IsNear, database_patterns, near_form, near_limit}
 use Rattle.hwdb_spec.specs.Outputs.{Texts}
-use Rattle.hwdb_spec.specs.Runs.{OnOut, Told, World}
+use Rattle.hwdb_spec_commands.specs.Runs.{OnOut, Told, World}
 use Rattle.hwdb_spec.specs.Store.{Contents, InPlace, Outcomes}
 use Rattle.hwdb_spec.specs.System.{bytes_at, database_folder}
-use Rattle.hwdb_spec.specs.Streams.{texts_of}
-use Rattle.hwdb_spec.specs.declared.form.Form.{Form}
-use Rattle.hwdb_spec.specs.declared.form.Form.TheVariants as forms
-use Rattle.hwdb_spec.specs.Refusals.{IsOver}
+use Rattle.hwdb_spec_commands.specs.Streams.{texts_of}
+use Rattle.hwdb_spec_commands.specs.declared.form.Form.{Form}
+use Rattle.hwdb_spec_commands.specs.declared.form.Form.TheVariants as forms
+use Rattle.hwdb_spec_commands.specs.Refusals.{IsOver}
 use Rattle.hwdb_spec.specs.declared.errors.ToolError.TheVariants.{TooLong, TooManyFiles}
-use Rattle.hwdb_spec.specs.declared.refusals.Refusal.{Refusal}
-use Rattle.hwdb_spec.specs.declared.refusals.Refusal.TheVariants.{Plain}
+use Rattle.hwdb_spec_commands.specs.declared.refusals.Refusal.{Refusal}
+use Rattle.hwdb_spec_commands.specs.declared.refusals.Refusal.TheVariants.{Plain}
 use Rattle.hwdb_tool.specs.OneOutcome.{IsOneInput, ListingsGiveOneChoice, ListingsGiveOneReading, Scene, TellOne, scene_of}
 use Rattle.hwdb_tool.specs.OneRefusal.{DoneEndsSo, EndAlike, IsOfChecked, IsOfCompared, IsOfDatabase, IsOfListing, IsOfNamedFolder, IsOfWhatIsRead, IsOneEnd, IsOneError, NeverFails, IsCovered}
-use Rattle.hwdb_spec.specs.Program.{IsTaskDone}
-use Rattle.hwdb_spec.specs.Queries.{AreAnsweredFrom, AreUnansweredFrom, IfNamed}
-use Rattle.hwdb_spec.specs.TaskRefusals.{IsNotDone, MayPrint}
-use Rattle.hwdb_spec.specs.ComparedDatabases.{IsDiffed, IsDiffRefused}
-use Rattle.hwdb_spec.specs.NamedDatabases.{IsDumpRefused, IsVerifyRefused}
-use Rattle.hwdb_spec.specs.NearErrors.{IsNearRefused}
-use Rattle.hwdb_spec.specs.StatusErrors.{IsStatusRefused}
-use Rattle.hwdb_spec.specs.Tested.{IsTested}
-use Rattle.hwdb_spec.specs.TestErrors.{IsTestRefused}
-use Rattle.hwdb_spec.specs.Readable.{AreAllRead}
-use Rattle.hwdb_spec.specs.Reasons.{HasFilesReason}
-use Rattle.hwdb_spec.specs.CheckedReasons.{HasCheckedReason, HasNamedReason}
-use Rattle.hwdb_spec.specs.Undone.{AreUncheckable, IsAskRefused, IsCheckRefused, IsUnanswered, IsUnprinted, IsUnwritable}
+use Rattle.hwdb_spec_program.specs.Program.{IsTaskDone}
+use Rattle.hwdb_spec_commands.specs.Queries.{AreAnsweredFrom, AreUnansweredFrom, IfNamed}
+use Rattle.hwdb_spec_program.specs.TaskRefusals.{IsNotDone, MayPrint}
+use Rattle.hwdb_spec_program.specs.ComparedDatabases.{IsDiffed, IsDiffRefused}
+use Rattle.hwdb_spec_program.specs.NamedDatabases.{IsDumpRefused, IsVerifyRefused}
+use Rattle.hwdb_spec_program.specs.NearErrors.{IsNearRefused}
+use Rattle.hwdb_spec_commands.specs.StatusErrors.{IsStatusRefused}
+use Rattle.hwdb_spec_program.specs.Tested.{IsTested}
+use Rattle.hwdb_spec_program.specs.TestErrors.{IsTestRefused}
+use Rattle.hwdb_spec_commands.specs.Readable.{AreAllRead}
+use Rattle.hwdb_spec_commands.specs.Reasons.{HasFilesReason}
+use Rattle.hwdb_spec_program.specs.CheckedReasons.{HasCheckedReason, HasNamedReason}
+use Rattle.hwdb_spec_commands.specs.Undone.{AreUncheckable, IsAskRefused, IsCheckRefused, IsUnanswered, IsUnprinted, IsUnwritable}
 use Rattle.hwdb_tool.proofs.FolderErrorLemmas.{FullOrStand, IsFolderFull, named_end}
 use Rattle.hwdb_tool.proofs.DatabaseErrorLemmas.{OneHeader, OneTree, Unanswered, Undumped, Unlisted, Unverified, answer_answer, answer_done, dump_done, dump_dump, list_done, list_list, unanswered, unlisted, verify_done, verify_verify}
 use Rattle.hwdb_tool.proofs.NamedErrorLemmas.{NoDump, NoVerify, no_dump, no_verify}

@@ -3,52 +3,52 @@ use Rattle.std.proofs.Common.{◌≡◌, ◌∙◌, append_assoc, inl, inr, ap, 
 use Rattle.std.specs.Prelude.{option_map}
 use Rattle.std.specs.Option.{option_map_or}
 use Rattle.std.specs.Io.KnownBytes.{Appends}
-use Rattle.hwdb_spec.specs.declared.job.Task.{Task}
-use Rattle.hwdb_spec.specs.declared.job.Task.TheVariants.{Ask, Check, Device, Diff, Dump, Explain, List as ListHits, Near, Query, Status, Test, Update, Verify}
-use Rattle.hwdb_spec.specs.Done.{AreAskTexts, IsUpdated}
-use Rattle.hwdb_spec.specs.Databases.{IsDiffText, IsDifferent, IsSummary, IsTextOf}
+use Rattle.hwdb_spec_commands.specs.declared.job.Task.{Task}
+use Rattle.hwdb_spec_commands.specs.declared.job.Task.TheVariants.{Ask, Check, Device, Diff, Dump, Explain, List as ListHits, Near, Query, Status, Test, Update, Verify}
+use Rattle.hwdb_spec_commands.specs.Done.{AreAskTexts, IsUpdated}
+use Rattle.hwdb_spec_commands.specs.Databases.{IsDiffText, IsDifferent, IsSummary, IsTextOf}
 use Rattle.hwdb_spec.specs.Assignment.{Position}
-use Rattle.hwdb_spec.specs.Checks.{check_status, check_text, empty_tally, tally_from}
-use Rattle.hwdb_spec.specs.Comparisons.{comparison_form, devices_named, has_changed}
-use Rattle.hwdb_spec.specs.Dump.{dump_text}
-use Rattle.hwdb_spec.specs.Emptied.{IsLossOf}
+use Rattle.hwdb_spec_commands.specs.Checks.{check_status, check_text, empty_tally, tally_from}
+use Rattle.hwdb_spec_commands.specs.Comparisons.{comparison_form, devices_named, has_changed}
+use Rattle.hwdb_spec_commands.specs.Dump.{dump_text}
+use Rattle.hwdb_spec_commands.specs.Emptied.{IsLossOf}
 use Rattle.hwdb_spec.specs.Folders.{Choice, Source, choice, chosen_of, path_of}
 use Rattle.hwdb_spec.specs.Format.{IsDatabase}
 use Rattle.std.proofs.lemmas.List.{append-nil}
 use Rattle.std.proofs.lemmas.List.Elements.{All-head, All-tail}
-use Rattle.hwdb_spec.specs.Given.{IsContent, IsGiven, is_dash, is_input}
-use Rattle.hwdb_spec.specs.Hiding.{hiding_text}
-use Rattle.hwdb_spec.specs.Progress.{listing, update_text}
-use Rattle.hwdb_spec.specs.Summary.{depth}
-use Rattle.hwdb_spec.specs.Runs.{Files, Printed, Told, World}
+use Rattle.hwdb_spec_commands.specs.Given.{IsContent, IsGiven, is_dash, is_input}
+use Rattle.hwdb_spec_program.specs.Hiding.{hiding_text}
+use Rattle.hwdb_spec_commands.specs.Progress.{listing, update_text}
+use Rattle.hwdb_spec_commands.specs.Summary.{depth}
+use Rattle.hwdb_spec_commands.specs.Runs.{Files, Printed, Told, World}
 use Rattle.hwdb_spec.specs.Store.{Contents, InPlace, Outcomes, Same}
-use Rattle.hwdb_spec.specs.Program.{IsAnswerOf, IsTaskDone, streams}
+use Rattle.hwdb_spec_program.specs.Program.{IsAnswerOf, IsTaskDone, streams}
 use Rattle.hwdb_spec.specs.System.{asked_database, bytes_at, database_folder}
 use Rattle.hwdb_spec.specs.Texts.{devices_of, query_text}
 use Rattle.hwdb_spec.specs.Tree.{Map, Tree, map_of_files}
-use Rattle.hwdb_spec.specs.Wanted.{test_status, test_text}
+use Rattle.hwdb_spec_commands.specs.Wanted.{test_status, test_text}
 use Rattle.hwdb_spec.specs.Written.{IsWritten}
 use Rattle.hwdb_query.specs.Laws.{SpellsOne}
-use Rattle.hwdb_spec.specs.declared.form.Form.{Form}
-use Rattle.hwdb_spec.specs.declared.form.Form.TheVariants as forms
-use Rattle.hwdb_spec.specs.Streams.{texts_of}
-use Rattle.hwdb_spec.specs.CheckedFiles.{AreCheckedFiles, StandFor}
-use Rattle.hwdb_spec.specs.DeviceAsked.{IsDevicePrinted, IsOfDevice, device_form, device_list, device_meant}
-use Rattle.hwdb_spec.specs.DeviceTexts.{device_text}
-use Rattle.hwdb_spec.specs.DeviceTree.{Sight, sysfs_below}
-use Rattle.hwdb_spec.specs.Sysfs.{Device as SeenDevice}
+use Rattle.hwdb_spec_commands.specs.declared.form.Form.{Form}
+use Rattle.hwdb_spec_commands.specs.declared.form.Form.TheVariants as forms
+use Rattle.hwdb_spec_commands.specs.Streams.{texts_of}
+use Rattle.hwdb_spec_commands.specs.CheckedFiles.{AreCheckedFiles, StandFor}
+use Rattle.hwdb_spec_commands.specs.DeviceAsked.{IsDevicePrinted, IsOfDevice, device_form, device_list, device_meant}
+use Rattle.hwdb_spec_commands.specs.DeviceTexts.{device_text}
+use Rattle.hwdb_spec_commands.specs.DeviceTree.{Sight, sysfs_below}
+use Rattle.hwdb_spec_commands.specs.Sysfs.{Device as SeenDevice}
 use Rattle.hwdb_spec.specs.Outputs.{Texts}
-use Rattle.hwdb_spec.specs.declared.devices.DeviceForm.{DeviceForm}
-use Rattle.hwdb_spec.specs.DeviceErrors.{asked_names}
-use Rattle.hwdb_spec.specs.Near.{PatternAt}
-use Rattle.hwdb_spec.specs.NearAsked.{IsNear, database_patterns, near_form, near_limit, patterns_from}
-use Rattle.hwdb_spec.specs.Asked.{IsAnswered, IsDumped, IsFrom, IsListFrom, IsPrinted, list_form, named_database}
-use Rattle.hwdb_spec.specs.Sides.{IsSide}
-use Rattle.hwdb_spec.specs.LeftOut.{AreLeftOut, IsLeftOut, without, status_less}
-use Rattle.hwdb_spec.specs.LeftOutTold.{AreTold}
-use Rattle.hwdb_spec.specs.Readable.{IsUpdatedLess}
-use Rattle.hwdb_spec.specs.Queries.{AreAnsweredFrom, IfNamed}
-use Rattle.hwdb_spec.specs.LoneFile.{lone}
+use Rattle.hwdb_spec_commands.specs.declared.devices.DeviceForm.{DeviceForm}
+use Rattle.hwdb_spec_program.specs.DeviceErrors.{asked_names}
+use Rattle.hwdb_spec_commands.specs.Near.{PatternAt}
+use Rattle.hwdb_spec_commands.specs.NearAsked.{IsNear, database_patterns, near_form, near_limit, patterns_from}
+use Rattle.hwdb_spec_commands.specs.Asked.{IsAnswered, IsDumped, IsFrom, IsListFrom, IsPrinted, list_form, named_database}
+use Rattle.hwdb_spec_commands.specs.Sides.{IsSide}
+use Rattle.hwdb_spec_commands.specs.LeftOut.{AreLeftOut, IsLeftOut, without, status_less}
+use Rattle.hwdb_spec_commands.specs.LeftOutTold.{AreTold}
+use Rattle.hwdb_spec_commands.specs.Readable.{IsUpdatedLess}
+use Rattle.hwdb_spec_commands.specs.Queries.{AreAnsweredFrom, IfNamed}
+use Rattle.hwdb_spec_commands.specs.LoneFile.{lone}
 use Rattle.hwdb_tool.specs.OneOutcome.{AnswersAreOne, IsFunction, IsOneAnswer, IsOneInput, IsOneOutcome, LeavesNothingOut, Scene, scene_of, ListingsGiveOneChoice, ListingsGiveOneReading}
 use Rattle.hwdb_tool.proofs.NamedInputLemmas.{both_given, both_named}
 use Rattle.hwdb_tool.proofs.SideLemmas.{OneSideFiles, one_side}

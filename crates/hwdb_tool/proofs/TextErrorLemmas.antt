@@ -4,28 +4,28 @@ use Rattle.std.specs.List.{onto_first}
 use Rattle.std.specs.Prelude.{Contains, codes, is_some}
 use Rattle.std.proofs.lemmas.List.{length-map}
 use Rattle.std.proofs.lemmas.List.Elements.{All-cons, All-contains, All-head, All-nil, All-tail, Contains-append_right}
-use Rattle.hwdb_spec.specs.CheckedFiles.{AreChosenFiles, AreGivenFiles}
+use Rattle.hwdb_spec_commands.specs.CheckedFiles.{AreChosenFiles, AreGivenFiles}
 use Rattle.hwdb_spec.specs.Failures.{HasFailed}
 use Rattle.hwdb_spec.specs.Folders.{Choice, Source, choice, max_files, max_lines, names, path_of}
-use Rattle.hwdb_spec.specs.Given.{IsContent, IsGiven, any_dash, is_dash}
+use Rattle.hwdb_spec_commands.specs.Given.{IsContent, IsGiven, any_dash, is_dash}
 use Rattle.hwdb_spec.specs.Lines.{byte, is, lines, numbered, pieces}
 use Rattle.hwdb_spec.specs.Store.{Contents}
 use Rattle.hwdb_spec.specs.System.{AreNamesIn, bytes_at, etc_files, usr_files}
 use Rattle.hwdb_spec.specs.Texts.{max_file}
-use Rattle.hwdb_spec.specs.CheckErrors.{HasLongFile, IsCheckRefusal}
+use Rattle.hwdb_spec_commands.specs.CheckErrors.{HasLongFile, IsCheckRefusal}
 use Rattle.hwdb_spec.specs.declared.errors.ScanError.{ScanError}
 use Rattle.hwdb_spec.specs.declared.errors.ScanError.TheVariants as scan
 use Rattle.hwdb_spec.specs.Errors.{refusal_of_scan}
 use Rattle.hwdb_spec.specs.declared.errors.ToolError.TheVariants.{Read, Write, TooLong, TooManyFiles, TooManyLines, TooLarge, BadPosition, BadDatabase, Replace, Memory}
-use Rattle.hwdb_spec.specs.Reading.{AreUnread, IsChoiceRefused, IsFirstUnread, IsText}
-use Rattle.hwdb_spec.specs.Refusals.{HasReason, IsOver, IsUnlisted, IsUnread, IsUnreadable}
-use Rattle.hwdb_spec.specs.declared.refusals.Refusal.{Refusal}
-use Rattle.hwdb_spec.specs.declared.refusals.Refusal.TheVariants.{At, InWords, NoDatabase, Plain}
+use Rattle.hwdb_spec_commands.specs.Reading.{AreUnread, IsChoiceRefused, IsFirstUnread, IsText}
+use Rattle.hwdb_spec_commands.specs.Refusals.{HasReason, IsOver, IsUnlisted, IsUnread, IsUnreadable}
+use Rattle.hwdb_spec_commands.specs.declared.refusals.Refusal.{Refusal}
+use Rattle.hwdb_spec_commands.specs.declared.refusals.Refusal.TheVariants.{At, InWords, NoDatabase, Plain}
 use Rattle.hwdb_tool.specs.OneOutcome.{ListingsGiveOneChoice}
 use Rattle.hwdb_tool.specs.OneRefusal.{IsOfFolders, IsOfListing, IsOfWhatIsRead, IsOneError}
-use Rattle.hwdb_spec.specs.Queries.{IsWholeInputUnread}
-use Rattle.hwdb_spec.specs.Reasons.{HasFilesReason, IsFileReason, IsFirstGiven, IsInputRead, IsReadGiven, TellsNoPath}
-use Rattle.hwdb_spec.specs.Undone.{AreNotChecked, IsGivenUnread, told_path}
+use Rattle.hwdb_spec_commands.specs.Queries.{IsWholeInputUnread}
+use Rattle.hwdb_spec_commands.specs.Reasons.{HasFilesReason, IsFileReason, IsFirstGiven, IsInputRead, IsReadGiven, TellsNoPath}
+use Rattle.hwdb_spec_commands.specs.Undone.{AreNotChecked, IsGivenUnread, told_path}
 use Rattle.hwdb_tool.proofs.UnreadLemmas.{IsUnreadOne, held_or_unread, unread_one}
 use Rattle.hwdb_tool.proofs.RefusalLemmas.{over_over}
 use Rattle.hwdb_text.specs.Lemmas.Pieces.{few_pieces}

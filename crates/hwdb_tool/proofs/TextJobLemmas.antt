@@ -2,28 +2,28 @@
 use Rattle.std.proofs.Common.{◌≡◌, ◌∙◌, ◌⊎◌, ⊎_elim, inl, inr, ap, sym, subst, refl, Bool, true, false, List, ℕ, Option, None, Some}
 use Rattle.clap.specs.Simple.{matches_of, subcommand_of}
 use Rattle.clap.specs.Walk.{Row, Text}
-use Rattle.hwdb_spec.specs.CommandLine.{hwdb_app}
+use Rattle.hwdb_spec_commands.specs.CommandLine.{hwdb_app}
 use Rattle.hwdb_spec.specs.CompileErrors.{IsRefusal}
 use Rattle.hwdb_spec.specs.Errors.{refusal_of_compile}
 use Rattle.hwdb_spec.specs.Folders.{Source}
-use Rattle.hwdb_spec.specs.Jobs.{IsJobOf}
-use Rattle.hwdb_spec.specs.OverText.{AreTextsRefused, IsMisused, misuse_text, takes_text, with_database, world_over}
-use Rattle.hwdb_spec.specs.Program.{IsDoneFrom, asks_text, root_of}
-use Rattle.hwdb_spec.specs.Refusals.{HasReason, IsInWords}
-use Rattle.hwdb_spec.specs.Runs.{Told, World}
-use Rattle.hwdb_spec.specs.Status.{IsMade}
+use Rattle.hwdb_spec_commands.specs.Jobs.{IsJobOf}
+use Rattle.hwdb_spec_commands.specs.OverText.{AreTextsRefused, IsMisused, misuse_text, takes_text, with_database, world_over}
+use Rattle.hwdb_spec_program.specs.Program.{IsDoneFrom, asks_text, root_of}
+use Rattle.hwdb_spec_commands.specs.Refusals.{HasReason, IsInWords}
+use Rattle.hwdb_spec_commands.specs.Runs.{Told, World}
+use Rattle.hwdb_spec_commands.specs.Status.{IsMade}
 use Rattle.hwdb_spec.specs.Store.{Contents, Outcomes, Same}
-use Rattle.hwdb_spec.specs.TaskRefusals.{IsNotDone, IsNotDoneFrom, IsNotDoneOverText, IsUnbegun}
+use Rattle.hwdb_spec_program.specs.TaskRefusals.{IsNotDone, IsNotDoneFrom, IsNotDoneOverText, IsUnbegun}
 use Rattle.hwdb_spec.specs.Texts.{max_file}
-use Rattle.hwdb_spec.specs.Words.{AskFor}
+use Rattle.hwdb_spec_program.specs.Words.{AskFor}
 use Rattle.hwdb_spec.specs.declared.errors.CompileError.{CompileError}
 use Rattle.hwdb_spec.specs.declared.errors.CompileError.TheVariants as compiling
 use Rattle.hwdb_spec.specs.declared.errors.ToolError.{ToolError}
-use Rattle.hwdb_spec.specs.declared.job.Job.{Job}
-use Rattle.hwdb_spec.specs.declared.job.Task.{Task}
-use Rattle.hwdb_spec.specs.declared.job.Task.TheVariants.{Check, Diff}
-use Rattle.hwdb_spec.specs.declared.refusals.Refusal.{Refusal}
-use Rattle.hwdb_spec.specs.declared.refusals.Refusal.TheVariants.{At, InWords, NoDatabase, Plain}
+use Rattle.hwdb_spec_commands.specs.declared.job.Job.{Job}
+use Rattle.hwdb_spec_commands.specs.declared.job.Task.{Task}
+use Rattle.hwdb_spec_commands.specs.declared.job.Task.TheVariants.{Check, Diff}
+use Rattle.hwdb_spec_commands.specs.declared.refusals.Refusal.{Refusal}
+use Rattle.hwdb_spec_commands.specs.declared.refusals.Refusal.TheVariants.{At, InWords, NoDatabase, Plain}
 use Rattle.hwdb_tool.specs.OneOutcome.{IsOneInput, ListingsGiveOneChoice, ListingsGiveOneReading, Scene, scene_of}
 use Rattle.hwdb_tool.specs.OneRefusal.{DoneJobEndsSo, IsOfFolders, IsOfListing, IsOfNamedFolder, IsOfReading, IsOfWhatIsRead, IsOneEnd, IsOneError, JobsEndAlike, scene_then}
 use Rattle.hwdb_tool.proofs.AskErrorLemmas.{OneForm}

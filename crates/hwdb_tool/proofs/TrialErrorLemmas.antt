@@ -1,19 +1,19 @@
 -- Errors over test files and their database: each comes alone.
 use Rattle.std.proofs.Common.{◌≤◌, ◌⊎◌, inl, inr, subst, ℕ, Bool, List, Option, Some, length, All}
-use Rattle.hwdb_spec.specs.CheckedFiles.{AreGivenFiles}
+use Rattle.hwdb_spec_commands.specs.CheckedFiles.{AreGivenFiles}
 use Rattle.hwdb_spec.specs.Failures.{HasFailed}
 use Rattle.hwdb_spec.specs.Folders.{Source}
 use Rattle.hwdb_spec.specs.Store.{Contents}
 use Rattle.hwdb_spec.specs.Texts.{max_file}
 use Rattle.hwdb_spec.specs.declared.errors.ToolError.{ToolError}
 use Rattle.hwdb_spec.specs.declared.errors.ToolError.TheVariants.{Read, Write, TooLong, TooManyFiles, TooManyLines, TooLarge, BadPosition, BadDatabase, Replace, Memory}
-use Rattle.hwdb_spec.specs.Refusals.{HasReason, IsOfDatabase}
-use Rattle.hwdb_spec.specs.declared.refusals.Refusal.{Refusal}
+use Rattle.hwdb_spec_commands.specs.Refusals.{HasReason, IsOfDatabase}
+use Rattle.hwdb_spec_commands.specs.declared.refusals.Refusal.{Refusal}
 use Rattle.std.specs.Prelude.{is_some}
 use Rattle.hwdb_tool.specs.OneRefusal.{IsOfTried, IsOfWhatIsRead, IsOneError}
-use Rattle.hwdb_spec.specs.Tested.{IsTested}
-use Rattle.hwdb_spec.specs.TestErrors.{AreUntried, HasTestReason, IsNoTrial, IsTrialRefusal}
-use Rattle.hwdb_spec.specs.Undone.{IsUnreadableIf}
+use Rattle.hwdb_spec_program.specs.Tested.{IsTested}
+use Rattle.hwdb_spec_program.specs.TestErrors.{AreUntried, HasTestReason, IsNoTrial, IsTrialRefusal}
+use Rattle.hwdb_spec_commands.specs.Undone.{IsUnreadableIf}
 use Rattle.hwdb_tool.proofs.DatabaseErrorLemmas.{IsFaulty, OneHeader, OverPath, both_ways, faulty_faulty, is_over, one_over, sound_or_faulty, unread_or_faulty}
 use Rattle.hwdb_tool.proofs.RefusalLemmas.{IsUnreadNamed, NeverNamed, read_or_unread, unnamed, unread_unread}
 use Rattle.hwdb_tool.proofs.TextErrorLemmas.{Ungiven, given_done, given_given, long_file, ungiven}

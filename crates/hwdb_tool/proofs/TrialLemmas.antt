@@ -1,16 +1,16 @@
 -- What `test` reads, and its errors.
 use Rattle.std.proofs.Common.{inr, ℕ, Bool, List, Option, Result, Ok, Err, IfErr, IfOk}
 use Rattle.std.specs.Prelude.{is_some}
-use Rattle.hwdb_spec.specs.Asked.{IsPrinted}
-use Rattle.hwdb_spec.specs.CheckedFiles.{AreGivenFiles}
+use Rattle.hwdb_spec_commands.specs.Asked.{IsPrinted}
+use Rattle.hwdb_spec_commands.specs.CheckedFiles.{AreGivenFiles}
 use Rattle.hwdb_spec.specs.Folders.{Source}
-use Rattle.hwdb_spec.specs.Runs.{OnOut}
+use Rattle.hwdb_spec_commands.specs.Runs.{OnOut}
 use Rattle.hwdb_spec.specs.Store.{Contents}
-use Rattle.hwdb_spec.specs.Refusals.{HasReason}
-use Rattle.hwdb_spec.specs.declared.refusals.Refusal.{Refusal}
-use Rattle.hwdb_spec.specs.Tested.{IsTested, IsVerdict}
-use Rattle.hwdb_spec.specs.TestErrors.{AreUntried, HasTestReason, IsTestRefused}
-use Rattle.hwdb_spec.specs.Undone.{IsUnreadableIf}
+use Rattle.hwdb_spec_commands.specs.Refusals.{HasReason}
+use Rattle.hwdb_spec_commands.specs.declared.refusals.Refusal.{Refusal}
+use Rattle.hwdb_spec_program.specs.Tested.{IsTested, IsVerdict}
+use Rattle.hwdb_spec_program.specs.TestErrors.{AreUntried, HasTestReason, IsTestRefused}
+use Rattle.hwdb_spec_commands.specs.Undone.{IsUnreadableIf}
 use Rattle.hwdb_tool.specs.Views.{texts_in}
 use Rattle.hwdb_tool.specs.declared.answer.Answer.{Answer}
 

@@ -4,7 +4,7 @@ use Rattle.hwdb_spec.specs.Store.{Contents}
 use Rattle.hwdb_spec.specs.System.{bytes_at}
 use Rattle.hwdb_spec.specs.Texts.{max_file}
 use Rattle.hwdb_spec.specs.declared.errors.ToolError.TheVariants.{Read, TooLong}
-use Rattle.hwdb_spec.specs.declared.refusals.Refusal.{Refusal}
+use Rattle.hwdb_spec_commands.specs.declared.refusals.Refusal.{Refusal}
 use Rattle.hwdb_tool.specs.OneRefusal.{IsOneError}
 use Rattle.hwdb_tool.proofs.RefusalLemmas.{IsLongAt, IsMissingAt, no_none, not_both, over_over}
 

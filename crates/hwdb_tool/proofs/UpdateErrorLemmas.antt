@@ -4,31 +4,31 @@ use Rattle.std.proofs.lemmas.List.{length-map}
 use Rattle.std.proofs.lemmas.List.Elements.{All-contains, Contains-append_right}
 use Rattle.std.specs.Io.KnownBytes.{Appends}
 use Rattle.std.specs.Prelude.{Contains}
-use Rattle.hwdb_spec.specs.Done.{IsUpdated}
+use Rattle.hwdb_spec_commands.specs.Done.{IsUpdated}
 use Rattle.hwdb_spec.specs.Folders.{AreAccepted, Choice, HaveManyLines, Source, chosen_of, choice, contents, max_files, max_lines, names, path_of}
-use Rattle.hwdb_spec.specs.Asked.{database_path}
-use Rattle.hwdb_spec.specs.Emptied.{IsShort}
-use Rattle.hwdb_spec.specs.Hiding.{hiding_text}
-use Rattle.hwdb_spec.specs.LeftOut.{without}
+use Rattle.hwdb_spec_commands.specs.Asked.{database_path}
+use Rattle.hwdb_spec_commands.specs.Emptied.{IsShort}
+use Rattle.hwdb_spec_program.specs.Hiding.{hiding_text}
+use Rattle.hwdb_spec_commands.specs.LeftOut.{without}
 use Rattle.hwdb_spec.specs.Lines.{lines}
-use Rattle.hwdb_spec.specs.Runs.{AreKept, Files, Told}
+use Rattle.hwdb_spec_commands.specs.Runs.{AreKept, Files, Told}
 use Rattle.hwdb_spec.specs.Store.{Contents}
 use Rattle.hwdb_spec.specs.System.{AreFilesIn, AreNamesIn, etc_files, usr_files}
 use Rattle.hwdb_spec.specs.Texts.{max_file}
 use Rattle.hwdb_spec.specs.Tree.{map_of_files}
 use Rattle.hwdb_spec.specs.Written.{IsTooLarge, IsWritten}
-use Rattle.hwdb_spec.specs.Reading.{AreUnread, AreUnreadIn, IsText}
-use Rattle.hwdb_spec.specs.Refusals.{HasReason, IsOver}
-use Rattle.hwdb_spec.specs.declared.refusals.Refusal.{Refusal}
-use Rattle.hwdb_spec.specs.declared.refusals.Refusal.TheVariants.{At, InWords, NoDatabase, Plain}
-use Rattle.hwdb_spec.specs.UpdateErrors.{IsUpdateRefusal}
+use Rattle.hwdb_spec_commands.specs.Reading.{AreUnread, AreUnreadIn, IsText}
+use Rattle.hwdb_spec_commands.specs.Refusals.{HasReason, IsOver}
+use Rattle.hwdb_spec_commands.specs.declared.refusals.Refusal.{Refusal}
+use Rattle.hwdb_spec_commands.specs.declared.refusals.Refusal.TheVariants.{At, InWords, NoDatabase, Plain}
+use Rattle.hwdb_spec_commands.specs.UpdateErrors.{IsUpdateRefusal}
 use Rattle.hwdb_spec.specs.declared.errors.ToolError.{ToolError}
 use Rattle.hwdb_spec.specs.declared.errors.ToolError.TheVariants.{Read, Write, TooLong, TooManyFiles, TooManyLines, TooLarge, BadPosition, BadDatabase, Replace, Memory}
-use Rattle.hwdb_spec.specs.HidingTold.{IsTellingUpdateRefused}
+use Rattle.hwdb_spec_program.specs.HidingTold.{IsTellingUpdateRefused}
 use Rattle.hwdb_tool.specs.OneOutcome.{IsOneReading, ListingsGiveOneChoice, ListingsGiveOneReading}
 use Rattle.hwdb_tool.specs.OneRefusal.{IsOfDatabase, IsOfFolders, IsOfListing, IsOfWhatIsRead, IsOneError}
-use Rattle.hwdb_spec.specs.Readable.{AreAllRead, IsRefusedAfter, IsRefusedLess, IsUpdateRefused}
-use Rattle.hwdb_spec.specs.Undone.{IsSelectedRefused, IsUntold, IsUpdateUndone}
+use Rattle.hwdb_spec_commands.specs.Readable.{AreAllRead, IsRefusedAfter, IsRefusedLess, IsUpdateRefused}
+use Rattle.hwdb_spec_commands.specs.Undone.{IsSelectedRefused, IsUntold, IsUpdateUndone}
 use Rattle.hwdb_tool.proofs.AskErrorLemmas.{OneForm}
 use Rattle.hwdb_tool.proofs.OutcomeLemmas.{one_map}
 use Rattle.hwdb_tool.proofs.EmptyingLemmas.{shorts_of}

@@ -1,27 +1,27 @@
 -- An update that ends with an error after its files were read.
 use Rattle.std.specs.Io.KnownBytes.{Appends}
 use Rattle.std.proofs.Common.{◌≡◌, ◌≢◌, ◌++◌, inl, inr, ap, subst, sym, refl, ℕ, Bool, List, Result, Ok, Err, IfErr}
-use Rattle.hwdb_spec.specs.Runs.{AreKept, Files, Told}
-use Rattle.hwdb_spec.specs.Emptied.{IsLossOf}
+use Rattle.hwdb_spec_commands.specs.Runs.{AreKept, Files, Told}
+use Rattle.hwdb_spec_commands.specs.Emptied.{IsLossOf}
 use Rattle.hwdb_spec.specs.Folders.{chosen_of}
 use Rattle.hwdb_spec.specs.Store.{Contents}
-use Rattle.hwdb_spec.specs.Summary.{depth}
+use Rattle.hwdb_spec_commands.specs.Summary.{depth}
 use Rattle.hwdb_spec.specs.System.{database_folder}
-use Rattle.hwdb_spec.specs.Progress.{given_where, update_text}
+use Rattle.hwdb_spec_commands.specs.Progress.{given_where, update_text}
 use Rattle.hwdb_spec.specs.Texts.{max_file}
 use Rattle.hwdb_spec.specs.declared.errors.Unreplaced.{Unreplaced}
 use Rattle.hwdb_text.specs.declared.choice.ChosenFile.{ChosenFile}
 use Rattle.hwdb_compile.specs.Views.{ForFolders}
-use Rattle.hwdb_spec.specs.UpdateErrors.{IsUpdateRefusal, OnUnreplaced, UpdateUndone}
+use Rattle.hwdb_spec_commands.specs.UpdateErrors.{IsUpdateRefusal, OnUnreplaced, UpdateUndone}
 use Rattle.hwdb_spec.specs.declared.errors.ToolError.{ToolError}
 use Rattle.hwdb_spec.specs.declared.errors.ToolError.TheVariants.{Read, Write, TooLong, TooManyFiles, TooManyLines, TooLarge, BadPosition, BadDatabase, Replace, Memory}
 use Rattle.hwdb_tool.specs.Emptying.{AfterLoss}
 use Rattle.hwdb_tool.specs.Internal.{AreReadOf}
-use Rattle.hwdb_spec.specs.Refusals.{HasReason, IsOfUpdate}
-use Rattle.hwdb_spec.specs.Undone.{IsSelectedRefused, WasSayingCut}
-use Rattle.hwdb_spec.specs.Asked.{database_path}
-use Rattle.hwdb_spec.specs.declared.refusals.Refusal.{Refusal}
-use Rattle.hwdb_spec.specs.declared.refusals.Refusal.TheVariants.{At, InWords, NoDatabase, Plain}
+use Rattle.hwdb_spec_commands.specs.Refusals.{HasReason, IsOfUpdate}
+use Rattle.hwdb_spec_commands.specs.Undone.{IsSelectedRefused, WasSayingCut}
+use Rattle.hwdb_spec_commands.specs.Asked.{database_path}
+use Rattle.hwdb_spec_commands.specs.declared.refusals.Refusal.{Refusal}
+use Rattle.hwdb_spec_commands.specs.declared.refusals.Refusal.TheVariants.{At, InWords, NoDatabase, Plain}
 
 is_write : ToolError → Type 0
 is_write Write = Unit {0}

@@ -4,7 +4,7 @@ use Rattle.std.specs.Prelude.{OnErr}
 use Rattle.std.proofs.lemmas.List.{take_all}
 use Rattle.std.specs.Io.KnownBytes.{Appends}
 use Rattle.hwdb_spec.specs.Outputs.{CutShort, Took}
-use Rattle.hwdb_spec.specs.Refusals.{Refused}
+use Rattle.hwdb_spec_commands.specs.Refusals.{Refused}
 use Rattle.hwdb_spec.specs.Lemmas.Calls.{failed_call}
 
 -- the text that was written, or a prefix of it

@@ -1,13 +1,13 @@
 -- What whoever follows the plans of `verify` and of `dump` promises in the older words. Our choice.
 use Rattle.std.specs.Prelude.{◌≡◌, ℕ, List, Option, Result, IfErr, IfOk}
-use Rattle.hwdb_spec.specs.Asked.{IsDumped, IsPrinted}
-use Rattle.hwdb_spec.specs.Databases.{IsSummary}
-use Rattle.hwdb_spec.specs.GivenDatabases.{HasDatabaseReason, OfNamed}
-use Rattle.hwdb_spec.specs.NamedDatabases.{IsDumpRefused, IsVerifyRefused}
-use Rattle.hwdb_spec.specs.Runs.{OnOut}
+use Rattle.hwdb_spec_commands.specs.Asked.{IsDumped, IsPrinted}
+use Rattle.hwdb_spec_commands.specs.Databases.{IsSummary}
+use Rattle.hwdb_spec_program.specs.GivenDatabases.{HasDatabaseReason, OfNamed}
+use Rattle.hwdb_spec_program.specs.NamedDatabases.{IsDumpRefused, IsVerifyRefused}
+use Rattle.hwdb_spec_commands.specs.Runs.{OnOut}
 use Rattle.hwdb_spec.specs.Store.{Contents}
-use Rattle.hwdb_spec.specs.Told.{Reads}
-use Rattle.hwdb_spec.specs.declared.refusals.Refusal.{Refusal}
+use Rattle.hwdb_spec_commands.specs.Told.{Reads}
+use Rattle.hwdb_spec_commands.specs.declared.refusals.Refusal.{Refusal}
 use Rattle.hwdb_plan.specs.Dump.{dump_plan}
 use Rattle.hwdb_plan.specs.Input.{OverNamed}
 use Rattle.hwdb_plan.specs.Plans.{Follows}

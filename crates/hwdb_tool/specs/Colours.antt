@@ -1,9 +1,9 @@
 -- What is shown of a text by a sink that colours it, and what that sink tells.
 use Rattle.std.specs.Prelude.{◌≡◌, ◌⊎◌, ℕ, Bool, List, None, Option, false, if◌then◌else◌}
-use Rattle.hwdb_spec.specs.Colours.{painted}
+use Rattle.hwdb_spec_commands.specs.Colours.{painted}
 use Rattle.hwdb_spec.specs.Visible.{visible}
-use Rattle.hwdb_spec.specs.declared.colours.TextKind.{TextKind}
-use Rattle.hwdb_spec.specs.declared.colours.TextKind.TheVariants.{Plain}
+use Rattle.hwdb_spec_commands.specs.declared.colours.TextKind.{TextKind}
+use Rattle.hwdb_spec_commands.specs.declared.colours.TextKind.TheVariants.{Plain}
 
 -- the text is shown in colour, or, if there was no memory, as it is
 abbrev pub IsColoured : TextKind → (text shown : List ℕ) → Type 0

@@ -1,18 +1,18 @@
 -- What a query finds after a crash, or a kill, at any moment of a run, and a start.
 use Rattle.std.specs.Prelude.{◌≡◌, ◌≢◌, ◌⊎◌, ◌≤◌, ℕ, false, List, [], ◌∷◌, Option}
 use Rattle.clap.specs.Faults.{fault_of}
-use Rattle.hwdb_spec.specs.CommandLine.{hwdb_app}
-use Rattle.hwdb_spec.specs.Words.{AskFor}
-use Rattle.hwdb_spec.specs.declared.job.Job.{Job}
+use Rattle.hwdb_spec_commands.specs.CommandLine.{hwdb_app}
+use Rattle.hwdb_spec_program.specs.Words.{AskFor}
+use Rattle.hwdb_spec_commands.specs.declared.job.Job.{Job}
 use Rattle.hwdb_spec.specs.Store.{Contents, LeavesOnly, Outcomes, Stored, database_name, path_in}
 use Rattle.hwdb_spec.specs.Folders.{Choice}
 use Rattle.hwdb_spec.specs.System.{database_folder}
 use Rattle.hwdb_spec.specs.Texts.{queries_text}
-use Rattle.hwdb_spec.specs.Asked.{IsAnswered}
+use Rattle.hwdb_spec_commands.specs.Asked.{IsAnswered}
 use Rattle.hwdb_tool.specs.Laws.{IsOfLast}
-use Rattle.hwdb_spec.specs.LeftOut.{AreLeftOut, without}
-use Rattle.hwdb_spec.specs.Program.{OldOrAskedFor, root_of, skips}
-use Rattle.hwdb_spec.specs.Databases.{IsTextOf}
+use Rattle.hwdb_spec_commands.specs.LeftOut.{AreLeftOut, without}
+use Rattle.hwdb_spec_program.specs.Program.{OldOrAskedFor, root_of, skips}
+use Rattle.hwdb_spec_commands.specs.Databases.{IsTextOf}
 
 -- what is there after a start: under each path something that the crash may have left
 abbrev pub Booted : Outcomes → Contents → Type 0

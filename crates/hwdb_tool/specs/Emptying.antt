@@ -2,12 +2,12 @@
 use Rattle.std.specs.Prelude.{◌==◌, Bool, List, Option, false, ℕ}
 use Rattle.hwdb_compile.specs.Views.{ForFolders}
 use Rattle.hwdb_text.specs.declared.choice.ChosenFile.{ChosenFile}
-use Rattle.hwdb_spec.specs.Done.{IsUpdated}
-use Rattle.hwdb_spec.specs.Emptied.{IsLossOf}
+use Rattle.hwdb_spec_commands.specs.Done.{IsUpdated}
+use Rattle.hwdb_spec_commands.specs.Emptied.{IsLossOf}
 use Rattle.hwdb_spec.specs.Folders.{Source, chosen_of}
-use Rattle.hwdb_spec.specs.Runs.{HasTaken, Told}
-use Rattle.hwdb_spec.specs.Status.{Amount}
-use Rattle.hwdb_spec.specs.Status.Amount.{Counted, Uncounted}
+use Rattle.hwdb_spec_commands.specs.Runs.{HasTaken, Told}
+use Rattle.hwdb_spec_commands.specs.Status.{Amount}
+use Rattle.hwdb_spec_commands.specs.Status.Amount.{Counted, Uncounted}
 use Rattle.hwdb_spec.specs.Store.{Contents}
 
 -- this much is nothing, in a database

@@ -3,7 +3,7 @@ use Rattle.std.specs.Prelude.{◌≡◌, ◌-◌, ◌^◌, ℕ, List, [], ◌∷
 use Rattle.hwdb_spec.specs.Failures.{HasFailed}
 use Rattle.hwdb_spec.specs.Store.{Contents, Outcomes}
 use Rattle.hwdb_tool.specs.Crash.{Booted}
-use Rattle.hwdb_spec.specs.Program.{OldOrAskedFor}
+use Rattle.hwdb_spec_program.specs.Program.{OldOrAskedFor}
 
 -- a count that didn't rise tells of a failed call only at its greatest value
 abbrev pub CountsTellFailures : Type 0

@@ -1,30 +1,30 @@
 -- What the steps of a task hold.
 use Rattle.std.specs.Prelude.{◌≡◌, ℕ, Bool, true, false, List, None, Option, Some, codes, map, string_bytes}
-use Rattle.hwdb_spec.specs.Given.{is_dash}
+use Rattle.hwdb_spec_commands.specs.Given.{is_dash}
 use Rattle.hwdb_spec.specs.Folders.{Source}
 use Rattle.hwdb_spec.specs.Explanations.{explain_text}
-use Rattle.hwdb_spec.specs.Json.{explain_json}
+use Rattle.hwdb_spec_commands.specs.Json.{explain_json}
 use Rattle.hwdb_spec.specs.Store.{Contents}
 use Rattle.hwdb_spec.specs.System.{AreFilesIn, asked_database, bytes_at, etc_files, usr_files}
 use Rattle.hwdb_spec.specs.Tree.{Tree}
 use Rattle.hwdb_text.specs.Views.{choice_of}
 use Rattle.hwdb_compile.specs.Views.{AreChosenOf}
-use Rattle.hwdb_spec.specs.OverText.{world_over}
-use Rattle.hwdb_spec.specs.Program.{IsTaskDone, root_of}
-use Rattle.hwdb_spec.specs.Reasons.{HasGivenReason}
-use Rattle.hwdb_spec.specs.Runs.{World}
+use Rattle.hwdb_spec_commands.specs.OverText.{world_over}
+use Rattle.hwdb_spec_program.specs.Program.{IsTaskDone, root_of}
+use Rattle.hwdb_spec_commands.specs.Reasons.{HasGivenReason}
+use Rattle.hwdb_spec_commands.specs.Runs.{World}
 use Rattle.hwdb_spec.specs.Selected.{AreSelected}
-use Rattle.hwdb_spec.specs.TaskRefusals.{IsNotDone}
-use Rattle.hwdb_spec.specs.Told.{Stop, unread_stop}
-use Rattle.hwdb_spec.specs.Told.Stop.{Over, Plain}
+use Rattle.hwdb_spec_program.specs.TaskRefusals.{IsNotDone}
+use Rattle.hwdb_spec_commands.specs.Told.{Stop, unread_stop}
+use Rattle.hwdb_spec_commands.specs.Told.Stop.{Over, Plain}
 use Rattle.hwdb_spec.specs.declared.causes.Cause.{Cause}
 use Rattle.hwdb_spec.specs.declared.errors.ReadError.{ReadError}
 use Rattle.hwdb_spec.specs.declared.errors.ReadError.TheVariants as reading
 use Rattle.hwdb_spec.specs.declared.errors.ToolError.TheVariants.{Memory, TooLong}
-use Rattle.hwdb_spec.specs.declared.unread.Unread.TheVariants.{Failed}
-use Rattle.hwdb_spec.specs.declared.job.Job.{Job}
-use Rattle.hwdb_spec.specs.declared.refusals.Refusal.{Refusal}
-use Rattle.hwdb_fs.specs.declared.folders.Selection.{Selection}
+use Rattle.hwdb_spec_commands.specs.declared.unread.Unread.TheVariants.{Failed}
+use Rattle.hwdb_spec_commands.specs.declared.job.Job.{Job}
+use Rattle.hwdb_spec_commands.specs.declared.refusals.Refusal.{Refusal}
+use Rattle.hwdb_system.specs.declared.folders.Selection.{Selection}
 use Rattle.hwdb_text.specs.declared.choice.ChosenFile.{ChosenFile}
 
 -- what is read of a path, if standard input has a text

@@ -7,9 +7,9 @@ use Rattle.hwdb_spec.specs.Last.{AreLast}
 use Rattle.hwdb_spec.specs.Store.{Contents, path_in, database_name, database_file}
 use Rattle.hwdb_spec.specs.System.{AreFilesIn, database_folder, etc_files, usr_files}
 use Rattle.hwdb_spec.specs.Texts.{properties_text, queries_text}
-use Rattle.hwdb_spec.specs.Databases.{IsTextOf}
-use Rattle.hwdb_spec.specs.Asked.{IsAnswered}
-use Rattle.hwdb_spec.specs.Done.{IsUpdated}
+use Rattle.hwdb_spec_commands.specs.Databases.{IsTextOf}
+use Rattle.hwdb_spec_commands.specs.Asked.{IsAnswered}
+use Rattle.hwdb_spec_commands.specs.Done.{IsUpdated}
 
 -- The text is for each key the value of the last assignment. Of those that the text files of both folders have, it is the
 -- last of each pattern and key whose pattern matches the device.

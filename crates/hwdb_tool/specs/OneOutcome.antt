@@ -1,13 +1,13 @@
 -- What two outcomes over one input have in common.
 use Rattle.std.specs.Prelude.{◌≡◌, ◌⊎◌, ℕ, Bool, false, List, Some, map}
-use Rattle.hwdb_spec.specs.declared.job.Task.{Task}
-use Rattle.hwdb_spec.specs.DeviceTree.{Sight}
+use Rattle.hwdb_spec_commands.specs.declared.job.Task.{Task}
+use Rattle.hwdb_spec_commands.specs.DeviceTree.{Sight}
 use Rattle.hwdb_spec.specs.Folders.{Source, Choice, choice, chosen_of, contents, lists}
 use Rattle.hwdb_spec.specs.Outputs.{Texts}
-use Rattle.hwdb_spec.specs.Runs.{Told, World}
+use Rattle.hwdb_spec_commands.specs.Runs.{Told, World}
 use Rattle.hwdb_spec.specs.Store.{Contents, IsPartPath, Outcomes}
 use Rattle.hwdb_spec.specs.System.{AreFilesIn, AreNamesIn, database_folder, etc_files, usr_files}
-use Rattle.hwdb_spec.specs.Program.{IsAnswerOf, IsJobDone, IsTaskDone, IsTold, root_of, skips}
+use Rattle.hwdb_spec_program.specs.Program.{IsAnswerOf, IsJobDone, IsTaskDone, IsTold, root_of, skips}
 
 -- two readings of both folders are one: which names each folder has, which files are chosen, and what each of them holds
 pub record IsOneReading (etc usr etc2 usr2 : List Source) : Type 0 where

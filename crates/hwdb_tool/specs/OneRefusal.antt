@@ -1,31 +1,31 @@
 -- A task that ends with an error has one, and none that is done has any. It is what two outcomes over one input have in common,
 -- if one of them or both are errors. Our choice.
 use Rattle.std.specs.Prelude.{◌++◌, ◌<◌, ◌∷◌, ◌≡◌, ◌⊎◌, [], ℕ, Bool, Contains, IfSome, List, None, Option, Some, codes, false, length, map, option_map, string_bytes, true}
-use Rattle.hwdb_spec.specs.DeviceAsked.{no_device_text, no_sysfs_text, unread_text}
-use Rattle.hwdb_spec.specs.Asked.{database_path}
+use Rattle.hwdb_spec_commands.specs.DeviceAsked.{no_device_text, no_sysfs_text, unread_text}
+use Rattle.hwdb_spec_commands.specs.Asked.{database_path}
 use Rattle.hwdb_spec.specs.Failures.{HasFailed}
-use Rattle.hwdb_spec.specs.Given.{is_input}
+use Rattle.hwdb_spec_commands.specs.Given.{is_input}
 use Rattle.hwdb_spec.specs.System.{bytes_at, etc_files, usr_files}
-use Rattle.hwdb_spec.specs.ManyDevices.{HasLongLine}
+use Rattle.hwdb_spec_commands.specs.ManyDevices.{HasLongLine}
 use Rattle.hwdb_spec.specs.Texts.{max_file}
-use Rattle.hwdb_spec.specs.Verdicts.{verdict_text}
+use Rattle.hwdb_spec_commands.specs.Verdicts.{verdict_text}
 use Rattle.hwdb_spec.specs.declared.DbFault.{DbFault}
 use Rattle.hwdb_reader.specs.Laws.{IsOfHeader}
 use Rattle.hwdb_spec.specs.declared.errors.ToolError.{ToolError}
 use Rattle.hwdb_spec.specs.declared.errors.ToolError.TheVariants.{BadDatabase, Memory, Read, Replace, TooLong, Write}
-use Rattle.hwdb_spec.specs.declared.job.Job.{Job}
-use Rattle.hwdb_spec.specs.declared.job.WordsFault.TheVariants as words_fault
-use Rattle.hwdb_spec.specs.declared.job.Task.{Task}
-use Rattle.hwdb_spec.specs.declared.job.Task.TheVariants.{Ask, Check, Device, Diff, Dump, Explain, List as ListHits, Near, Query, Status, Test, Update, Verify}
-use Rattle.hwdb_spec.specs.Runs.{Told}
-use Rattle.hwdb_spec.specs.CheckedFiles.{StandFor, folder_of}
+use Rattle.hwdb_spec_commands.specs.declared.job.Job.{Job}
+use Rattle.hwdb_spec_commands.specs.declared.job.WordsFault.TheVariants as words_fault
+use Rattle.hwdb_spec_commands.specs.declared.job.Task.{Task}
+use Rattle.hwdb_spec_commands.specs.declared.job.Task.TheVariants.{Ask, Check, Device, Diff, Dump, Explain, List as ListHits, Near, Query, Status, Test, Update, Verify}
+use Rattle.hwdb_spec_commands.specs.Runs.{Told}
+use Rattle.hwdb_spec_commands.specs.CheckedFiles.{StandFor, folder_of}
 use Rattle.hwdb_spec.specs.Store.{Contents, Outcomes, path_in}
 use Rattle.hwdb_tool.specs.OneOutcome.{IsOneInput, Scene, scene_of}
-use Rattle.hwdb_spec.specs.Program.{IsJobDone, IsTaskDone, asks_text, reads_input, root_of, streams}
-use Rattle.hwdb_spec.specs.TaskRefusals.{AreRefused, IsJobRefused, IsNotDone, IsRootRefused}
-use Rattle.hwdb_spec.specs.Refusals.{IsOver}
-use Rattle.hwdb_spec.specs.declared.refusals.Refusal.{Refusal}
-use Rattle.hwdb_spec.specs.declared.refusals.Refusal.TheVariants.{At, InWords, NoDatabase, Plain}
+use Rattle.hwdb_spec_program.specs.Program.{IsJobDone, IsTaskDone, asks_text, reads_input, root_of, streams}
+use Rattle.hwdb_spec_program.specs.TaskRefusals.{AreRefused, IsJobRefused, IsNotDone, IsRootRefused}
+use Rattle.hwdb_spec_commands.specs.Refusals.{IsOver}
+use Rattle.hwdb_spec_commands.specs.declared.refusals.Refusal.{Refusal}
+use Rattle.hwdb_spec_commands.specs.declared.refusals.Refusal.TheVariants.{At, InWords, NoDatabase, Plain}
 
 -- the error comes of what is read: memory was granted, both outputs took what they were given, and so did the database's folder
 abbrev pub IsOfWhatIsRead : Refusal → Type 0

@@ -1,14 +1,14 @@
 -- What the steps of a side of `diff` hold.
 use Rattle.std.specs.Prelude.{◌≡◌, ◌⊎◌, Bool, List, Option, false, true, ℕ}
-use Rattle.hwdb_spec.specs.CheckedFiles.{folder_of, is_file}
-use Rattle.hwdb_spec.specs.ComparedDatabases.{IsGivenSideRefused, IsPairRefused}
-use Rattle.hwdb_spec.specs.Given.{is_dash}
-use Rattle.hwdb_spec.specs.Reasons.{HasGivenReason}
-use Rattle.hwdb_spec.specs.Refusals.{HasReason, IsUnreadable}
-use Rattle.hwdb_spec.specs.Sides.{AreNotMadeAt, IsSideRefused}
+use Rattle.hwdb_spec_commands.specs.CheckedFiles.{folder_of, is_file}
+use Rattle.hwdb_spec_program.specs.ComparedDatabases.{IsGivenSideRefused, IsPairRefused}
+use Rattle.hwdb_spec_commands.specs.Given.{is_dash}
+use Rattle.hwdb_spec_commands.specs.Reasons.{HasGivenReason}
+use Rattle.hwdb_spec_commands.specs.Refusals.{HasReason, IsUnreadable}
+use Rattle.hwdb_spec_commands.specs.Sides.{AreNotMadeAt, IsSideRefused}
 use Rattle.hwdb_spec.specs.Store.{Contents}
 use Rattle.hwdb_spec.specs.System.{AreNamesIn}
-use Rattle.hwdb_spec.specs.declared.refusals.Refusal.{Refusal}
+use Rattle.hwdb_spec_commands.specs.declared.refusals.Refusal.{Refusal}
 
 -- an error of a side, and what it says is so
 abbrev pub IsSideError : (MayFail : (path : List ℕ) → Type 0) → Contents → (path : List ℕ) → Refusal → Type 0

@@ -4,17 +4,17 @@ use Rattle.hwdb_compile.specs.Views.{ForFolders}
 use Rattle.hwdb_text.specs.Views.{choice_in}
 use Rattle.hwdb_text.specs.declared.choice.ChosenFile.{ChosenFile}
 use Rattle.hwdb_spec.specs.Folders.{AreAccepted, Source}
-use Rattle.hwdb_spec.specs.Ignored.{AreIgnoredIn}
-use Rattle.hwdb_spec.specs.Readable.{AreAllRead}
-use Rattle.hwdb_spec.specs.Reading.{AreUnread}
-use Rattle.hwdb_spec.specs.Status.{Amount, IsAmount, IsState, Report, State, has_database, hidden_database, ignored_paths, is_bare, masked_paths, report_form, report_of, status_of}
-use Rattle.hwdb_spec.specs.StatusErrors.{AreNotMade, IsAskedUnread, IsHiddenUnread}
+use Rattle.hwdb_spec_commands.specs.Ignored.{AreIgnoredIn}
+use Rattle.hwdb_spec_commands.specs.Readable.{AreAllRead}
+use Rattle.hwdb_spec_commands.specs.Reading.{AreUnread}
+use Rattle.hwdb_spec_commands.specs.Status.{Amount, IsAmount, IsState, Report, State, has_database, hidden_database, ignored_paths, is_bare, masked_paths, report_form, report_of, status_of}
+use Rattle.hwdb_spec_commands.specs.StatusErrors.{AreNotMade, IsAskedUnread, IsHiddenUnread}
 use Rattle.hwdb_spec.specs.Store.{Contents}
 use Rattle.hwdb_spec.specs.System.{asked_database, etc_files, usr_files}
 use Rattle.hwdb_spec.specs.Texts.{max_file}
 use Rattle.hwdb_spec.specs.Tree.{Map, map_of_files}
 use Rattle.hwdb_spec.specs.Written.{IsDatabaseOf, IsWritten}
-use Rattle.hwdb_spec.specs.declared.refusals.Refusal.{Refusal}
+use Rattle.hwdb_spec_commands.specs.declared.refusals.Refusal.{Refusal}
 use Rattle.hwdb_tool.specs.Internal.{AreReadOf}
 use Rattle.hwdb_tool.specs.declared.answer.Answer.{Answer}
 

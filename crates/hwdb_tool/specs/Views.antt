@@ -1,9 +1,9 @@
 -- What an answer is, and what its printing leaves.
 use Rattle.std.specs.Prelude.{◌≡◌, MatchResult, Result, IsOkAnd, ℕ}
-use Rattle.hwdb_spec.specs.declared.refusals.Refusal.{Refusal}
-use Rattle.hwdb_spec.specs.declared.refusals.Refusal.TheVariants.{Plain}
+use Rattle.hwdb_spec_commands.specs.declared.refusals.Refusal.{Refusal}
+use Rattle.hwdb_spec_commands.specs.declared.refusals.Refusal.TheVariants.{Plain}
 use Rattle.hwdb_spec.specs.Outputs.{Texts}
-use Rattle.hwdb_spec.specs.Runs.{Printed, PrintedPart, Told}
+use Rattle.hwdb_spec_commands.specs.Runs.{Printed, PrintedPart, Told}
 use Rattle.hwdb_plan.specs.Plans.{End}
 use Rattle.hwdb_plan.specs.Plans.End.{Answers}
 use Rattle.hwdb_tool.specs.declared.answer.Answer.{Answer}

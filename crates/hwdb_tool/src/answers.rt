@@ -1,17 +1,17 @@
 //! What devices get: from the database, or from one text file.
 ghost use Rattle.std.specs.Prelude.{[], ◌∷◌, ◌≡◌, ◌≤◌, ◌⊎◌, true, false, option_map, IfErr, IfOk, OnOk};
 ghost use Rattle.hwdb_spec.specs.Flushing.{HandsOn};
-ghost use Rattle.hwdb_spec.specs.Asked.{IsAnswered, IsListFrom};
-ghost use Rattle.hwdb_spec.specs.Databases.{IsTextOf};
-ghost use Rattle.hwdb_spec.specs.Done.{IsAsked};
-ghost use Rattle.hwdb_spec.specs.Given.{is_dash};
+ghost use Rattle.hwdb_spec_commands.specs.Asked.{IsAnswered, IsListFrom};
+ghost use Rattle.hwdb_spec_commands.specs.Databases.{IsTextOf};
+ghost use Rattle.hwdb_spec_commands.specs.Done.{IsAsked};
+ghost use Rattle.hwdb_spec_commands.specs.Given.{is_dash};
 ghost use Rattle.hwdb_spec.specs.Outputs.{TookOne};
-ghost use Rattle.hwdb_spec.specs.Runs.{OnOut, told_by};
-ghost use Rattle.hwdb_spec.specs.Streams.{texts_of};
-ghost use Rattle.hwdb_spec.specs.Refusals.{HasReason};
-ghost use Rattle.hwdb_spec.specs.Queries.{AreDone, AreUnanswered};
-ghost use Rattle.hwdb_spec.specs.Reasons.{HasAskedReason, HasGivenReason};
-ghost use Rattle.hwdb_spec.specs.Undone.{IsAskRefused, IsListRefused, IsUnanswered};
+ghost use Rattle.hwdb_spec_commands.specs.Runs.{OnOut, told_by};
+ghost use Rattle.hwdb_spec_commands.specs.Streams.{texts_of};
+ghost use Rattle.hwdb_spec_commands.specs.Refusals.{HasReason};
+ghost use Rattle.hwdb_spec_commands.specs.Queries.{AreDone, AreUnanswered};
+ghost use Rattle.hwdb_spec_commands.specs.Reasons.{HasAskedReason, HasGivenReason};
+ghost use Rattle.hwdb_spec_commands.specs.Undone.{IsAskRefused, IsListRefused, IsUnanswered};
 ghost use Rattle.hwdb_tool.specs.Views.{texts_in};
 
 use crate::answer::Answer;
@@ -19,9 +19,9 @@ use crate::databases::asked;
 use crate::given::{is_dash, read};
 use crate::input_devices::answer_input;
 use crate::printing::printed;
-use hwdb_fs::{Refusal, System};
+use hwdb_answers::{Form, answer, ask_texts, print_list};
 use hwdb_io::{Sink, Source};
-use hwdb_print::{Form, answer, ask_texts, print_list};
+use hwdb_system::{Refusal, System};
 use std::alloc::Global;
 
 /// Prints the properties that the database below the root gives the device, and where each comes from. If the device is `-`,

@@ -1,7 +1,7 @@
 //! What follows a plan keeps the older promises of its command. Each function does nothing: its contract is the law.
 ghost use Rattle.hwdb_tool.specs.AsBefore.{DumpAsBefore, VerifyAsBefore};
 
-use hwdb_fs::System;
+use hwdb_system::System;
 
 /// What follows the plan of `verify` keeps the older promises of `verify`.
 pub fn verify_as_before<D: System>(system: &D)

@@ -2,17 +2,17 @@
 ghost use Rattle.std.specs.Prelude.{◌≡◌, map, string_bytes, IfErr, IfOk};
 ghost use Rattle.hwdb_compile.specs.Views.{ForFolders};
 ghost use Rattle.hwdb_spec.specs.Folders.{Source};
-ghost use Rattle.hwdb_spec.specs.OverText;
-ghost use Rattle.hwdb_spec.specs.Replacements.{replacements_form};
+ghost use Rattle.hwdb_spec_commands.specs.OverText;
+ghost use Rattle.hwdb_spec_commands.specs.Replacements.{replacements_form};
 ghost use Rattle.hwdb_spec.specs.declared.errors.ToolError.TheVariants.{Memory};
-ghost use Rattle.hwdb_spec.specs.declared.refusals.Refusal.TheVariants.{Plain};
+ghost use Rattle.hwdb_spec_commands.specs.declared.refusals.Refusal.TheVariants.{Plain};
 
 use crate::given::is_dash;
 use crate::statuses::masked_paths;
+use hwdb_answers::ToolError;
 use hwdb_cli::Task;
-use hwdb_fs::Refusal;
 use hwdb_near::replaced_in_files;
-use hwdb_print::ToolError;
+use hwdb_system::Refusal;
 use hwdb_text::ChosenFile;
 use std::alloc::Global;
 

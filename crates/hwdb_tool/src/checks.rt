@@ -1,28 +1,28 @@
 //! `check`: text files that are read and looked over. Nothing is written.
 ghost use Rattle.std.specs.Prelude.{◌≡◌, ◌≤◌, ◌==◌, All, true, false, not, map, string_bytes, IfOk, IfErr, length};
-ghost use Rattle.hwdb_lint.specs.Checks.{source_of};
-ghost use Rattle.hwdb_spec.specs.Runs.{OnOut};
+ghost use Rattle.hwdb_check.specs.Checks.{source_of};
+ghost use Rattle.hwdb_spec_commands.specs.Runs.{OnOut};
 ghost use Rattle.hwdb_spec.specs.Folders.{path_of};
 ghost use Rattle.hwdb_text.specs.Views.{choice_of};
-ghost use Rattle.hwdb_spec.specs.Refusals.{HasReason};
-ghost use Rattle.hwdb_spec.specs.CheckedFiles.{AreCheckedFiles, AreChosenFiles, AreGivenFiles, AreNamedFiles, IsChecked};
+ghost use Rattle.hwdb_spec_commands.specs.Refusals.{HasReason};
+ghost use Rattle.hwdb_spec_commands.specs.CheckedFiles.{AreCheckedFiles, AreChosenFiles, AreGivenFiles, AreNamedFiles, IsChecked};
 ghost use Rattle.hwdb_tool.specs.Internal.{AreTextsGiven};
-ghost use Rattle.hwdb_spec.specs.CheckedReasons.{HasCheckedReason, HasNamedReason};
-ghost use Rattle.hwdb_spec.specs.GivenFolders.{IsNamedUnread};
-ghost use Rattle.hwdb_spec.specs.Reasons.{HasFilesReason, IsFileReason};
-ghost use Rattle.hwdb_spec.specs.Given.{any_dash};
+ghost use Rattle.hwdb_spec_program.specs.CheckedReasons.{HasCheckedReason, HasNamedReason};
+ghost use Rattle.hwdb_spec_commands.specs.GivenFolders.{IsNamedUnread};
+ghost use Rattle.hwdb_spec_commands.specs.Reasons.{HasFilesReason, IsFileReason};
+ghost use Rattle.hwdb_spec_commands.specs.Given.{any_dash};
 ghost use Rattle.hwdb_spec.specs.Texts.{max_file};
-ghost use Rattle.hwdb_spec.specs.Undone.{AreNotChecked, AreUncheckable, IsCheckRefused, IsGivenUnread};
-ghost use Rattle.hwdb_spec.specs.Reading.{AreUnread};
+ghost use Rattle.hwdb_spec_commands.specs.Undone.{AreNotChecked, AreUncheckable, IsCheckRefused, IsGivenUnread};
+ghost use Rattle.hwdb_spec_commands.specs.Reading.{AreUnread};
 ghost use Rattle.hwdb_tool.specs.Views.{texts_in};
 
 use crate::answer::Answer;
 use crate::given::{bytes_given, input_text};
 use crate::given_folders::named_files;
-use hwdb_fs::{Refusal, System, selected};
+use hwdb_answers::ToolError;
+use hwdb_check::{Telling, TextFile, check_files};
 use hwdb_io::Source;
-use hwdb_lint::{Telling, TextFile, check_files};
-use hwdb_print::ToolError;
+use hwdb_system::{Refusal, System, selected};
 use hwdb_text::Chosen;
 use std::alloc::{AllocError, Global};
 

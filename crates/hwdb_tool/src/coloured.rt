@@ -3,7 +3,7 @@
 ghost use Rattle.std.specs.Prelude.{◌≡◌, ◌<◌, ◌≤◌, ℕ, IfOk, List, OnErr, OnOk, false, length, true};
 ghost use Rattle.std.specs.Io.KnownBytes.{WriteAppends};
 ghost use Rattle.hex.specs.Hex.{IsBytes};
-ghost use Rattle.hwdb_spec.specs.Colours.{without_sequences};
+ghost use Rattle.hwdb_spec_commands.specs.Colours.{without_sequences};
 ghost use Rattle.hwdb_spec.specs.Failures.{CountsFailures};
 ghost use Rattle.hwdb_spec.specs.Outputs.{CutShortOne, TookOne};
 ghost use Rattle.hwdb_spec.specs.Visible.{are_kept, visible};
@@ -15,7 +15,7 @@ use hwdb_io::{Cause, DeviceFailed, Sink, write_text};
 use hwdb_show::{
     colours_are_taken_out, painted, push_visible, shown_has_no_control, write_visible,
 };
-use hwdb_spec::TextKind;
+use hwdb_spec_commands::TextKind;
 use std::alloc::Global;
 
 /// A sink that hands on what it takes to another one. For a terminal each text that one call takes is made visible. Then it's

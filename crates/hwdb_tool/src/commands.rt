@@ -1,7 +1,7 @@
 //! Commands that are told: the one that makes a database anew, and the one that removes it.
 ghost use Rattle.std.specs.Prelude.{◌≡◌, ◌++◌, IfOk, OnOk, string_bytes};
-ghost use Rattle.hwdb_spec.specs.Commands;
-ghost use Rattle.hwdb_spec.specs.Commands.{no_option, root_words};
+ghost use Rattle.hwdb_spec_commands.specs.Commands;
+ghost use Rattle.hwdb_spec_commands.specs.Commands.{no_option, root_words};
 
 use crate::hiding::database_path;
 use hwdb_show::push_word;

@@ -1,8 +1,8 @@
 //! What a crash, a start and a query after it make of a run.
 ghost use Rattle.hwdb_tool.specs.Crash.{CrashOfRunThenQuery, CrashThenQuery, FaultsLeaveAll, KillLeavesWhatStood, KillThenQuery, CrashThenQueryOfAll};
 
-use hwdb_fs::System;
 use hwdb_query::{compiled_answers_are_last, last_assignments_are_last};
+use hwdb_system::System;
 
 /// After a crash at any moment of a run, and a start, the database's place has what it might have had, or the new one.
 /// A query of that prints for each key the value of the last assignment of the folders' files. Files that the run left out

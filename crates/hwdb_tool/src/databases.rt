@@ -4,17 +4,17 @@ ghost use Rattle.hwdb_spec.specs.Store as spec;
 ghost use Rattle.hwdb_spec.specs.System as Folder;
 ghost use Rattle.hwdb_spec.specs.System.{asked_database, bytes_at};
 ghost use Rattle.hwdb_spec.specs.Texts.{max_file};
-ghost use Rattle.hwdb_spec.specs.Refusals.{HasReason, IsUnreadAt, IsUnreadable};
-ghost use Rattle.hwdb_spec.specs.Asked.{IsNamedPath, named_database, IsAskedPath};
-ghost use Rattle.hwdb_spec.specs.NamedDatabases.{IsUnnamed};
-ghost use Rattle.hwdb_spec.specs.Undone.{IsUnfound, IsUnreadableIf};
-ghost use Rattle.hwdb_spec.specs.Told.{IsReadTo};
+ghost use Rattle.hwdb_spec_commands.specs.Refusals.{HasReason, IsUnreadAt, IsUnreadable};
+ghost use Rattle.hwdb_spec_commands.specs.Asked.{IsNamedPath, named_database, IsAskedPath};
+ghost use Rattle.hwdb_spec_program.specs.NamedDatabases.{IsUnnamed};
+ghost use Rattle.hwdb_spec_commands.specs.Undone.{IsUnfound, IsUnreadableIf};
+ghost use Rattle.hwdb_spec_commands.specs.Told.{IsReadTo};
 ghost use Rattle.hwdb_plan.specs.Asking.{asked, if_read, named};
 ghost use Rattle.hwdb_plan.specs.Plans.{Reaches};
 ghost use Rattle.hwdb_plan.specs.Plans.Plan.{Input};
 
-use hwdb_fs::{Refusal, System, joined, path_in};
 use hwdb_replace::DATABASE;
+use hwdb_system::{Refusal, System, joined, path_in};
 use std::alloc::{AllocError, Global};
 
 pub(crate) const ETC_FOLDER: &str = "/etc/udev";

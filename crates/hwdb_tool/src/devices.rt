@@ -1,32 +1,32 @@
 //! `device`: what udev asks for a device, and what that gets; or a line for each device. Nothing is written.
 ghost use Rattle.std.specs.Prelude.{◌≡◌, ◌++◌, [], Some, option_map, IfErr, IfOk, OnOk};
 ghost use Rattle.std.specs.Option.{option_map_or};
-ghost use Rattle.hwdb_spec.specs.Asked.{IsAnswered};
-ghost use Rattle.hwdb_spec.specs.Databases.{IsTextOf};
-ghost use Rattle.hwdb_spec.specs.DeviceAsked as spec;
-ghost use Rattle.hwdb_spec.specs.DeviceAsked.{IsDevicePrinted, IsOfDevice, device_list, device_meant, link_row, unread_row};
-ghost use Rattle.hwdb_spec.specs.DeviceTexts as texts;
-ghost use Rattle.hwdb_spec.specs.DeviceTree as tree;
-ghost use Rattle.hwdb_spec.specs.Runs.{OnOut};
-ghost use Rattle.hwdb_spec.specs.SysfsAnswers.{sight_by};
+ghost use Rattle.hwdb_spec_commands.specs.Asked.{IsAnswered};
+ghost use Rattle.hwdb_spec_commands.specs.Databases.{IsTextOf};
+ghost use Rattle.hwdb_spec_commands.specs.DeviceAsked as spec;
+ghost use Rattle.hwdb_spec_commands.specs.DeviceAsked.{IsDevicePrinted, IsOfDevice, device_list, device_meant, link_row, unread_row};
+ghost use Rattle.hwdb_spec_commands.specs.DeviceTexts as texts;
+ghost use Rattle.hwdb_spec_commands.specs.DeviceTree as tree;
+ghost use Rattle.hwdb_spec_commands.specs.Runs.{OnOut};
+ghost use Rattle.hwdb_spec_commands.specs.SysfsAnswers.{sight_by};
 ghost use Rattle.hwdb_sysfs.specs.Views.{device_of};
-ghost use Rattle.hwdb_spec.specs.DatabaseErrors.{IsDatabaseRefusal};
-ghost use Rattle.hwdb_spec.specs.Refusals.{HasReason};
-ghost use Rattle.hwdb_spec.specs.DeviceErrors.{IsDeviceRefused, IsNoSysfs, IsUnmeant, IsWorded, asked_names};
-ghost use Rattle.hwdb_spec.specs.Undone.{IsUnanswered};
+ghost use Rattle.hwdb_spec_commands.specs.DatabaseErrors.{IsDatabaseRefusal};
+ghost use Rattle.hwdb_spec_commands.specs.Refusals.{HasReason};
+ghost use Rattle.hwdb_spec_program.specs.DeviceErrors.{IsDeviceRefused, IsNoSysfs, IsUnmeant, IsWorded, asked_names};
+ghost use Rattle.hwdb_spec_commands.specs.Undone.{IsUnanswered};
 ghost use Rattle.hwdb_tool.specs.Views.{texts_in};
 
 use crate::answer::Answer;
 use crate::databases::asked;
 use crate::missing::{place_meant, sysfs_of};
+use hwdb_answers::ToolError;
 use hwdb_device::{DeviceForm, device_row, device_text};
-use hwdb_fs::{Machine, Refusal, System};
-use hwdb_print::ToolError;
 use hwdb_reader::check;
 use hwdb_rules::ATTRIBUTES;
 use hwdb_sysfs::{
     Device, DeviceFiles, device_of_path, kernel_name, list_links, read_device, unread_of_path,
 };
+use hwdb_system::{Machine, Refusal, System};
 use std::alloc::{AllocError, Global};
 
 /// Which form is printed: of several options `--pattern` counts first, and then `--json`.

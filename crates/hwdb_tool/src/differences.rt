@@ -1,16 +1,16 @@
 //! `diff`: two sides that are read and compared, in all that they assign, or in what the devices of files get.
 ghost use Rattle.std.specs.Prelude.{◌≡◌, ◌≤◌, ◌++◌, ◌∷◌, None, Some, false, flat_map, if◌then◌else◌, map, string_bytes, IfOk, IfErr, OnOk};
-ghost use Rattle.hwdb_lint.specs.Checks.{source_of};
-ghost use Rattle.hwdb_spec.specs.Comparisons.{comparison_form, devices_named, has_changed};
-ghost use Rattle.hwdb_spec.specs.Databases.{IsDiffText, IsDifferent};
-ghost use Rattle.hwdb_spec.specs.DiffErrors.{IsDiffRefusal};
+ghost use Rattle.hwdb_check.specs.Checks.{source_of};
+ghost use Rattle.hwdb_spec_commands.specs.Comparisons.{comparison_form, devices_named, has_changed};
+ghost use Rattle.hwdb_spec_commands.specs.Databases.{IsDiffText, IsDifferent};
+ghost use Rattle.hwdb_spec_commands.specs.DiffErrors.{IsDiffRefusal};
 ghost use Rattle.hwdb_spec.specs.Folders as folders;
-ghost use Rattle.hwdb_spec.specs.Given.{any_dash, is_dash};
-ghost use Rattle.hwdb_spec.specs.GivenDatabases.{names_twice, twice_text};
-ghost use Rattle.hwdb_spec.specs.Refusals.{IsInWords};
-ghost use Rattle.hwdb_spec.specs.Undone.{told_path};
-ghost use Rattle.hwdb_spec.specs.Runs.{OnOut};
-ghost use Rattle.hwdb_spec.specs.ComparedDatabases.{HasDiffReason, IsCompared, IsDiffed, IsDiffRefused, IsOfDiff};
+ghost use Rattle.hwdb_spec_commands.specs.Given.{any_dash, is_dash};
+ghost use Rattle.hwdb_spec_program.specs.GivenDatabases.{names_twice, twice_text};
+ghost use Rattle.hwdb_spec_commands.specs.Refusals.{IsInWords};
+ghost use Rattle.hwdb_spec_commands.specs.Undone.{told_path};
+ghost use Rattle.hwdb_spec_commands.specs.Runs.{OnOut};
+ghost use Rattle.hwdb_spec_program.specs.ComparedDatabases.{HasDiffReason, IsCompared, IsDiffed, IsDiffRefused, IsOfDiff};
 ghost use Rattle.hwdb_spec.specs.Texts.{devices_of};
 ghost use Rattle.hwdb_tool.specs.SideSteps.{IsOneDash, IsPairError};
 ghost use Rattle.hwdb_tool.specs.Views.{texts_in};
@@ -19,11 +19,11 @@ use crate::answer::Answer;
 use crate::checks::{read_given, with_paths};
 use crate::given::{INPUT, any_dash, input_text, is_dash};
 use crate::sides::side;
-use hwdb_fs::{Refusal, TextsBelow};
-use hwdb_inspect::{Changes, DiffError, diff_devices, stat, stat_devices};
+use hwdb_answers::ToolError;
+use hwdb_check::TextFile;
+use hwdb_databases::{Changes, DiffError, diff_devices, stat, stat_devices};
 use hwdb_io::Source;
-use hwdb_lint::TextFile;
-use hwdb_print::ToolError;
+use hwdb_system::{Refusal, TextsBelow};
 use hwdb_text::Lines;
 use std::alloc::{AllocError, Global};
 
@@ -135,7 +135,7 @@ fn assigned_changes(
     if counts {
         stat(alloc, json, old, new)
     } else {
-        hwdb_inspect::diff(alloc, json, old, new)
+        hwdb_databases::diff(alloc, json, old, new)
     }
 }
 

@@ -2,15 +2,15 @@
 ghost use Rattle.std.specs.Prelude.{◌≡◌, ◌<◌, ◌≤◌, ◌⊎◌, false, map, option_map, string_bytes, IfOk, IfErr, OnOk};
 ghost use Rattle.hwdb_spec.specs.Flushing.{HandsOn, HasHandedOn};
 ghost use Rattle.hwdb_spec.specs.Store as spec;
-ghost use Rattle.hwdb_spec.specs.SysfsAnswers.{sight_by};
-ghost use Rattle.hwdb_spec.specs.Runs.{files_by, told_by, world_by};
-ghost use Rattle.hwdb_spec.specs.WordFaults.{AreWrong};
-ghost use Rattle.hwdb_spec.specs.Words.{AskFor};
-ghost use Rattle.hwdb_spec.specs.declared.job.Job.{Job};
-ghost use Rattle.hwdb_spec.specs.Program.{IsDone, IsTaskDone, IsUpdate, OldOrAskedFor, OldOrDone, looks_below_root, reads_input, root_of};
-ghost use Rattle.hwdb_spec.specs.TaskRefusals.{HasFailedWith, HasSucceeded, IsJobNotDone, IsNotDone, IsRootUnread, IsSaid, refused_status};
-ghost use Rattle.hwdb_spec.specs.Refusals.{HasReason};
-ghost use Rattle.hwdb_spec.specs.declared.refusals.Refusal.TheVariants.{Plain};
+ghost use Rattle.hwdb_spec_commands.specs.SysfsAnswers.{sight_by};
+ghost use Rattle.hwdb_spec_commands.specs.Runs.{files_by, told_by, world_by};
+ghost use Rattle.hwdb_spec_commands.specs.WordFaults.{AreWrong};
+ghost use Rattle.hwdb_spec_program.specs.Words.{AskFor};
+ghost use Rattle.hwdb_spec_commands.specs.declared.job.Job.{Job};
+ghost use Rattle.hwdb_spec_program.specs.Program.{IsDone, IsTaskDone, IsUpdate, OldOrAskedFor, OldOrDone, looks_below_root, reads_input, root_of};
+ghost use Rattle.hwdb_spec_program.specs.TaskRefusals.{HasFailedWith, HasSucceeded, IsJobNotDone, IsNotDone, IsRootUnread, IsSaid, refused_status};
+ghost use Rattle.hwdb_spec_commands.specs.Refusals.{HasReason};
+ghost use Rattle.hwdb_spec_commands.specs.declared.refusals.Refusal.TheVariants.{Plain};
 
 use crate::answers::{ask_file, explain, list};
 use crate::checks::check;
@@ -26,10 +26,10 @@ use crate::queries::query;
 use crate::statuses::status;
 use crate::trials::test;
 use crate::verification::verify;
+use hwdb_answers::ToolError;
 use hwdb_cli::{Job, Task, WordsFault, read_words};
-use hwdb_fs::{Machine, Refusal, Rooted, refuse_for, refuse_memory};
 use hwdb_io::{Sink, Source, write_text};
-use hwdb_print::ToolError;
+use hwdb_system::{Machine, Refusal, Rooted, refuse_for, refuse_memory};
 use std::alloc::Global;
 
 /// Does what the words say, and returns the status. The first word is the program's name.

@@ -1,34 +1,34 @@
 //! `dump`: a database that is read and printed as a text file.
 ghost use Rattle.std.specs.Prelude.{◌≡◌, ℕ, [], false, true, List, Some, is_some, option_map, IfOk, IfErr};
-ghost use Rattle.hwdb_spec.specs.Databases.{IsSayable, IsTextOf};
-ghost use Rattle.hwdb_spec.specs.Dump.{dump_text};
-ghost use Rattle.hwdb_spec.specs.DumpErrors.{IsDumpRefusal};
-ghost use Rattle.hwdb_spec.specs.Refusals.{HasReason, IsInWords};
-ghost use Rattle.hwdb_spec.specs.GivenDatabases.{HasDatabaseReason, OfGiven, OfNamed, names_input};
-ghost use Rattle.hwdb_spec.specs.NamedDatabases.{IsDumpRefused, IsOfDump};
+ghost use Rattle.hwdb_spec_commands.specs.Databases.{IsSayable, IsTextOf};
+ghost use Rattle.hwdb_spec_commands.specs.Dump.{dump_text};
+ghost use Rattle.hwdb_spec_commands.specs.DumpErrors.{IsDumpRefusal};
+ghost use Rattle.hwdb_spec_commands.specs.Refusals.{HasReason, IsInWords};
+ghost use Rattle.hwdb_spec_program.specs.GivenDatabases.{HasDatabaseReason, OfGiven, OfNamed, names_input};
+ghost use Rattle.hwdb_spec_program.specs.NamedDatabases.{IsDumpRefused, IsOfDump};
 ghost use Rattle.hwdb_tool.specs.Internal.{IsInputReason};
 ghost use Rattle.hwdb_tool.specs.Views.{end_of, texts_in};
 ghost use Rattle.hwdb_spec.specs.Store.{Contents};
-ghost use Rattle.hwdb_spec.specs.Told.{IsStop, Reads};
-ghost use Rattle.hwdb_spec.specs.Told.Stop.{Says};
+ghost use Rattle.hwdb_spec_commands.specs.Told.{IsStop, Reads};
+ghost use Rattle.hwdb_spec_commands.specs.Told.Stop.{Says};
 ghost use Rattle.hwdb_plan.specs.Dump.{dump_plan, dump_stop, text_form};
 ghost use Rattle.hwdb_plan.specs.Input.{OverInput, OverNamed};
 ghost use Rattle.hwdb_plan.specs.Plans.{Follows};
-ghost use Rattle.hwdb_spec.specs.Asked.{IsDumped, unsayable_text};
-ghost use Rattle.hwdb_spec.specs.Runs.{OnOut};
-ghost use Rattle.hwdb_spec.specs.Undone.{IsUnreadableIf};
+ghost use Rattle.hwdb_spec_commands.specs.Asked.{IsDumped, unsayable_text};
+ghost use Rattle.hwdb_spec_commands.specs.Runs.{OnOut};
+ghost use Rattle.hwdb_spec_commands.specs.Undone.{IsUnreadableIf};
 ghost use Rattle.hwdb_spec.specs.declared.errors.DumpError.{DumpError};
 
 use crate::answer::Answer;
 use crate::databases::named;
 use crate::given::{INPUT, names_input, read_input};
-use hwdb_fs::{Refusal, System};
-use hwdb_inspect::DumpError;
+use hwdb_answers::ToolError;
+use hwdb_check::push_shown;
+use hwdb_databases::DumpError;
 use hwdb_io::Source;
-use hwdb_lint::push_shown;
-use hwdb_print::ToolError;
 use hwdb_reader::law_one_tree;
 use hwdb_show::push_name;
+use hwdb_system::{Refusal, System};
 use std::alloc::{AllocError, Global};
 
 /// The database at the path, or if none is given the one that is asked, as a text file. `-` is what `input` has left. Errors are bytes
@@ -119,7 +119,7 @@ fn texted(alloc: Global, path: &[u8], bytes: &[u8]) -> Result<Answer, Refusal>
         × IsOfDump error path.now r × IsDumpRefusal bytes.now error) }
 {
     law_one_tree();
-    match hwdb_inspect::dump(alloc, bytes) {
+    match hwdb_databases::dump(alloc, bytes) {
         Ok(text) => Ok(Answer::new(alloc, text, 0)),
         Err(error) => Err(refusal_of(alloc, error, path)),
     }

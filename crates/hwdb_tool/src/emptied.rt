@@ -1,25 +1,25 @@
 //! What `update` says if there are no text files: which database that may assign something is replaced by an empty one, or hidden by it.
 ghost use Rattle.std.specs.Prelude.{◌≡◌, ◌≤◌, ◌++◌, List, Some, codes, false, length, option_map, true, IfErr, IfOk, IfSome, OnOk};
-ghost use Rattle.hwdb_spec.specs.Asked;
-ghost use Rattle.hwdb_spec.specs.Commands.{removing_words, update_words};
-ghost use Rattle.hwdb_spec.specs.Emptied;
-ghost use Rattle.hwdb_spec.specs.Emptied.{IsLoss, IsLossOf, IsLossUnseen, IsLost, IsOneUnseen, line_if};
+ghost use Rattle.hwdb_spec_commands.specs.Asked;
+ghost use Rattle.hwdb_spec_commands.specs.Commands.{removing_words, update_words};
+ghost use Rattle.hwdb_spec_commands.specs.Emptied;
+ghost use Rattle.hwdb_spec_commands.specs.Emptied.{IsLoss, IsLossOf, IsLossUnseen, IsLost, IsOneUnseen, line_if};
 ghost use Rattle.hwdb_spec.specs.Folders.{Choice};
-ghost use Rattle.hwdb_spec.specs.Refusals.{HasReason, IsUnreadAt};
-ghost use Rattle.hwdb_spec.specs.Status.{is_bare};
+ghost use Rattle.hwdb_spec_commands.specs.Refusals.{HasReason, IsUnreadAt};
+ghost use Rattle.hwdb_spec_commands.specs.Status.{is_bare};
 ghost use Rattle.hwdb_spec.specs.Store as spec;
 ghost use Rattle.hwdb_spec.specs.System.{bytes_at};
 ghost use Rattle.hwdb_spec.specs.Texts.{max_file};
-ghost use Rattle.hwdb_inspect.specs.Views.{amount_shown};
+ghost use Rattle.hwdb_databases.specs.Views.{amount_shown};
 ghost use Rattle.hwdb_tool.specs.Emptying;
 
 use crate::commands::{removing_words, update_words};
 use crate::databases::{ETC_FOLDER, FoundDatabase, USR_FOLDER, found_in};
 use crate::hiding::database_path;
-use hwdb_fs::{Refusal, System};
-use hwdb_inspect::{Amount, amount_of};
+use hwdb_databases::{Amount, amount_of};
 use hwdb_reader::law_one_tree;
 use hwdb_show::push_name;
+use hwdb_system::{Refusal, System};
 use std::alloc::{AllocError, Global};
 
 const EMPTIED: &str = " becomes empty: there are no text files. Bring them back, and then run: ";

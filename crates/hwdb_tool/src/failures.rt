@@ -1,7 +1,7 @@
 //! What failed calls and faulty words leave undone.
 ghost use Rattle.hwdb_tool.specs.Failures.{CountsTellFailures, FaultyUpdateLeavesAll};
 
-use hwdb_fs::System;
+use hwdb_system::System;
 
 /// A count of failed calls that didn't rise tells that none failed, unless it is at its greatest value.
 pub fn counts_tell_failures()

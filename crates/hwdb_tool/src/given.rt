@@ -1,24 +1,24 @@
 //! The files that words name: `-` is standard input, which is read once.
 ghost use Rattle.std.specs.Prelude.{◌≡◌, ◌≤◌, ◌⊎◌, ℕ, List, Result, Some, true, false, codes, map, option_map, string_bytes, length, IfOk, IfErr, IfSome};
-ghost use Rattle.hwdb_spec.specs.Given.{IsGiven, is_dash, any_dash};
+ghost use Rattle.hwdb_spec_commands.specs.Given.{IsGiven, is_dash, any_dash};
 ghost use Rattle.hwdb_spec.specs.System.{bytes_at};
 ghost use Rattle.hwdb_spec.specs.Errors.{refusal_of_read};
-ghost use Rattle.hwdb_spec.specs.GivenDatabases.{names_input};
-ghost use Rattle.hwdb_spec.specs.Refusals.{HasReason, IsAt, IsUnread, IsUnreadAt, IsUnreadable};
-ghost use Rattle.hwdb_spec.specs.Told.{IsReadTo, IsStop, unread_stop};
-ghost use Rattle.hwdb_spec.specs.declared.unread.Unread.{Unread};
-ghost use Rattle.hwdb_spec.specs.declared.unread.Unread.TheVariants.{Failed};
+ghost use Rattle.hwdb_spec_program.specs.GivenDatabases.{names_input};
+ghost use Rattle.hwdb_spec_commands.specs.Refusals.{HasReason, IsAt, IsUnread, IsUnreadAt, IsUnreadable};
+ghost use Rattle.hwdb_spec_commands.specs.Told.{IsReadTo, IsStop, unread_stop};
+ghost use Rattle.hwdb_spec_commands.specs.declared.unread.Unread.{Unread};
+ghost use Rattle.hwdb_spec_commands.specs.declared.unread.Unread.TheVariants.{Failed};
 ghost use Rattle.hwdb_plan.specs.Input.{IsInputTold};
 ghost use Rattle.hwdb_tool.specs.Internal.{bytes_given, input_stop};
-ghost use Rattle.hwdb_spec.specs.Queries.{IsOfWholeInput, IsWholeInputUnread};
-ghost use Rattle.hwdb_spec.specs.Reasons.{HasGivenReason};
+ghost use Rattle.hwdb_spec_commands.specs.Queries.{IsOfWholeInput, IsWholeInputUnread};
+ghost use Rattle.hwdb_spec_commands.specs.Reasons.{HasGivenReason};
 ghost use Rattle.hwdb_spec.specs.Texts.{max_file};
-ghost use Rattle.hwdb_spec.specs.Undone.{IsGivenUnread, IsUnreadGiven, told_path};
-ghost use Rattle.hwdb_spec.specs.declared.refusals.Refusal.TheVariants.{Plain};
+ghost use Rattle.hwdb_spec_commands.specs.Undone.{IsGivenUnread, IsUnreadGiven, told_path};
+ghost use Rattle.hwdb_spec_commands.specs.declared.refusals.Refusal.TheVariants.{Plain};
 
-use hwdb_fs::{Refusal, System};
+use hwdb_answers::ToolError;
 use hwdb_io::{Cause, MAX_BYTES, ReadError, Source, read_all};
-use hwdb_print::ToolError;
+use hwdb_system::{Refusal, System};
 use std::alloc::Global;
 
 /// How errors call standard input.

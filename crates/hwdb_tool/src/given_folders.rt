@@ -1,18 +1,18 @@
 //! The text files that the paths of `check` mean: a path of a folder means the text files in it.
 ghost use Rattle.std.specs.Prelude.{[], ◌∷◌, ◌++◌, false, ◌≡◌, ◌≤◌, ◌⊎◌, ◌<◌, length, map, string_bytes, IfErr, IfOk};
-ghost use Rattle.hwdb_spec.specs.CheckedFiles;
-ghost use Rattle.hwdb_spec.specs.CheckedFiles.{StandFor, StandsFor, is_file};
+ghost use Rattle.hwdb_spec_commands.specs.CheckedFiles;
+ghost use Rattle.hwdb_spec_commands.specs.CheckedFiles.{StandFor, StandsFor, is_file};
 ghost use Rattle.hwdb_spec.specs.Folders.{choice, max_files, names};
-ghost use Rattle.hwdb_spec.specs.Given.{any_dash, is_dash};
+ghost use Rattle.hwdb_spec_commands.specs.Given.{any_dash, is_dash};
 ghost use Rattle.hwdb_spec.specs.Store as spec;
 ghost use Rattle.hwdb_text.specs.Views.{choice_of};
-ghost use Rattle.hwdb_spec.specs.Refusals.{HasReason};
-ghost use Rattle.hwdb_spec.specs.declared.refusals.Refusal.TheVariants.{Plain};
-ghost use Rattle.hwdb_spec.specs.GivenFolders.{AreFoldersUnread, IsFolderUnread};
+ghost use Rattle.hwdb_spec_commands.specs.Refusals.{HasReason};
+ghost use Rattle.hwdb_spec_commands.specs.declared.refusals.Refusal.TheVariants.{Plain};
+ghost use Rattle.hwdb_spec_commands.specs.GivenFolders.{AreFoldersUnread, IsFolderUnread};
 
 use crate::given::is_dash;
-use hwdb_fs::{Refusal, System, path_in};
-use hwdb_print::ToolError;
+use hwdb_answers::ToolError;
+use hwdb_system::{Refusal, System, path_in};
 use hwdb_text::{Chosen, SelectError, select};
 use std::alloc::{AllocError, Global};
 

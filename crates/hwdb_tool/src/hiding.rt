@@ -1,24 +1,24 @@
 //! What `update --usr --verbose` says before it updates, if /etc's database, which is asked first, hides the new one.
 ghost use Rattle.std.specs.Prelude.{◌≡◌, ◌≤◌, ◌++◌, IfOk, IfErr, OnOk, string_bytes};
 ghost use Rattle.hwdb_spec.specs.Flushing.{HandsOn};
-ghost use Rattle.hwdb_spec.specs.Runs.{HasTaken, files_by, told_by};
-ghost use Rattle.hwdb_spec.specs.Hiding.{hiding_line, hiding_text};
+ghost use Rattle.hwdb_spec_commands.specs.Runs.{HasTaken, files_by, told_by};
+ghost use Rattle.hwdb_spec_program.specs.Hiding.{hiding_line, hiding_text};
 ghost use Rattle.hwdb_spec.specs.Store as spec;
 ghost use Rattle.hwdb_spec.specs.System as Folder;
-ghost use Rattle.hwdb_spec.specs.HidingTold.{IsTellingUpdateRefused, IsUpdatedTelling};
-ghost use Rattle.hwdb_spec.specs.Done.{OldOrUpdatedLess};
-ghost use Rattle.hwdb_spec.specs.Refusals.{HasReason};
-ghost use Rattle.hwdb_spec.specs.Undone.{IsUntold, IsUnwritable};
-ghost use Rattle.hwdb_spec.specs.Asked.{database_path};
+ghost use Rattle.hwdb_spec_program.specs.HidingTold.{IsTellingUpdateRefused, IsUpdatedTelling};
+ghost use Rattle.hwdb_spec_commands.specs.Done.{OldOrUpdatedLess};
+ghost use Rattle.hwdb_spec_commands.specs.Refusals.{HasReason};
+ghost use Rattle.hwdb_spec_commands.specs.Undone.{IsUntold, IsUnwritable};
+ghost use Rattle.hwdb_spec_commands.specs.Asked.{database_path};
 ghost use Rattle.hwdb_spec.specs.Visible.{shown_name};
 
 use crate::databases::database_folder;
 use crate::printing::say;
 use crate::updates::update;
-use hwdb_fs::{Refusal, System, path_in};
 use hwdb_io::Sink;
 use hwdb_replace::DATABASE;
 use hwdb_show::push_name;
+use hwdb_system::{Refusal, System, path_in};
 use std::alloc::{AllocError, Global};
 
 /// The path of the database of a folder below the root.

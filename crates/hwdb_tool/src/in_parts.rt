@@ -5,10 +5,10 @@
 //! accepted, a call failed, there was no memory, or the file itself was changed meanwhile. Then the whole file is read, which
 //! tells the error if there is one.
 ghost use Rattle.std.specs.Prelude.{◌≡◌, ◌≤◌, ℕ, List, Some, length, map, string_bytes, IfSome};
-ghost use Rattle.hwdb_spec.specs.Asked.{IsAnswered};
-ghost use Rattle.hwdb_spec.specs.Databases.{IsTextOf};
-ghost use Rattle.hwdb_spec.specs.Runs.{OnOut};
-ghost use Rattle.hwdb_spec.specs.Streams.{texts_of};
+ghost use Rattle.hwdb_spec_commands.specs.Asked.{IsAnswered};
+ghost use Rattle.hwdb_spec_commands.specs.Databases.{IsTextOf};
+ghost use Rattle.hwdb_spec_commands.specs.Runs.{OnOut};
+ghost use Rattle.hwdb_spec_commands.specs.Streams.{texts_of};
 ghost use Rattle.hwdb_spec.specs.System.{bytes_at};
 ghost use Rattle.hwdb_spec.specs.Texts.{max_file};
 ghost use Rattle.hwdb_tool.specs.Internal.{IsAskedFile};
@@ -16,10 +16,10 @@ ghost use Rattle.hwdb_tool.specs.Views.{texts_in};
 
 use crate::answer::Answer;
 use crate::hiding::database_path;
-use hwdb_fs::{OpenedFile, System};
+use hwdb_answers::{Form, texts_of_kept};
 use hwdb_io::MAX_BYTES;
 use hwdb_parts::accepted;
-use hwdb_print::{Form, texts_of_kept};
+use hwdb_system::{OpenedFile, System};
 use std::alloc::Global;
 
 /// For more devices than these the whole file is read: the records that many need are most of it.

@@ -2,21 +2,21 @@
 ghost use Rattle.std.specs.Prelude.{◌≡◌, ◌⊎◌, IfErr, IfOk, IfSome, None, OnOk, true};
 ghost use Rattle.hwdb_spec.specs.Flushing.{HandsOn};
 ghost use Rattle.hwdb_spec.specs.Outputs.{TookOne};
-ghost use Rattle.hwdb_spec.specs.Runs.{told_by};
+ghost use Rattle.hwdb_spec_commands.specs.Runs.{told_by};
 ghost use Rattle.hwdb_spec.specs.Texts.{devices_of};
-ghost use Rattle.hwdb_spec.specs.Databases.{IsTextOf};
-ghost use Rattle.hwdb_spec.specs.AnsweredLines.{line_error};
-ghost use Rattle.hwdb_spec.specs.Streams.{texts_of};
-ghost use Rattle.hwdb_spec.specs.Asked.{IsAnswered};
-ghost use Rattle.hwdb_spec.specs.Queries.{IsOfInput, IsStreamRefused};
-ghost use Rattle.hwdb_spec.specs.Reasons.{HasAskedReason};
+ghost use Rattle.hwdb_spec_commands.specs.Databases.{IsTextOf};
+ghost use Rattle.hwdb_spec_commands.specs.AnsweredLines.{line_error};
+ghost use Rattle.hwdb_spec_commands.specs.Streams.{texts_of};
+ghost use Rattle.hwdb_spec_commands.specs.Asked.{IsAnswered};
+ghost use Rattle.hwdb_spec_commands.specs.Queries.{IsOfInput, IsStreamRefused};
+ghost use Rattle.hwdb_spec_commands.specs.Reasons.{HasAskedReason};
 ghost use Rattle.hwdb_tool.specs.Reloading.{IsCalm};
 
 use crate::databases::{FoundDatabase, asked};
 use crate::reloading::{Asked, Watch};
-use hwdb_fs::{Refusal, System};
+use hwdb_answers::{Form, ToolError, run_renewed};
 use hwdb_io::{Cause, Sink, Source};
-use hwdb_print::{Form, ToolError, run_renewed};
+use hwdb_system::{Refusal, System};
 use std::alloc::{AllocError, Global};
 
 /// Prints what the database below the root gives each device that `input` names, one a line. With `reload` a database that is

@@ -31,7 +31,7 @@
 //! | `crash` | what a crash, a start and a query make of a run |
 //! | `failures` | what failed calls and faulty words leave undone |
 //!
-//! What the tasks ask of a file system is in `hwdb_fs`, what they print in `hwdb_print`, and their devices are in `hwdb_io`. The
+//! What the tasks ask of a file system is in `hwdb_system`, what they print in `hwdb_answers`, and their devices are in `hwdb_io`. The
 //! calls of these are here too.
 #![tactic(auto)]
 
@@ -85,14 +85,14 @@ pub use dispatch::program;
 pub use dumps::dump;
 pub use failures::{counts_tell_failures, faulty_update_leaves_all};
 pub use hiding::update_telling;
+pub use hwdb_answers::{ToolError, ask, run_list, run_query, run_update};
+pub use hwdb_check::KINDS;
 pub use hwdb_cli::{Job, Task, WordsFault, kind_fault, read_words};
-pub use hwdb_fs::{Refusal, System, SystemStore};
 pub use hwdb_io::{
     Cause, DeviceFailed, FromRead, Sink, Source, ToWrite, read_all, testing, write_text,
 };
-pub use hwdb_lint::KINDS;
-pub use hwdb_print::{ToolError, ask, run_list, run_query, run_update};
-pub use hwdb_spec::TextKind;
+pub use hwdb_spec_commands::TextKind;
+pub use hwdb_system::{Refusal, System, SystemStore};
 pub use laws::update_then_query;
 pub use near_misses::near;
 pub use one_outcome::{answers_are_one, jobs_are_one, listings_give_one_reading, tasks_are_one};

@@ -1,17 +1,17 @@
 //! Sysfs and a device in it, and what is said if there is none.
 ghost use Rattle.std.specs.Prelude.{◌≡◌, ◌++◌, List, Some, ℕ, IfErr, IfOk, OnOk};
-ghost use Rattle.hwdb_spec.specs.DeviceAsked as spec;
-ghost use Rattle.hwdb_spec.specs.DeviceTree as tree;
+ghost use Rattle.hwdb_spec_commands.specs.DeviceAsked as spec;
+ghost use Rattle.hwdb_spec_commands.specs.DeviceTree as tree;
 ghost use Rattle.hwdb_spec.specs.Failures.{IsOneLine};
-ghost use Rattle.hwdb_spec.specs.SysfsAnswers.{Answers, seen, sight_by};
+ghost use Rattle.hwdb_spec_commands.specs.SysfsAnswers.{Answers, seen, sight_by};
 ghost use Rattle.hwdb_sysfs.specs.Finding as finding;
-ghost use Rattle.hwdb_spec.specs.Refusals.{IsInWords};
-ghost use Rattle.hwdb_spec.specs.DeviceErrors.{IsNoDevice, IsNoSysfs, IsWorded};
+ghost use Rattle.hwdb_spec_commands.specs.Refusals.{IsInWords};
+ghost use Rattle.hwdb_spec_program.specs.DeviceErrors.{IsNoDevice, IsNoSysfs, IsWorded};
 
-use hwdb_fs::Refusal;
 use hwdb_io::Cause;
 use hwdb_show::push_name;
 use hwdb_sysfs::{DeviceFiles, Unfound, find_device, last_name, near_name, sysfs_below};
+use hwdb_system::Refusal;
 use std::alloc::{AllocError, Global};
 
 /// Where sysfs is below the root.

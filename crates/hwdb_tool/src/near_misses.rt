@@ -1,28 +1,28 @@
 //! `near`: the patterns that almost matched a device, of text files or of the database below the root. Nothing is written.
 ghost use Rattle.std.specs.Prelude.{◌≡◌, ◌==◌, true, false, not, length, map, string_bytes, IfErr, IfOk, List};
-ghost use Rattle.hwdb_spec.specs.Refusals.{HasReason};
-ghost use Rattle.hwdb_lint.specs.Checks;
+ghost use Rattle.hwdb_spec_commands.specs.Refusals.{HasReason};
+ghost use Rattle.hwdb_check.specs.Checks;
 ghost use Rattle.hwdb_near.specs.Views;
-ghost use Rattle.hwdb_spec.specs.Asked.{IsAnswered};
-ghost use Rattle.hwdb_spec.specs.CheckedFiles.{AreGivenFiles};
-ghost use Rattle.hwdb_spec.specs.Databases.{IsTextOf};
+ghost use Rattle.hwdb_spec_commands.specs.Asked.{IsAnswered};
+ghost use Rattle.hwdb_spec_commands.specs.CheckedFiles.{AreGivenFiles};
+ghost use Rattle.hwdb_spec_commands.specs.Databases.{IsTextOf};
 ghost use Rattle.hwdb_spec.specs.Folders.{Source};
-ghost use Rattle.hwdb_spec.specs.Given.{any_dash};
-ghost use Rattle.hwdb_spec.specs.NearAsked.{IsNear, database_patterns, near_form, near_limit, patterns_from};
-ghost use Rattle.hwdb_spec.specs.Runs.{OnOut};
-ghost use Rattle.hwdb_spec.specs.NearErrors.{IsNearRefused, error_of};
-ghost use Rattle.hwdb_spec.specs.Reasons.{HasFilesReason};
-ghost use Rattle.hwdb_spec.specs.Undone.{IsGivenUnread, IsUnanswered};
+ghost use Rattle.hwdb_spec_commands.specs.Given.{any_dash};
+ghost use Rattle.hwdb_spec_commands.specs.NearAsked.{IsNear, database_patterns, near_form, near_limit, patterns_from};
+ghost use Rattle.hwdb_spec_commands.specs.Runs.{OnOut};
+ghost use Rattle.hwdb_spec_program.specs.NearErrors.{IsNearRefused, error_of};
+ghost use Rattle.hwdb_spec_commands.specs.Reasons.{HasFilesReason};
+ghost use Rattle.hwdb_spec_commands.specs.Undone.{IsGivenUnread, IsUnanswered};
 ghost use Rattle.hwdb_tool.specs.Views.{texts_in};
 
 use crate::answer::Answer;
 use crate::checks::{read_given, with_paths};
 use crate::databases::asked;
 use crate::given::input_text;
-use hwdb_fs::{Refusal, System};
+use hwdb_answers::ToolError;
 use hwdb_io::Source;
 use hwdb_near::{NearError, PatternFile, near_in_database, near_in_files};
-use hwdb_print::ToolError;
+use hwdb_system::{Refusal, System};
 use std::alloc::{AllocError, Global};
 
 /// How many of the nearest patterns are told, unless a number is given.
@@ -139,7 +139,7 @@ fn near_given<D: System, I: Source>(
 /// The text files, as they are compared.
 fn compared<'a>(
     alloc: Global,
-    files: &[hwdb_lint::TextFile<'a>],
+    files: &[hwdb_check::TextFile<'a>],
 ) -> Result<Vec<PatternFile<'a>>, AllocError>
     ensures { IfOk result (λ list. map Views.source_of list.items
         ≡ map Checks.source_of files.now) }

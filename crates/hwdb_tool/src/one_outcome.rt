@@ -1,9 +1,9 @@
 //! Laws over the definitions alone. Each function does nothing: its contract is the law.
 ghost use Rattle.hwdb_tool.specs.OneOutcome.{AnswersAreOne, DoneIsNotTold, JobsAreOne, ListingsGiveOneChoice, ListingsGiveOneReading, TasksAreOne};
 
-use hwdb_fs::System;
 use hwdb_query::positions_are_read_back;
 use hwdb_reader::law_one_tree;
+use hwdb_system::System;
 use hwdb_text::laws::{names_are_those_that_count, names_ascend, one_ascending_list};
 use hwdb_writer::law_one_written_form;
 

@@ -3,8 +3,8 @@
 ghost use Rattle.hwdb_tool.specs.OneRefusal.{DoneIsNoError, DoneJobIsNoError, ErrorsAreOne, InputIsLong, InputIsRead, JobEndsInOneError, JobIsNotTold, LineIsLong, RootIsEntered};
 
 use crate::one_outcome::listings_give_one_reading;
-use hwdb_fs::System;
 use hwdb_reader::{law_header_faults, law_one_tree};
+use hwdb_system::System;
 use hwdb_text::laws::{names_are_those_that_count, names_ascend, one_ascending_list};
 use hwdb_writer::law_one_written_form;
 

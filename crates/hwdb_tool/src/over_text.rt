@@ -2,13 +2,13 @@
 ghost use Rattle.std.specs.Prelude.{◌≡◌, ◌≤◌, List, false, map, option_map, string_bytes, true, IfErr, IfOk, OnOk};
 ghost use Rattle.hwdb_spec.specs.Flushing.{HandsOn};
 ghost use Rattle.hwdb_spec.specs.Folders.{Source};
-ghost use Rattle.hwdb_spec.specs.OverText.{AreTextsRefused, misuse_text, takes_text, text_besides};
-ghost use Rattle.hwdb_spec.specs.Program.{IsDoneOverText, asks_text, reads_input, root_of};
-ghost use Rattle.hwdb_spec.specs.Refusals.{HasReason, IsInWords};
-ghost use Rattle.hwdb_spec.specs.Runs.{files_by, told_by, world_by};
-ghost use Rattle.hwdb_spec.specs.Status.{IsMade};
-ghost use Rattle.hwdb_spec.specs.SysfsAnswers.{sight_by};
-ghost use Rattle.hwdb_spec.specs.TaskRefusals.{IsNotDoneFrom};
+ghost use Rattle.hwdb_spec_commands.specs.OverText.{AreTextsRefused, misuse_text, takes_text, text_besides};
+ghost use Rattle.hwdb_spec_program.specs.Program.{IsDoneOverText, asks_text, reads_input, root_of};
+ghost use Rattle.hwdb_spec_commands.specs.Refusals.{HasReason, IsInWords};
+ghost use Rattle.hwdb_spec_commands.specs.Runs.{files_by, told_by, world_by};
+ghost use Rattle.hwdb_spec_commands.specs.Status.{IsMade};
+ghost use Rattle.hwdb_spec_commands.specs.SysfsAnswers.{sight_by};
+ghost use Rattle.hwdb_spec_program.specs.TaskRefusals.{IsNotDoneFrom};
 ghost use Rattle.hwdb_tool.specs.Internal.{IsDoneOver, IsNotDoneOver};
 
 use crate::besides::text_besides;
@@ -16,8 +16,8 @@ use crate::dispatch::{root_of, run};
 use crate::printing::say;
 use crate::statuses::compiled;
 use hwdb_cli::{Job, Task};
-use hwdb_fs::{Machine, Overlay, Refusal, System, selected, with_texts};
 use hwdb_io::{Sink, Source};
+use hwdb_system::{Machine, Overlay, Refusal, System, selected, with_texts};
 use std::alloc::Global;
 
 /// Whether the task's command takes `--text`: whether it asks a database.

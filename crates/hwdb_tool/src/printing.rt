@@ -1,14 +1,14 @@
 //! What a command prints, and the one place where it is printed.
 ghost use Rattle.std.specs.Prelude.{[], ◌≡◌, ◌≢◌, ◌≤◌, IfErr, IfOk, OnOk};
 ghost use Rattle.hwdb_spec.specs.Flushing.{HandsOn};
-ghost use Rattle.hwdb_spec.specs.Runs.{HasTaken, Printed, PrintedPart, WasCut, told_by};
+ghost use Rattle.hwdb_spec_commands.specs.Runs.{HasTaken, Printed, PrintedPart, WasCut, told_by};
 ghost use Rattle.hwdb_tool.specs.Views.{IsNotPrinted, IsPrintedWith, texts_in};
-ghost use Rattle.hwdb_spec.specs.declared.refusals.Refusal.TheVariants.{Plain};
+ghost use Rattle.hwdb_spec_commands.specs.declared.refusals.Refusal.TheVariants.{Plain};
 
 use crate::answer::Answer;
-use hwdb_fs::Refusal;
+use hwdb_answers::ToolError;
 use hwdb_io::{Sink, write_text};
-use hwdb_print::ToolError;
+use hwdb_system::Refusal;
 
 /// Writes a text, if there is something to say.
 pub fn say<E: Sink>(text: &[u8], err: &mut E) -> Result<(), Refusal>

@@ -1,15 +1,15 @@
 //! `query`: what each of several devices gets, those of the words or those that standard input names.
 ghost use Rattle.std.specs.Prelude.{◌≡◌, ◌≤◌, ◌⊎◌, true, false, map, string_bytes, IfErr, IfOk, OnOk};
 ghost use Rattle.hwdb_spec.specs.Flushing.{HandsOn};
-ghost use Rattle.hwdb_spec.specs.Asked.{IsAnswered};
-ghost use Rattle.hwdb_spec.specs.Databases.{IsTextOf};
-ghost use Rattle.hwdb_spec.specs.Given.{is_input};
-ghost use Rattle.hwdb_spec.specs.Runs.{OnOut, told_by};
-ghost use Rattle.hwdb_spec.specs.Streams.{texts_of};
-ghost use Rattle.hwdb_spec.specs.Refusals.{HasReason};
-ghost use Rattle.hwdb_spec.specs.Queries.{AreDone, AreUnanswered};
-ghost use Rattle.hwdb_spec.specs.Reasons.{HasAskedReason};
-ghost use Rattle.hwdb_spec.specs.Undone.{IsUnanswered};
+ghost use Rattle.hwdb_spec_commands.specs.Asked.{IsAnswered};
+ghost use Rattle.hwdb_spec_commands.specs.Databases.{IsTextOf};
+ghost use Rattle.hwdb_spec_commands.specs.Given.{is_input};
+ghost use Rattle.hwdb_spec_commands.specs.Runs.{OnOut, told_by};
+ghost use Rattle.hwdb_spec_commands.specs.Streams.{texts_of};
+ghost use Rattle.hwdb_spec_commands.specs.Refusals.{HasReason};
+ghost use Rattle.hwdb_spec_commands.specs.Queries.{AreDone, AreUnanswered};
+ghost use Rattle.hwdb_spec_commands.specs.Reasons.{HasAskedReason};
+ghost use Rattle.hwdb_spec_commands.specs.Undone.{IsUnanswered};
 ghost use Rattle.hwdb_tool.specs.Views.{texts_in};
 
 use crate::answer::Answer;
@@ -17,9 +17,9 @@ use crate::databases::asked;
 use crate::in_parts::answer_in_parts;
 use crate::input_devices::answer_input;
 use crate::printing::printed;
-use hwdb_fs::{Refusal, System};
+use hwdb_answers::{Form, answers};
 use hwdb_io::{Sink, Source};
-use hwdb_print::{Form, answers};
+use hwdb_system::{Refusal, System};
 use std::alloc::Global;
 
 /// Prints the properties that the database below the root gives each device. If the only device is `-`, `input` names the

@@ -2,15 +2,15 @@
 ghost use Rattle.std.specs.Prelude.{◌≡◌, ◌++◌, ℕ, IfOk, IfSome, List, None, Some, codes, false, string_bytes, true};
 ghost use Rattle.hwdb_spec.specs.Store as spec;
 ghost use Rattle.hwdb_spec.specs.System.{asked_database};
-ghost use Rattle.hwdb_spec.specs.Reloads.{kept_line, taken_line};
+ghost use Rattle.hwdb_spec_commands.specs.Reloads.{kept_line, taken_line};
 ghost use Rattle.hwdb_spec.specs.Visible.{shown_name};
 ghost use Rattle.hwdb_tool.specs.Reloading.{AreNone, IsCalm};
 
 use crate::databases::{ETC_FOLDER, USR_FOLDER, asked, database_path};
-use hwdb_fs::{Identity, System};
-use hwdb_print::Renewal;
+use hwdb_answers::Renewal;
 use hwdb_reader::check;
 use hwdb_show::push_name;
+use hwdb_system::{Identity, System};
 use std::alloc::{AllocError, Global};
 
 /// What is in the places of both databases. If something is in that of `/etc`, the other one isn't looked at: it isn't asked.

@@ -2,41 +2,41 @@
 ghost use Rattle.std.specs.Prelude.{◌≡◌, ◌≤◌, ◌++◌, ℕ, List, All, None, Some, codes, false, if◌then◌else◌, length, map, option_map, string_bytes, true, IfErr, IfOk, IfSome, OnOk};
 ghost use Rattle.hwdb_compile.specs.Views.{ForFolders};
 ghost use Rattle.hwdb_text.specs.Views.{choice_in};
-ghost use Rattle.hwdb_fs.specs.Internal.{IsNameSet};
+ghost use Rattle.hwdb_system.specs.Internal.{IsNameSet};
 ghost use Rattle.hwdb_spec.specs.Format.{IsDatabase};
-ghost use Rattle.hwdb_spec.specs.Refusals.{HasReason, IsUnreadAt};
-ghost use Rattle.hwdb_spec.specs.Status;
+ghost use Rattle.hwdb_spec_commands.specs.Refusals.{HasReason, IsUnreadAt};
+ghost use Rattle.hwdb_spec_commands.specs.Status;
 ghost use Rattle.hwdb_spec.specs.Assignment.{ascending};
-ghost use Rattle.hwdb_spec.specs.Reading.{AreUnread};
-ghost use Rattle.hwdb_spec.specs.Status.{IsAmount, IsStatus, has_database, hidden_database, is_well, masked_of};
-ghost use Rattle.hwdb_inspect.specs.Views.{amount_shown, report_shown, state_shown};
-ghost use Rattle.hwdb_spec.specs.Asked;
-ghost use Rattle.hwdb_spec.specs.Commands;
-ghost use Rattle.hwdb_spec.specs.Runs.{OnOut};
+ghost use Rattle.hwdb_spec_commands.specs.Reading.{AreUnread};
+ghost use Rattle.hwdb_spec_commands.specs.Status.{IsAmount, IsStatus, has_database, hidden_database, is_well, masked_of};
+ghost use Rattle.hwdb_databases.specs.Views.{amount_shown, report_shown, state_shown};
+ghost use Rattle.hwdb_spec_commands.specs.Asked;
+ghost use Rattle.hwdb_spec_commands.specs.Commands;
+ghost use Rattle.hwdb_spec_commands.specs.Runs.{OnOut};
 ghost use Rattle.hwdb_spec.specs.System as Folder;
 ghost use Rattle.hwdb_spec.specs.System.{bytes_at};
 ghost use Rattle.hwdb_spec.specs.Texts.{max_file};
 ghost use Rattle.hwdb_spec.specs.Tree.{Map, Tree};
 ghost use Rattle.hwdb_spec.specs.Written.{IsDatabaseOf};
 ghost use Rattle.hwdb_text.specs.Views.{IsStorableChoice, choice_of};
-ghost use Rattle.hwdb_spec.specs.StatusErrors.{IsNotCompiled, IsStatusRefused};
+ghost use Rattle.hwdb_spec_commands.specs.StatusErrors.{IsNotCompiled, IsStatusRefused};
 ghost use Rattle.hwdb_tool.specs.Statuses.{AreIgnored, AreMadeOf, IsMadeNow, IsNotMadeNow, IsOneUnread, IsReported, ignored_path};
 ghost use Rattle.hwdb_tool.specs.Views.{texts_in};
 ghost use Rattle.hwdb_spec.specs.declared.errors.ToolError.{ToolError};
-ghost use Rattle.hwdb_spec.specs.declared.refusals.Refusal.TheVariants.{Plain};
+ghost use Rattle.hwdb_spec_commands.specs.declared.refusals.Refusal.TheVariants.{Plain};
 
 use crate::answer::Answer;
 use crate::commands::{removing_words, update_words};
 use crate::databases::{ETC_FOLDER, USR_FOLDER, found_in};
 use crate::hiding::database_path;
 use crate::progress::masks;
+use hwdb_answers::ToolError;
 use hwdb_compile::{Compiled, compile_chosen};
-use hwdb_fs::{Refusal, System, TextFolders, name_set, selected, with_texts};
-use hwdb_inspect::{
+use hwdb_databases::{
     Amount, Report, Standing, State, amount_of, in_order, is_well, report_in, standing_of,
 };
 use hwdb_io::MAX_BYTES;
-use hwdb_print::ToolError;
+use hwdb_system::{Refusal, System, TextFolders, name_set, selected, with_texts};
 use hwdb_text::{Chosen, ChosenFile};
 use std::alloc::{AllocError, Global};
 use std::collections::BTreeSet;

@@ -1,25 +1,25 @@
 //! `test`: test files that are tried over a database. Nothing is written.
 ghost use Rattle.std.specs.Prelude.{◌≡◌, false, is_some, map, option_map, string_bytes, IfErr, IfOk};
-ghost use Rattle.hwdb_spec.specs.Refusals.{HasReason};
-ghost use Rattle.hwdb_lint.specs.Checks.{source_of};
-ghost use Rattle.hwdb_spec.specs.Asked.{IsPrinted};
-ghost use Rattle.hwdb_spec.specs.Given.{any_dash};
-ghost use Rattle.hwdb_spec.specs.Runs.{OnOut};
-ghost use Rattle.hwdb_spec.specs.Tested.{IsTested, IsVerdict};
-ghost use Rattle.hwdb_spec.specs.TestErrors.{AreUntried, HasTestReason, IsTestRefused, IsTrialRefusal};
-ghost use Rattle.hwdb_spec.specs.Undone.{IsUnreadableIf};
+ghost use Rattle.hwdb_spec_commands.specs.Refusals.{HasReason};
+ghost use Rattle.hwdb_check.specs.Checks.{source_of};
+ghost use Rattle.hwdb_spec_commands.specs.Asked.{IsPrinted};
+ghost use Rattle.hwdb_spec_commands.specs.Given.{any_dash};
+ghost use Rattle.hwdb_spec_commands.specs.Runs.{OnOut};
+ghost use Rattle.hwdb_spec_program.specs.Tested.{IsTested, IsVerdict};
+ghost use Rattle.hwdb_spec_program.specs.TestErrors.{AreUntried, HasTestReason, IsTestRefused, IsTrialRefusal};
+ghost use Rattle.hwdb_spec_commands.specs.Undone.{IsUnreadableIf};
 ghost use Rattle.hwdb_tool.specs.Views.{texts_in};
 
 use crate::answer::Answer;
 use crate::checks::{read_given, with_paths};
 use crate::databases::named;
 use crate::given::input_text;
-use hwdb_expect::test_files;
-use hwdb_fs::{Refusal, System};
+use hwdb_answers::ToolError;
+use hwdb_check::TextFile;
 use hwdb_io::Source;
-use hwdb_lint::TextFile;
-use hwdb_print::ToolError;
 use hwdb_reader::check;
+use hwdb_system::{Refusal, System};
+use hwdb_test::test_files;
 use std::alloc::Global;
 
 /// What the given test files say of the database at the path, or without a path of the one that is asked. `-` is what `input` has

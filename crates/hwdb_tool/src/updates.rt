@@ -1,7 +1,7 @@
 //! `update`: the text files of both folders, compiled into the database of one.
 ghost use Rattle.std.specs.Prelude.{◌≡◌, ◌≢◌, ◌≤◌, ◌++◌, ℕ, List, length, map, option_map, string_bytes, All, IfOk, IfErr, IsErrOf};
 ghost use Rattle.hwdb_spec.specs.Flushing.{HandsOn};
-ghost use Rattle.hwdb_spec.specs.Progress.{given_where};
+ghost use Rattle.hwdb_spec_commands.specs.Progress.{given_where};
 ghost use Rattle.hwdb_spec.specs.Store as spec;
 ghost use Rattle.hwdb_spec.specs.System as Folder;
 ghost use Rattle.hwdb_spec.specs.Texts.{max_file};
@@ -9,26 +9,26 @@ ghost use Rattle.hwdb_spec.specs.Folders.{Choice};
 ghost use Rattle.hwdb_text.specs.Views.{IsStorableChoice, choice_of};
 ghost use Rattle.hwdb_compile.specs.Views.{ForFolders};
 ghost use Rattle.hwdb_text.specs.Views.{choice_in};
-ghost use Rattle.hwdb_spec.specs.Runs.{files_by, told_by};
-ghost use Rattle.hwdb_spec.specs.UpdateErrors.{IsUpdateRefusal, OnUnreplaced, UpdateUndone};
-ghost use Rattle.hwdb_spec.specs.Done.{OldOrWritten, Updated, OldOrUpdated, OldOrUpdatedLess};
-ghost use Rattle.hwdb_spec.specs.LeftOutTold.{AreTold};
-ghost use Rattle.hwdb_spec.specs.Refusals.{HasReason};
+ghost use Rattle.hwdb_spec_commands.specs.Runs.{files_by, told_by};
+ghost use Rattle.hwdb_spec_commands.specs.UpdateErrors.{IsUpdateRefusal, OnUnreplaced, UpdateUndone};
+ghost use Rattle.hwdb_spec_commands.specs.Done.{OldOrWritten, Updated, OldOrUpdated, OldOrUpdatedLess};
+ghost use Rattle.hwdb_spec_commands.specs.LeftOutTold.{AreTold};
+ghost use Rattle.hwdb_spec_commands.specs.Refusals.{HasReason};
 ghost use Rattle.hwdb_tool.specs.Emptying.{AfterLoss, IsUpdatedTold};
 ghost use Rattle.hwdb_tool.specs.Internal.{IsOfSelection};
-ghost use Rattle.hwdb_spec.specs.Readable.{IsUpdateRefused, IsUpdatedLess};
-ghost use Rattle.hwdb_spec.specs.LeftOut.{status_less};
-ghost use Rattle.hwdb_spec.specs.Undone.{IsSelectedRefused, IsUnwritable, WasSayingCut};
+ghost use Rattle.hwdb_spec_commands.specs.Readable.{IsUpdateRefused, IsUpdatedLess};
+ghost use Rattle.hwdb_spec_commands.specs.LeftOut.{status_less};
+ghost use Rattle.hwdb_spec_commands.specs.Undone.{IsSelectedRefused, IsUnwritable, WasSayingCut};
 
 use crate::databases::database_folder;
 use crate::emptied::loss_if;
 use crate::printing::say;
 use crate::progress::progress;
+use hwdb_answers::{ToolError, put_in_place};
 use hwdb_compile::compile_chosen;
-use hwdb_fs::{Refusal, Selection, System, path_in, selected_readable, with_texts};
 use hwdb_io::{MAX_BYTES, Sink};
-use hwdb_print::{ToolError, put_in_place};
 use hwdb_replace::{DATABASE, Store, Unreplaced};
+use hwdb_system::{Refusal, Selection, System, path_in, selected_readable, with_texts};
 use hwdb_text::ChosenFile;
 use std::alloc::Global;
 

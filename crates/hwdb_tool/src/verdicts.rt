@@ -1,11 +1,11 @@
 //! What is said of bytes that are no database.
 ghost use Rattle.std.specs.Prelude.{◌≡◌, ◌++◌, codes, IfOk, OnOk};
 ghost use Rattle.hwdb_spec.specs.Texts.{at_offset, db_fault_name, db_fault_offset};
-ghost use Rattle.hwdb_spec.specs.Verdicts.{db_fault_cause, db_fault_words, explanation_text, fault_text, remedy, verdict_text};
+ghost use Rattle.hwdb_spec_commands.specs.Verdicts.{db_fault_cause, db_fault_words, explanation_text, fault_text, remedy, verdict_text};
 
-use hwdb_fs::remedy;
 use hwdb_reader::DbFault;
 use hwdb_show::push_name as show_name;
+use hwdb_system::remedy;
 use itoa::Buffer;
 use std::alloc::{AllocError, Global};
 

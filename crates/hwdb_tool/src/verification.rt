@@ -1,33 +1,33 @@
 //! `verify`: a database that is read whole.
 ghost use Rattle.std.specs.Prelude.{◌≡◌, ℕ, [], false, true, List, Some, is_some, option_map, IfOk, IfErr};
-ghost use Rattle.hwdb_spec.specs.Verdicts.{verdict_text};
-ghost use Rattle.hwdb_spec.specs.VerifyErrors.{IsVerifyRefusal};
-ghost use Rattle.hwdb_spec.specs.Refusals.{HasReason, IsInWords};
-ghost use Rattle.hwdb_spec.specs.GivenDatabases.{HasDatabaseReason, OfGiven, OfNamed, names_input};
-ghost use Rattle.hwdb_spec.specs.NamedDatabases.{IsOfVerify, IsVerifyRefused};
+ghost use Rattle.hwdb_spec_commands.specs.Verdicts.{verdict_text};
+ghost use Rattle.hwdb_spec_commands.specs.VerifyErrors.{IsVerifyRefusal};
+ghost use Rattle.hwdb_spec_commands.specs.Refusals.{HasReason, IsInWords};
+ghost use Rattle.hwdb_spec_program.specs.GivenDatabases.{HasDatabaseReason, OfGiven, OfNamed, names_input};
+ghost use Rattle.hwdb_spec_program.specs.NamedDatabases.{IsOfVerify, IsVerifyRefused};
 ghost use Rattle.hwdb_tool.specs.Internal.{IsInputReason};
 ghost use Rattle.hwdb_tool.specs.Views.{end_of, texts_in};
 ghost use Rattle.hwdb_spec.specs.Store.{Contents};
-ghost use Rattle.hwdb_spec.specs.Told.{IsStop, Reads};
-ghost use Rattle.hwdb_spec.specs.Told.Stop.{Says};
+ghost use Rattle.hwdb_spec_commands.specs.Told.{IsStop, Reads};
+ghost use Rattle.hwdb_spec_commands.specs.Told.Stop.{Says};
 ghost use Rattle.hwdb_plan.specs.Input.{OverInput, OverNamed};
 ghost use Rattle.hwdb_plan.specs.Verify.{summary, verify_plan, verify_stop};
 ghost use Rattle.hwdb_plan.specs.Plans.{Follows};
-ghost use Rattle.hwdb_spec.specs.Asked.{IsPrinted};
-ghost use Rattle.hwdb_spec.specs.Databases.{IsSummary};
-ghost use Rattle.hwdb_spec.specs.Runs.{OnOut};
-ghost use Rattle.hwdb_spec.specs.Undone.{IsUnreadableIf};
+ghost use Rattle.hwdb_spec_commands.specs.Asked.{IsPrinted};
+ghost use Rattle.hwdb_spec_commands.specs.Databases.{IsSummary};
+ghost use Rattle.hwdb_spec_commands.specs.Runs.{OnOut};
+ghost use Rattle.hwdb_spec_commands.specs.Undone.{IsUnreadableIf};
 ghost use Rattle.hwdb_spec.specs.declared.errors.VerifyError.{VerifyError};
 
 use crate::answer::Answer;
 use crate::databases::named;
 use crate::given::{INPUT, names_input, read_input};
 use crate::verdicts::verdict;
-use hwdb_fs::{Refusal, System};
-use hwdb_inspect::VerifyError;
+use hwdb_answers::ToolError;
+use hwdb_databases::VerifyError;
 use hwdb_io::Source;
-use hwdb_print::ToolError;
 use hwdb_reader::DbFault;
+use hwdb_system::{Refusal, System};
 use std::alloc::Global;
 
 /// How much is in the database at the path, or if none is given in the one that is asked. `-` is what `input` has left. Bytes
@@ -116,7 +116,7 @@ fn summed(alloc: Global, path: &[u8], bytes: &[u8]) -> Result<Answer, Refusal>
     ensures refused { IfErr result (λ r. (error : VerifyError)
         × IsOfVerify error path.now r × IsVerifyRefusal bytes.now error) }
 {
-    match hwdb_inspect::verify(alloc, bytes) {
+    match hwdb_databases::verify(alloc, bytes) {
         Ok(text) => Ok(Answer::new(alloc, text, 0)),
         Err(error) => Err(refusal_of(alloc, error, path)),
     }

@@ -1,5 +1,5 @@
 -- What the code's closest pattern means.
-use Rattle.hwdb_spec.specs.NearPrefixes.{Close}
+use Rattle.hwdb_spec_commands.specs.NearPrefixes.{Close}
 use Rattle.hwdb_near.specs.declared.prefixes.Close.{Close as Found}
 use Rattle.hwdb_near.specs.Internal.Ratings.{rated_of}
 

@@ -7,7 +7,7 @@ use Rattle.std.specs.List.{list_any}
 use Rattle.std.specs.Ordering.{nat_cmp, ordering_then}
 use Rattle.std.specs.declared.cmp.Ordering.{Ordering}
 use Rattle.hwdb_spec.specs.Assignment.{Assignment}
-use Rattle.hwdb_spec.specs.Once.{is_same_assignment, once}
+use Rattle.hwdb_spec_commands.specs.Once.{is_same_assignment, once}
 use Rattle.hwdb_near.specs.Views.{assignment_of}
 use Rattle.hwdb_near.specs.declared.wanted.FileAssignment.{FileAssignment}
 

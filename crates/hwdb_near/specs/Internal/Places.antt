@@ -5,7 +5,7 @@ use Rattle.std.specs.Borrow.{Bor}
 use Rattle.std.specs.Cmp.Lexicographic.{slice_cmp}
 use Rattle.std.specs.Ordering.{nat_cmp, ordering_then}
 use Rattle.hwdb_spec.specs.Assignment.{Assignment}
-use Rattle.hwdb_spec.specs.Replacements.{last_like, replacements}
+use Rattle.hwdb_spec_commands.specs.Replacements.{last_like, replacements}
 use Rattle.hwdb_near.specs.Views.{assignment_of, replacement_of}
 use Rattle.hwdb_near.specs.declared.replacements.Replaced.{Replaced}
 use Rattle.hwdb_near.specs.declared.wanted.FileAssignment.{FileAssignment}

@@ -5,7 +5,7 @@ use Rattle.std.specs.Cmp.Lexicographic.{nat_list_cmp_total}
 use Rattle.std.specs.declared.cmp.Ordering.{Ordering}
 use Rattle.std.specs.Ordering.{ordering_then}
 use Rattle.hwdb_spec.specs.Assignment.{text_cmp}
-use Rattle.hwdb_spec.specs.Near.{PatternAt, Rated, hits, near_cmp, place_cmp, rated}
+use Rattle.hwdb_spec_commands.specs.Near.{PatternAt, Rated, hits, near_cmp, place_cmp, rated}
 use Rattle.hwdb_near.specs.declared.found.PatternAt.{PatternAt as At}
 use Rattle.hwdb_near.specs.declared.found.Rated.{Rated as Found}
 use Rattle.hwdb_near.specs.Views.{pattern_at}

@@ -1,10 +1,10 @@
 -- The same of functions that begin with the database that is asked.
 use Rattle.std.proofs.Common.{◌≡◌, ◌∙◌, inl, inr, ap, refl, subst, option_map, IfSome, List, Option, None, Some, Result, Ok, Err, ℕ, true, false}
 use Rattle.std.specs.Result.{IsErrAnd}
-use Rattle.hwdb_spec.specs.Asked.{database_path}
-use Rattle.hwdb_spec.specs.declared.refusals.Refusal.{Refusal}
-use Rattle.hwdb_spec.specs.Told.{IsUnreadAs, Reads, stop_of}
-use Rattle.hwdb_spec.specs.Told.Stop.{NoDatabase}
+use Rattle.hwdb_spec_commands.specs.Asked.{database_path}
+use Rattle.hwdb_spec_commands.specs.declared.refusals.Refusal.{Refusal}
+use Rattle.hwdb_spec_commands.specs.Told.{IsUnreadAs, Reads, stop_of}
+use Rattle.hwdb_spec_commands.specs.Told.Stop.{NoDatabase}
 use Rattle.hwdb_plan.specs.Asking.{asked, if_there}
 use Rattle.hwdb_plan.specs.Plans.{End, Ends, Next, Reaches}
 use Rattle.hwdb_plan.specs.Plans.End.{Stops}

@@ -3,30 +3,30 @@ use Rattle.std.proofs.Common.{◌≡◌, ◌∙◌, ◌⊎◌, inl, inr, ap, sym
 use Rattle.std.specs.Io.KnownBytes.{Appends}
 use Rattle.std.specs.Result.{IsErrAnd}
 use Rattle.hwdb_spec.specs.CompileErrors.{IsRefusal}
-use Rattle.hwdb_spec.specs.Databases.{IsNoDatabase}
+use Rattle.hwdb_spec_commands.specs.Databases.{IsNoDatabase}
 use Rattle.hwdb_spec.specs.Errors.{refusal_of_compile}
 use Rattle.hwdb_spec.specs.Folders.{FaultIn, Source, faults_of_files}
 use Rattle.hwdb_spec.specs.Format.{IsDatabase}
-use Rattle.hwdb_spec.specs.Refusals.{IsOfCause}
-use Rattle.hwdb_spec.specs.Runs.{AreKept, Files, HasTaken, Told, World}
-use Rattle.hwdb_spec.specs.Streams.{texts_of}
+use Rattle.hwdb_spec_commands.specs.Refusals.{IsOfCause}
+use Rattle.hwdb_spec_commands.specs.Runs.{AreKept, Files, HasTaken, Told, World}
+use Rattle.hwdb_spec_commands.specs.Streams.{texts_of}
 use Rattle.hwdb_spec.specs.Texts.{devices_of, faults_text, status_of}
 use Rattle.hwdb_spec.specs.Tree.{Tree}
 use Rattle.hwdb_spec.specs.declared.DbFault.{DbFault}
-use Rattle.hwdb_spec.specs.declared.form.Form.{Form}
+use Rattle.hwdb_spec_commands.specs.declared.form.Form.{Form}
 use Rattle.hwdb_spec.specs.declared.errors.CompileError.{CompileError}
 use Rattle.hwdb_spec.specs.declared.errors.CompileError.TheVariants as compiling
 use Rattle.hwdb_spec.specs.declared.errors.ToolError.TheVariants as error
 use Rattle.hwdb_spec.specs.declared.errors.ToolError.TheVariants.{BadDatabase}
-use Rattle.hwdb_spec.specs.declared.refusals.Refusal.{Refusal}
-use Rattle.hwdb_spec.specs.declared.refusals.Refusal.TheVariants as refusal
+use Rattle.hwdb_spec_commands.specs.declared.refusals.Refusal.{Refusal}
+use Rattle.hwdb_spec_commands.specs.declared.refusals.Refusal.TheVariants as refusal
 use Rattle.hwdb_plan.specs.Put.{put_plan}
 use Rattle.hwdb_plan.specs.Streams.{answered}
 use Rattle.hwdb_plan.specs.Ended.{Does, IsUnput, Leaves, Prints, ReplacesWith, StreamsTo, outs, outs_of}
 use Rattle.hwdb_plan.specs.Plans.{AreMadeOf, End, Ends, Follows, Next, Plan}
 use Rattle.hwdb_plan.specs.Plans.End.{Answers, Replaces, Stops, Streams}
-use Rattle.hwdb_spec.specs.Told.{Reads, stop_of}
-use Rattle.hwdb_spec.specs.Told.Stop.{Over, Plain}
+use Rattle.hwdb_spec_commands.specs.Told.{Reads, stop_of}
+use Rattle.hwdb_spec_commands.specs.Told.Stop.{Over, Plain}
 
 -- an answer that was had and printed, or not: of any type that has a status and two texts
 module _ {Y : Type 0} (status : Y → ℕ) (err out : Y → List ℕ) where

@@ -1,15 +1,15 @@
 -- What putting a database in its place leaves, as an end of a plan.
 use Rattle.std.proofs.Common.{◌≡◌, ◌≢◌, ◌∙◌, ◌⊎◌, inl, inr, sym, subst, List, Err, ℕ, refl}
 use Rattle.hwdb_spec.specs.NotReplaced.{IsLeft, IsSeen, failures_after}
-use Rattle.hwdb_spec.specs.Refusals.{IsOfUpdate}
-use Rattle.hwdb_spec.specs.Runs.{AreKept, Files, HasTaken, Told, WasCut}
+use Rattle.hwdb_spec_commands.specs.Refusals.{IsOfUpdate}
+use Rattle.hwdb_spec_commands.specs.Runs.{AreKept, Files, HasTaken, Told, WasCut}
 use Rattle.hwdb_spec.specs.Store.{database_name, path_in}
-use Rattle.hwdb_spec.specs.UpdateErrors.{IsPlaceRefusal, OnUnreplaced}
+use Rattle.hwdb_spec_commands.specs.UpdateErrors.{IsPlaceRefusal, OnUnreplaced}
 use Rattle.hwdb_spec.specs.declared.errors.ToolError.{ToolError}
 use Rattle.hwdb_spec.specs.declared.errors.ToolError.TheVariants.{BadDatabase, BadPosition, Memory, Read, Replace, TooLarge, TooLong, TooManyFiles, TooManyLines, Write}
 use Rattle.hwdb_spec.specs.declared.errors.Unreplaced.{Unreplaced}
-use Rattle.hwdb_spec.specs.declared.refusals.Refusal.{Refusal}
-use Rattle.hwdb_spec.specs.declared.refusals.Refusal.TheVariants as refusal
+use Rattle.hwdb_spec_commands.specs.declared.refusals.Refusal.{Refusal}
+use Rattle.hwdb_spec_commands.specs.declared.refusals.Refusal.TheVariants as refusal
 use Rattle.hwdb_plan.specs.Ended.{IsUnput, ReplacesWith}
 
 -- files that are as they were

@@ -2,11 +2,11 @@
 use Rattle.std.proofs.Common.{◌≡◌, ◌∙◌, ◌⊎◌, inl, inr, ap, sym, subst, List, None, Some, Result, Ok, Err, ℕ}
 use Rattle.std.specs.Result.{IsErrAnd}
 use Rattle.hwdb_spec.specs.declared.errors.ToolError.TheVariants as error
-use Rattle.hwdb_spec.specs.declared.refusals.Refusal.{Refusal}
-use Rattle.hwdb_spec.specs.declared.refusals.Refusal.TheVariants as refusal
-use Rattle.hwdb_spec.specs.declared.unread.Unread.{Unread}
-use Rattle.hwdb_spec.specs.Told.{IsUnreadAs, Reads, Stop, stop_of, unread_stop}
-use Rattle.hwdb_spec.specs.Told.Stop.{Plain}
+use Rattle.hwdb_spec_commands.specs.declared.refusals.Refusal.{Refusal}
+use Rattle.hwdb_spec_commands.specs.declared.refusals.Refusal.TheVariants as refusal
+use Rattle.hwdb_spec_commands.specs.declared.unread.Unread.{Unread}
+use Rattle.hwdb_spec_commands.specs.Told.{IsUnreadAs, Reads, Stop, stop_of, unread_stop}
+use Rattle.hwdb_spec_commands.specs.Told.Stop.{Plain}
 use Rattle.hwdb_plan.specs.Asking.{if_read, if_there}
 use Rattle.hwdb_plan.specs.Plans.{End, Ends, Follows, Next, Plan, Reaches}
 use Rattle.hwdb_plan.specs.Plans.End.{Stops}

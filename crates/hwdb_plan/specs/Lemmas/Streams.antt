@@ -3,22 +3,22 @@ use Rattle.std.proofs.Common.{◌≤◌, ◌≡◌, ◌≢◌, ◌∙◌, ◌⊎
 use Rattle.std.specs.Io.KnownBytes.{Appends}
 use Rattle.std.specs.Prelude.{codes}
 use Rattle.std.proofs.lemmas.List.{take_all}
-use Rattle.hwdb_spec.specs.AnsweredLines.{IsLineError, IsPrintedBefore, answered_lines, line_error}
-use Rattle.hwdb_spec.specs.Databases.{IsTextOf}
+use Rattle.hwdb_spec_commands.specs.AnsweredLines.{IsLineError, IsPrintedBefore, answered_lines, line_error}
+use Rattle.hwdb_spec_commands.specs.Databases.{IsTextOf}
 use Rattle.hwdb_spec.specs.Format.{IsDatabase}
 use Rattle.hwdb_spec.specs.Failures.{OneFailed}
 use Rattle.hwdb_spec.specs.Outputs.{AppendsPrefix, Wrote, WrotePrefix}
-use Rattle.hwdb_spec.specs.Queries.{IsOfInput}
-use Rattle.hwdb_spec.specs.Refusals.{IsAt}
-use Rattle.hwdb_spec.specs.Runs.{HasTaken, Told, WasCut}
-use Rattle.hwdb_spec.specs.Streams.{IsStreamRefusal, texts_of}
+use Rattle.hwdb_spec_commands.specs.Queries.{IsOfInput}
+use Rattle.hwdb_spec_commands.specs.Refusals.{IsAt}
+use Rattle.hwdb_spec_commands.specs.Runs.{HasTaken, Told, WasCut}
+use Rattle.hwdb_spec_commands.specs.Streams.{IsStreamRefusal, texts_of}
 use Rattle.hwdb_spec.specs.Texts.{devices_of}
 use Rattle.hwdb_spec.specs.Tree.{Tree}
 use Rattle.hwdb_spec.specs.declared.errors.ToolError.{ToolError}
 use Rattle.hwdb_spec.specs.declared.errors.ToolError.TheVariants.{BadDatabase, BadPosition, Memory, Read, Replace, TooLarge, TooLong, TooManyFiles, TooManyLines, Write}
-use Rattle.hwdb_spec.specs.declared.form.Form.{Form}
-use Rattle.hwdb_spec.specs.declared.refusals.Refusal.{Refusal}
-use Rattle.hwdb_spec.specs.declared.refusals.Refusal.TheVariants as refusal
+use Rattle.hwdb_spec_commands.specs.declared.form.Form.{Form}
+use Rattle.hwdb_spec_commands.specs.declared.refusals.Refusal.{Refusal}
+use Rattle.hwdb_spec_commands.specs.declared.refusals.Refusal.TheVariants as refusal
 use Rattle.hwdb_plan.specs.Ended.{StreamsTo, TookSome}
 use Rattle.hwdb_plan.specs.Laws.{OneTree}
 

@@ -7,7 +7,7 @@ use Rattle.std.proofs.lemmas.Str.{is_utf8-from_IsUtf8}
 use Rattle.json.specs.Json.{Json, string}
 use Rattle.json.specs.Token.{Token}
 use Rattle.json.specs.Tree.{json_tokens, items_tokens, members_tokens}
-use Rattle.hwdb_spec.specs.Json.{array_of, items_of, members_of, number_json, object_of, text_json}
+use Rattle.hwdb_spec_commands.specs.Json.{array_of, items_of, members_of, number_json, object_of, text_json}
 use Rattle.hwdb_show.specs.JsonTokens.{tokens_of_member, tokens_of_members}
 use Rattle.hwdb_spec.specs.Lemmas.Orders.{not_utf8}
 

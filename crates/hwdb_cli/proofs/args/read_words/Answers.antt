@@ -5,8 +5,8 @@ use Rattle.clap.specs.Simple.{App, is_simple, matches_of, subcommand_of, subcomm
 use Rattle.clap.specs.Takes.{takes}
 use Rattle.clap.specs.Faults.{fault_of, is_simple_and_free}
 use Rattle.clap.specs.declared.parser.matches.ArgMatches.TheViews.{out-ArgMatches}
-use Rattle.hwdb_spec.specs.CommandLine.{hwdb_app}
-use Rattle.hwdb_spec.specs.Jobs.{IsJobOf}
+use Rattle.hwdb_spec_commands.specs.CommandLine.{hwdb_app}
+use Rattle.hwdb_spec_commands.specs.Jobs.{IsJobOf}
 use Rattle.hwdb_cli.proofs.FoundLemmas.{name_in_rows, job_found, command_found}
 use Rattle.hwdb_cli.proofs.TakenLemmas.{command_taken}
 use Rattle.hwdb_cli.proofs.ToldLemmas.{told_of_one}

@@ -1,7 +1,7 @@
 use Rattle.std.proofs.Common.{◌≡◌, ◌++◌, List, length, map, take, All}
 use Rattle.std.specs.Prelude.{flat_map}
 use Rattle.hwdb_spec.specs.Assignment.{Assignment}
-use Rattle.hwdb_spec.specs.Progress.{within_64_bits}
+use Rattle.hwdb_spec.specs.Folders.{within_64_bits}
 use Rattle.hwdb_spec.specs.Tree.{surviving}
 use Rattle.hwdb_compile.specs.Views.{FewLines, fault_of}
 use Rattle.hwdb_text.specs.Views.{bytes_in}

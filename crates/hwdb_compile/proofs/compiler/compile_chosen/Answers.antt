@@ -1,5 +1,5 @@
 use Rattle.std.proofs.Common.{◌∙◌, length, ap, sym, subst, map, [], Err}
-use Rattle.hwdb_spec.specs.Progress.{within_64_bits}
+use Rattle.hwdb_spec.specs.Folders.{within_64_bits}
 use Rattle.hwdb_spec.specs.Written.{IsDatabaseOf, IsWritten}
 use Rattle.hwdb_compile.specs.Views.{ForFolders, fault_of}
 use Rattle.hwdb_spec.specs.CompileErrors.{IsRefusal}

@@ -1,5 +1,5 @@
 use Rattle.std.proofs.Common.{◌≡◌, take}
-use Rattle.hwdb_spec.specs.Lookups.{all_asked}
+use Rattle.hwdb_spec_commands.specs.Lookups.{all_asked}
 use Rattle.hwdb_rules.specs.Views.{plans_of}
 use Rattle.hwdb_device.specs.Views.{all_found, tells_of}
 use Rattle.hwdb_device.proofs.asking.ask_all.Given as goal

@@ -1,5 +1,5 @@
 use Rattle.std.proofs.Common.{◌≡◌, ◌++◌, map, take}
-use Rattle.hwdb_spec.specs.DeviceTexts
+use Rattle.hwdb_spec_commands.specs.DeviceTexts
 use Rattle.hwdb_query.specs.Views.{explained_values}
 use Rattle.hwdb_device.specs.Views.{gifts_in}
 use Rattle.hwdb_device.proofs.gifts.add_gifts.Given as goal

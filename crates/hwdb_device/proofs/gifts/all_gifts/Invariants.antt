@@ -1,5 +1,5 @@
 use Rattle.std.proofs.Common.{◌≡◌, take}
-use Rattle.hwdb_spec.specs.DeviceTexts
+use Rattle.hwdb_spec_commands.specs.DeviceTexts
 use Rattle.hwdb_device.specs.Views.{all_found, gifts_in}
 use Rattle.hwdb_device.proofs.gifts.all_gifts.Given as goal
 

@@ -1,5 +1,5 @@
 use Rattle.std.proofs.Common.{◌≡◌, map, take}
-use Rattle.hwdb_spec.specs.DeviceTexts
+use Rattle.hwdb_spec_commands.specs.DeviceTexts
 use Rattle.hwdb_query.specs.Views.{explained_values, pairs_bytes}
 use Rattle.hwdb_device.proofs.json_lines.pairs_of_told.Given as goal
 

@@ -2,8 +2,8 @@ use Rattle.std.proofs.Common.{List, ℕ, ◌∙◌, ◌++◌, ◌∷◌, [], ap,
 use Rattle.std.proofs.lemmas.Result.{on_ok_weaker}
 use Rattle.json.specs.Json.{Json}
 use Rattle.json.specs.Token.{begin_object}
-use Rattle.hwdb_spec.specs.DeviceTexts.{path_at, properties_members}
-use Rattle.hwdb_spec.specs.Json.{text_json}
+use Rattle.hwdb_spec_commands.specs.DeviceTexts.{path_at, properties_members}
+use Rattle.hwdb_spec_commands.specs.Json.{text_json}
 use Rattle.hwdb_query.specs.Views.{pairs_bytes}
 use Rattle.hwdb_show.specs.JsonTokens.{tokens_of_member}
 use Rattle.hwdb_sysfs.specs.Views.{device_of}

@@ -1,6 +1,6 @@
 use Rattle.std.proofs.Common.{List, ap}
-use Rattle.hwdb_spec.specs.DeviceTexts.{found_form}
-use Rattle.hwdb_spec.specs.Lookups.{Found}
+use Rattle.hwdb_spec_commands.specs.DeviceTexts.{found_form}
+use Rattle.hwdb_spec_commands.specs.Lookups.{Found}
 use Rattle.hwdb_device.proofs.SameLemmas.{for_same}
 use Rattle.hwdb_device.proofs.laws.same_answers_same_text.Goals as goal
 

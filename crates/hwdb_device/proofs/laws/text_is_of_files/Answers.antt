@@ -1,8 +1,8 @@
 use Rattle.std.proofs.Common.{◌∙◌, ap, List}
-use Rattle.hwdb_spec.specs.DeviceTexts.{asked_for, found_form, told_by, told_of_files}
+use Rattle.hwdb_spec_commands.specs.DeviceTexts.{asked_for, found_form, told_by, told_of_files}
 use Rattle.hwdb_spec.specs.Explanations.{explained}
-use Rattle.hwdb_spec.specs.Near.{PatternAt}
-use Rattle.hwdb_spec.specs.NearPrefixes.{files_patterns}
+use Rattle.hwdb_spec_commands.specs.Near.{PatternAt}
+use Rattle.hwdb_spec_commands.specs.NearPrefixes.{files_patterns}
 use Rattle.hwdb_device.proofs.laws.text_is_of_files.Goals as goal
 
 pub returns : goal.returns

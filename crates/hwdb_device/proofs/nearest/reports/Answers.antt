@@ -2,9 +2,9 @@ use Rattle.std.proofs.Common.{◌≡◌, ◌∙◌, ap, flat_map, map, List}
 use Rattle.hwdb_query.specs.Views.{assignment_of_answer}
 use Rattle.hwdb_query.specs.declared.answer.StoredAssignment.{StoredAssignment}
 use Rattle.hwdb_spec.specs.Assignment.{Assignment}
-use Rattle.hwdb_spec.specs.DeviceTexts.{set_prefixes, wanting}
-use Rattle.hwdb_spec.specs.NearAsked.{database_patterns, gathered, pattern_of}
-use Rattle.hwdb_spec.specs.NearPrefixes.{prefix_report}
+use Rattle.hwdb_spec_commands.specs.DeviceTexts.{set_prefixes, wanting}
+use Rattle.hwdb_spec_commands.specs.NearAsked.{database_patterns, gathered, pattern_of}
+use Rattle.hwdb_spec_commands.specs.NearPrefixes.{prefix_report}
 use Rattle.hwdb_near.specs.Views.{pattern_at}
 use Rattle.hwdb_device.specs.Views.{all_found}
 use Rattle.hwdb_device.proofs.nearest.reports.Goals as goal

@@ -1,5 +1,5 @@
 use Rattle.std.proofs.Common.{◌≡◌, ◌++◌, filter, length, map, take}
-use Rattle.hwdb_spec.specs.DeviceTexts
+use Rattle.hwdb_spec_commands.specs.DeviceTexts
 use Rattle.hwdb_query.specs.Views.{pairs_bytes}
 use Rattle.hwdb_device.specs.Views.{outcomes_in}
 use Rattle.hwdb_device.proofs.outcomes.pairs_of_outcomes.Given as goal

@@ -1,5 +1,5 @@
 use Rattle.std.proofs.Common.{◌≡◌, ◌++◌, take}
-use Rattle.hwdb_spec.specs.DeviceTexts
+use Rattle.hwdb_spec_commands.specs.DeviceTexts
 use Rattle.hwdb_device.proofs.records.push_pattern.Given as goal
 
 abbrev pub invariant-loop-byte : goal.invariant-loop-byte

@@ -1,6 +1,6 @@
 use Rattle.std.proofs.Common.{◌≡◌, ◌++◌, take}
 use Rattle.std.specs.Prelude.{flat_map}
-use Rattle.hwdb_spec.specs.DeviceTexts
+use Rattle.hwdb_spec_commands.specs.DeviceTexts
 use Rattle.hwdb_sysfs.specs.Views.{device_of}
 use Rattle.hwdb_device.specs.Views.{all_found}
 use Rattle.hwdb_device.proofs.texts.push_all_found.Given as goal

@@ -1,6 +1,6 @@
 use Rattle.std.proofs.Common.{take}
 use Rattle.std.proofs.lemmas.List.{map_more}
-use Rattle.hwdb_spec.specs.DeviceTexts.{overridden_lines}
+use Rattle.hwdb_spec_commands.specs.DeviceTexts.{overridden_lines}
 use Rattle.hwdb_device.specs.Views.{gift_in, gifts_in}
 use Rattle.hwdb_device.proofs.ListLemmas.{lines_more}
 use Rattle.hwdb_device.proofs.texts.push_all_overridden.Goals as goal

@@ -1,6 +1,6 @@
 use Rattle.std.proofs.Common.{◌≡◌, ◌++◌, take}
 use Rattle.std.specs.Prelude.{flat_map}
-use Rattle.hwdb_spec.specs.DeviceTexts
+use Rattle.hwdb_spec_commands.specs.DeviceTexts
 use Rattle.hwdb_device.specs.Views.{outcomes_in}
 use Rattle.hwdb_device.proofs.texts.push_outcomes.Given as goal
 

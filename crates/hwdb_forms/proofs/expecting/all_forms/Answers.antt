@@ -1,5 +1,5 @@
 use Rattle.std.proofs.Common.{◌∙◌, ◌++◌, ap, map, List}
-use Rattle.hwdb_spec.specs.FormTable.{free, known}
+use Rattle.hwdb_spec_commands.specs.FormTable.{free, known}
 use Rattle.hwdb_spec.specs.Forms.{Form}
 use Rattle.hwdb_forms.proofs.FrontLemmas.{mapped}
 use Rattle.hwdb_forms.proofs.expecting.all_forms.Goals as goal

@@ -1,5 +1,5 @@
 use Rattle.std.proofs.Common.{◌≡◌, ◌∙◌, ◌++◌, ◌∷◌, [], ap, ℕ, List}
-use Rattle.hwdb_spec.specs.FormTable.{asked}
+use Rattle.hwdb_spec_commands.specs.FormTable.{asked}
 use Rattle.hwdb_spec.specs.Forms.{can_begin}
 use Rattle.hwdb_spec.specs.Patterns.{tokens}
 use Rattle.hwdb_forms.specs.Internal.{views}

@@ -1,5 +1,5 @@
 use Rattle.std.proofs.Common.{arith, add-one, ◌-◌, ◌+◌}
-use Rattle.hwdb_spec.specs.FormTable.{asked}
+use Rattle.hwdb_spec_commands.specs.FormTable.{asked}
 use Rattle.hwdb_spec.specs.Forms.{is_expected}
 use Rattle.hwdb_forms.proofs.ExpectedLemmas.{all_done, byte_done}
 use Rattle.hwdb_forms.proofs.expecting.expected_below.Goals as goal

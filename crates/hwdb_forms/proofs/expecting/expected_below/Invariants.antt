@@ -1,6 +1,6 @@
 use Rattle.std.proofs.Common.{◌≡◌, ◌≤◌, ◌-◌, ◌++◌}
 use Rattle.std.specs.Prelude.{filter}
-use Rattle.hwdb_spec.specs.FormTable.{asked}
+use Rattle.hwdb_spec_commands.specs.FormTable.{asked}
 use Rattle.hwdb_spec.specs.Forms.{all_bytes_from, is_expected}
 use Rattle.hwdb_forms.specs.Internal.{IsWordAfter}
 use Rattle.hwdb_forms.proofs.expecting.expected_below.Given as goal

@@ -1,5 +1,5 @@
 use Rattle.std.proofs.Common.{◌≡◌, ◌++◌, map, take}
-use Rattle.hwdb_spec.specs.FormTable.{free}
+use Rattle.hwdb_spec_commands.specs.FormTable.{free}
 use Rattle.hwdb_forms.specs.Internal.{form_of}
 use Rattle.hwdb_forms.proofs.expecting.with_free.Given as goal
 

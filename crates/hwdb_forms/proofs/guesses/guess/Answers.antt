@@ -1,6 +1,6 @@
 use Rattle.std.proofs.Common.{refl, subst, true, ◌≡◌}
 use Rattle.hwdb_spec.specs.Forms.{Form, meets_form}
-use Rattle.hwdb_spec.specs.FormTable.{bluetooth, oui, pci, usb}
+use Rattle.hwdb_spec_commands.specs.FormTable.{bluetooth, oui, pci, usb}
 use Rattle.hwdb_forms.proofs.GuessLemmas.{bluetooth_asked, oui_asked, pci_asked, usb_asked}
 use Rattle.hwdb_forms.proofs.TemplateLemmas.{first_ways_of}
 use Rattle.hwdb_forms.proofs.guesses.guess.Goals as goal

@@ -1,5 +1,5 @@
 use Rattle.std.proofs.Common.{ap, map, ◌∙◌, List}
-use Rattle.hwdb_spec.specs.FormTable.{free, free_prefixes, known}
+use Rattle.hwdb_spec_commands.specs.FormTable.{free, free_prefixes, known}
 use Rattle.hwdb_spec.specs.Forms.{Form, can_match}
 use Rattle.hwdb_forms.specs.Internal.{views}
 use Rattle.hwdb_forms.proofs.AnswerLemmas.{second_tells}

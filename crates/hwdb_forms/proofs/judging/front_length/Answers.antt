@@ -1,5 +1,5 @@
 use Rattle.std.proofs.Common.{ap, map, subst, sym, ◌∙◌, List}
-use Rattle.hwdb_spec.specs.FormTable.{asked}
+use Rattle.hwdb_spec_commands.specs.FormTable.{asked}
 use Rattle.hwdb_spec.specs.Forms.{Form}
 use Rattle.hwdb_forms.specs.Internal.{Every, HasWays, form_of, views}
 use Rattle.hwdb_forms.proofs.AfterLemmas.{asked_ways}

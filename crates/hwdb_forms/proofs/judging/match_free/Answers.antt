@@ -1,7 +1,7 @@
 use Rattle.std.proofs.Common.{arith, add-one, ◌∙◌, ap, ◌+◌}
 use Rattle.hwdb_spec.specs.Forms.{meets_form}
 use Rattle.hwdb_forms.specs.Internal.{views}
-use Rattle.hwdb_spec.specs.FormTable.{free}
+use Rattle.hwdb_spec_commands.specs.FormTable.{free}
 use Rattle.hwdb_forms.proofs.AnswerLemmas.{form_found, form_passed, no_form}
 use Rattle.hwdb_forms.proofs.judging.match_free.Goals as goal
 

@@ -1,5 +1,5 @@
 use Rattle.std.proofs.Common.{◌≡◌, ◌++◌, drop, map}
-use Rattle.hwdb_spec.specs.FormTable.{lower}
+use Rattle.hwdb_spec_commands.specs.FormTable.{lower}
 use Rattle.hwdb_forms.proofs.likeness.in_lower.Given as goal
 
 abbrev pub invariant-loop-byte : goal.invariant-loop-byte

@@ -1,5 +1,5 @@
 use Rattle.std.proofs.Common.{arith, add-one, ◌+◌}
-use Rattle.hwdb_spec.specs.FormTable.{is_near}
+use Rattle.hwdb_spec_commands.specs.FormTable.{is_near}
 use Rattle.hwdb_forms.proofs.LikeLemmas.{no_prefix, prefix_found, prefix_passed}
 use Rattle.hwdb_forms.proofs.likeness.nearest.Goals as goal
 

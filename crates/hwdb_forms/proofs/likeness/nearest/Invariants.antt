@@ -1,6 +1,6 @@
 use Rattle.std.proofs.Common.{◌≡◌, drop, map}
 use Rattle.std.specs.Prelude.{find}
-use Rattle.hwdb_spec.specs.FormTable.{is_near}
+use Rattle.hwdb_spec_commands.specs.FormTable.{is_near}
 use Rattle.hwdb_forms.proofs.likeness.nearest.Given as goal
 
 abbrev pub invariant-loop-prefix : goal.invariant-loop-prefix

@@ -1,7 +1,7 @@
 use Rattle.std.proofs.Common.{◌∙◌, ◌<◌, ◌^◌, List, ap, length, map, rules}
 use Rattle.hwdb_compile.specs.Lemmas.Files.{same_assignments}
 use Rattle.hwdb_spec.specs.Folders.{all_assignments}
-use Rattle.hwdb_spec.specs.Once.{once}
+use Rattle.hwdb_spec_commands.specs.Once.{once}
 use Rattle.hwdb_near.specs.Views.{assignment_of}
 use Rattle.hwdb_near.specs.declared.wanted.FileAssignment.{FileAssignment}
 use Rattle.hwdb_near.proofs.CountLemmas.{counted_is}

@@ -1,6 +1,6 @@
 use Rattle.std.proofs.Common.{◌≡◌, ◌≤◌, drop, length, map, reverse}
 use Rattle.hwdb_query.specs.Views.{assignment_of_answer}
-use Rattle.hwdb_spec.specs.NearAsked.{gathered, pattern_of}
+use Rattle.hwdb_spec_commands.specs.NearAsked.{gathered, pattern_of}
 use Rattle.hwdb_near.specs.Views.{pattern_at}
 use Rattle.hwdb_near.proofs.databases.patterns_of.Given as goal
 

@@ -1,5 +1,5 @@
 use Rattle.std.proofs.Common.{◌≡◌, ◌∙◌, ap, arith, drop, map, ℕ}
-use Rattle.hwdb_spec.specs.Once.{once}
+use Rattle.hwdb_spec_commands.specs.Once.{once}
 use Rattle.hwdb_near.specs.Views.{assignment_of}
 use Rattle.hwdb_near.proofs.NearestLemmas.{map_reverse}
 use Rattle.hwdb_near.proofs.OnceLemmas.{once_none}

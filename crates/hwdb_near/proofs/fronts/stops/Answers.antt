@@ -1,5 +1,5 @@
 use Rattle.std.proofs.Common.{◌∙◌, ap, map, subst, List}
-use Rattle.hwdb_spec.specs.Near.{Stops}
+use Rattle.hwdb_spec.specs.Fronts.{Stops}
 use Rattle.hwdb_spec.specs.Patterns.{Token, tokens}
 use Rattle.hwdb_pattern.specs.Fronts.{front_of, token_of}
 use Rattle.hwdb_near.proofs.fronts.stops.Goals as goal

@@ -1,6 +1,6 @@
 use Rattle.std.proofs.Common.{◌≡◌, ◌++◌, take, map}
 use Rattle.std.specs.Prelude.{flat_map}
-use Rattle.hwdb_spec.specs.Near.{match_json_line}
+use Rattle.hwdb_spec_commands.specs.Near.{match_json_line}
 use Rattle.hwdb_near.specs.Views.{pattern_at}
 use Rattle.hwdb_near.proofs.json_lines.push_matches.Given as goal
 

@@ -1,5 +1,5 @@
 use Rattle.std.proofs.Common.{◌≡◌, ◌+◌, map, take}
-use Rattle.hwdb_spec.specs.NearAsked.{patterns_from}
+use Rattle.hwdb_spec_commands.specs.NearAsked.{patterns_from}
 use Rattle.hwdb_near.specs.Views.{pattern_at, source_of}
 use Rattle.hwdb_near.proofs.patterns.patterns_of_files.Given as goal
 

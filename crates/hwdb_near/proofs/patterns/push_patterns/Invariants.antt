@@ -1,7 +1,7 @@
 use Rattle.std.proofs.Common.{length, ◌+◌, ◌≡◌, ◌≤◌, ◌++◌, map}
 use Rattle.std.specs.Prelude.{flat_map}
 use Rattle.hwdb_spec.specs.Lines.{numbered}
-use Rattle.hwdb_spec.specs.Near.{patterns_in, patterns_of_line}
+use Rattle.hwdb_spec_commands.specs.Near.{patterns_in, patterns_of_line}
 use Rattle.hwdb_text.specs.PiecesLeft.{lines_left}
 use Rattle.hwdb_near.specs.Views.{pattern_at}
 use Rattle.hwdb_near.proofs.patterns.push_patterns.Given as goal

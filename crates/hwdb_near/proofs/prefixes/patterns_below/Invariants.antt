@@ -1,5 +1,5 @@
 use Rattle.std.proofs.Common.{◌≡◌, filter, map, take}
-use Rattle.hwdb_spec.specs.NearPrefixes.{is_below}
+use Rattle.hwdb_spec_commands.specs.NearPrefixes.{is_below}
 use Rattle.hwdb_near.specs.Views.{pattern_at}
 use Rattle.hwdb_near.proofs.prefixes.patterns_below.Given as goal
 

@@ -1,5 +1,5 @@
 use Rattle.std.proofs.Common.{◌≡◌, filter, map, take}
-use Rattle.hwdb_spec.specs.NearPrefixes.{has_prefix}
+use Rattle.hwdb_spec_commands.specs.NearPrefixes.{has_prefix}
 use Rattle.hwdb_near.proofs.prefixes.texts_below.Given as goal
 
 abbrev pub invariant-loop-text : goal.invariant-loop-text

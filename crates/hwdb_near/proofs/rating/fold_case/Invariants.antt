@@ -1,5 +1,5 @@
 use Rattle.std.proofs.Common.{◌≡◌, take}
-use Rattle.hwdb_spec.specs.Near
+use Rattle.hwdb_spec_commands.specs.Near
 use Rattle.hwdb_near.proofs.rating.fold_case.Given as goal
 
 abbrev pub invariant-loop-byte : goal.invariant-loop-byte

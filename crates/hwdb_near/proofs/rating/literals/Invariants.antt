@@ -1,5 +1,5 @@
 use Rattle.std.proofs.Common.{◌≡◌, ◌≤◌, take, map}
-use Rattle.hwdb_spec.specs.Near.{literals}
+use Rattle.hwdb_spec_commands.specs.Near.{literals}
 use Rattle.hwdb_pattern.specs.Fronts.{token_of}
 use Rattle.hwdb_near.proofs.rating.literals.Given as goal
 

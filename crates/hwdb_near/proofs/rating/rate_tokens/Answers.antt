@@ -1,7 +1,7 @@
 use Rattle.std.proofs.Common.{◌∙◌, ◌-◌, ap, length, map, reverse, take, List, ℕ}
 use Rattle.std.proofs.lemmas.List.{take_rest, length-reverse}
 use Rattle.std.specs.Borrow.{Bor}
-use Rattle.hwdb_spec.specs.Near.{literals}
+use Rattle.hwdb_spec_commands.specs.Near.{literals}
 use Rattle.hwdb_pattern.specs.Fronts.{token_of}
 use Rattle.hwdb_near.proofs.NearestLemmas.{front_is, missing_is}
 use Rattle.hwdb_near.proofs.rating.rate_tokens.Goals as goal

@@ -1,8 +1,8 @@
 use Rattle.std.proofs.Common.{Bool, List, [], ap, false, sym, true, ◌++◌, ◌∙◌, ◌≡◌, filter, map, ℕ}
 use Rattle.hwdb_compile.specs.Lemmas.Files.{same_assignments}
 use Rattle.hwdb_spec.specs.Answers.{is_wanted}
-use Rattle.hwdb_spec.specs.Once.{once}
-use Rattle.hwdb_spec.specs.Replacements.{Replacement, masked_form, replaced_form, replacements, replacements_for, replacements_form}
+use Rattle.hwdb_spec_commands.specs.Once.{once}
+use Rattle.hwdb_spec_commands.specs.Replacements.{Replacement, masked_form, replaced_form, replacements, replacements_for, replacements_form}
 use Rattle.hwdb_near.specs.Views.{assignment_of, replacement_of}
 use Rattle.hwdb_near.specs.declared.replacements.Replaced.{Replaced}
 use Rattle.hwdb_near.specs.declared.wanted.FileAssignment.{FileAssignment}

@@ -1,6 +1,6 @@
 use Rattle.std.proofs.Common.{◌≡◌, ◌++◌, take, map}
 use Rattle.std.specs.Prelude.{flat_map}
-use Rattle.hwdb_spec.specs.Replacements.{replacement_json}
+use Rattle.hwdb_spec_commands.specs.Replacements.{replacement_json}
 use Rattle.hwdb_near.specs.Views.{replacement_of}
 use Rattle.hwdb_near.proofs.replaced_json.push_all_replaced.Given as goal
 

@@ -2,7 +2,7 @@ use Rattle.std.proofs.Common.{List, ℕ, ◌++◌, ◌∷◌, [], codes, refl}
 use Rattle.std.proofs.lemmas.Result.{on_ok_weaker}
 use Rattle.json.specs.Json.{Json}
 use Rattle.json.specs.Token.{begin_object}
-use Rattle.hwdb_spec.specs.Json.{answer_members, text_json}
+use Rattle.hwdb_spec_commands.specs.Json.{answer_members, text_json}
 use Rattle.hwdb_show.specs.Lemmas.Json.{member_behind, members_behind, no_members_yet, object_closed}
 use Rattle.hwdb_near.specs.Views.{assignment_of}
 use Rattle.hwdb_near.proofs.replaced_json.put_assignment.Goals as goal

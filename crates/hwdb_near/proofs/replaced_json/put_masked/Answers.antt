@@ -2,7 +2,7 @@ use Rattle.std.proofs.Common.{List, ℕ, ◌++◌, ◌∷◌, [], codes, refl}
 use Rattle.std.proofs.lemmas.Result.{on_ok_weaker}
 use Rattle.json.specs.Json.{Json}
 use Rattle.json.specs.Token.{begin_object}
-use Rattle.hwdb_spec.specs.Json.{text_json}
+use Rattle.hwdb_spec_commands.specs.Json.{text_json}
 use Rattle.hwdb_show.specs.Lemmas.Json.{member_behind, no_members_yet, object_closed}
 use Rattle.hwdb_near.proofs.replaced_json.put_masked.Goals as goal
 

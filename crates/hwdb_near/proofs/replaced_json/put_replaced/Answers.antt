@@ -2,8 +2,8 @@ use Rattle.std.proofs.Common.{List, ℕ, ◌++◌, ◌∷◌, [], codes, refl}
 use Rattle.std.proofs.lemmas.Result.{on_ok_weaker}
 use Rattle.json.specs.Json.{Json}
 use Rattle.json.specs.Token.{begin_object}
-use Rattle.hwdb_spec.specs.Json.{text_json}
-use Rattle.hwdb_spec.specs.Replacements.{assignment_json}
+use Rattle.hwdb_spec_commands.specs.Json.{text_json}
+use Rattle.hwdb_spec_commands.specs.Replacements.{assignment_json}
 use Rattle.hwdb_show.specs.Lemmas.Json.{key_value, member_behind, no_members_yet, object_closed}
 use Rattle.hwdb_near.specs.Views.{assignment_of}
 use Rattle.hwdb_near.proofs.replaced_json.put_replaced.Goals as goal

@@ -1,5 +1,5 @@
 use Rattle.std.proofs.Common.{◌≡◌, ◌∙◌, ap, arith, drop, map, ℕ}
-use Rattle.hwdb_spec.specs.Replacements.{replacements}
+use Rattle.hwdb_spec_commands.specs.Replacements.{replacements}
 use Rattle.hwdb_near.specs.Views.{assignment_of, replacement_of}
 use Rattle.hwdb_near.proofs.NearestLemmas.{map_reverse}
 use Rattle.hwdb_near.proofs.ReplacedLemmas.{taken_none}

@@ -1,6 +1,6 @@
 use Rattle.std.proofs.Common.{◌∙◌, ◌++◌}
 use Rattle.std.proofs.lemmas.Result.{on_ok_weaker}
-use Rattle.hwdb_spec.specs.Near.{why_text}
+use Rattle.hwdb_spec_commands.specs.Near.{why_text}
 use Rattle.hwdb_near.specs.Views.{front_at, pattern_at}
 use Rattle.hwdb_near.proofs.ReportLemmas.{near_written}
 use Rattle.hwdb_near.proofs.reports.push_near.Goals as goal

@@ -1,6 +1,6 @@
 use Rattle.std.proofs.Common.{◌≡◌, ◌++◌, take, map}
 use Rattle.std.specs.Prelude.{flat_map}
-use Rattle.hwdb_spec.specs.Near.{near_report}
+use Rattle.hwdb_spec_commands.specs.Near.{near_report}
 use Rattle.hwdb_near.specs.Internal.Ratings.{rated_of}
 use Rattle.hwdb_near.proofs.reports.push_nearest.Given as goal
 

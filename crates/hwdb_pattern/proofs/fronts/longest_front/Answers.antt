@@ -1,5 +1,5 @@
 use Rattle.std.proofs.Common.{map, refl, sym, subst, take, ℕ}
-use Rattle.hwdb_spec.specs.Near.{Stops}
+use Rattle.hwdb_spec.specs.Fronts.{Stops}
 use Rattle.hwdb_pattern.specs.Fronts.{token_of}
 use Rattle.hwdb_pattern.specs.Internal.Met.{lengths_of}
 use Rattle.hwdb_pattern.proofs.FrontLemmas.{again, has_one, is_stop}

@@ -1,5 +1,5 @@
 use Rattle.std.proofs.Common.{◌≡◌, ◌≤◌, ◌-◌, drop, length}
-use Rattle.hwdb_spec.specs.Properties.{is_near}
+use Rattle.hwdb_spec_commands.specs.Properties.{is_near}
 use Rattle.hwdb_properties.proofs.names.is_near.Given as goal
 
 abbrev pub invariant-loop-at : goal.invariant-loop-at

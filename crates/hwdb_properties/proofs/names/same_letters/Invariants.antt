@@ -1,5 +1,5 @@
 use Rattle.std.proofs.Common.{◌≡◌, ◌≤◌, ◌-◌, drop, length}
-use Rattle.hwdb_spec.specs.Properties.{same_letters}
+use Rattle.hwdb_spec_commands.specs.Properties.{same_letters}
 use Rattle.hwdb_properties.proofs.names.same_letters.Given as goal
 
 abbrev pub invariant-loop-at : goal.invariant-loop-at

@@ -1,6 +1,6 @@
 use Rattle.std.proofs.Common.{◌≡◌, drop}
 use Rattle.std.specs.List.{list_all}
-use Rattle.hwdb_spec.specs.Properties.{is_hex_digit}
+use Rattle.hwdb_spec_commands.specs.Properties.{is_hex_digit}
 use Rattle.hwdb_properties.proofs.numbers.is_hex.Given as goal
 
 abbrev pub invariant-loop-byte : goal.invariant-loop-byte

@@ -1,5 +1,5 @@
 use Rattle.std.proofs.Common.{◌∙◌, ap}
-use Rattle.hwdb_spec.specs.Properties.{compared_part, first_row, is_near, word}
+use Rattle.hwdb_spec_commands.specs.Properties.{compared_part, first_row, is_near, word}
 use Rattle.hwdb_properties.proofs.remarks.near_row.Goals as goal
 
 pub returns : goal.returns

@@ -1,6 +1,6 @@
 use Rattle.std.proofs.Common.{◌≡◌, find, []}
 use Rattle.std.specs.Option.{unwrap_or}
-use Rattle.hwdb_spec.specs.Properties.{first_row}
+use Rattle.hwdb_spec_commands.specs.Properties.{first_row}
 use Rattle.hwdb_text.specs.PiecesLeft.{lines_left}
 use Rattle.hwdb_properties.specs.Internal.{passes}
 use Rattle.hwdb_properties.proofs.rows.first_row.Given as goal

@@ -1,5 +1,5 @@
 use Rattle.std.proofs.Common.{◌∙◌, ap}
-use Rattle.hwdb_spec.specs.Properties.{first_row, is_for}
+use Rattle.hwdb_spec_commands.specs.Properties.{first_row, is_for}
 use Rattle.hwdb_properties.proofs.surroundings.companions_row.Goals as goal
 
 pub returns : goal.returns

@@ -1,6 +1,6 @@
 use Rattle.std.proofs.Common.{◌≡◌}
 use Rattle.std.specs.List.{list_any}
-use Rattle.hwdb_spec.specs.Properties.{has_zero_row, is_zero_row}
+use Rattle.hwdb_spec_commands.specs.Properties.{has_zero_row, is_zero_row}
 use Rattle.hwdb_text.specs.PiecesLeft.{pieces_left}
 use Rattle.hwdb_properties.proofs.values.has_zero_row.Given as goal
 

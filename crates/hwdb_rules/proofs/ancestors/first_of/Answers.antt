@@ -1,5 +1,5 @@
 use Rattle.std.proofs.Common.{◌∙◌, ◌≡◌, ◌+◌, ap, arith, map, suc, sym}
-use Rattle.hwdb_spec.specs.Sysfs.{first_at}
+use Rattle.hwdb_spec_commands.specs.Sysfs.{first_at}
 use Rattle.hwdb_rules.specs.Internal.{passes}
 use Rattle.hwdb_sysfs.specs.Views.{ancestor_of}
 use Rattle.hwdb_rules.proofs.AncestorLemmas.{first_here, first_later, no_first}

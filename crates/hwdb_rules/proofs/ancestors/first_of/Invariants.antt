@@ -1,5 +1,5 @@
 use Rattle.std.proofs.Common.{◌≡◌, ◌+◌, length, map}
-use Rattle.hwdb_spec.specs.Sysfs.{first_at}
+use Rattle.hwdb_spec_commands.specs.Sysfs.{first_at}
 use Rattle.hwdb_sysfs.specs.Views.{ancestor_of}
 use Rattle.hwdb_rules.specs.Internal.{passes}
 use Rattle.hwdb_rules.proofs.ancestors.first_of.Given as goal

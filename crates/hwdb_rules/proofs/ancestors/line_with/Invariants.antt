@@ -1,6 +1,6 @@
 use Rattle.std.proofs.Common.{◌≡◌, find, nat_eq}
 use Rattle.std.specs.List.{starts_with}
-use Rattle.hwdb_spec.specs.Sysfs.{line_with}
+use Rattle.hwdb_spec_commands.specs.Sysfs.{line_with}
 use Rattle.hwdb_text.specs.PiecesLeft.{lines_left}
 use Rattle.hwdb_rules.proofs.ancestors.line_with.Given as goal
 

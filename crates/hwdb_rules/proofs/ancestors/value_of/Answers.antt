@@ -1,6 +1,6 @@
 use Rattle.std.proofs.Common.{◌∙◌, ap, map, sym, Some}
 use Rattle.hwdb_spec.specs.Folders.{same}
-use Rattle.hwdb_spec.specs.Sysfs.{value_of}
+use Rattle.hwdb_spec_commands.specs.Sysfs.{value_of}
 use Rattle.hwdb_sysfs.specs.Views.{attribute_of}
 use Rattle.hwdb_rules.proofs.AncestorLemmas.{no_value, value_here, value_later}
 use Rattle.hwdb_rules.proofs.ancestors.value_of.Goals as goal

@@ -1,5 +1,5 @@
 use Rattle.std.proofs.Common.{◌≡◌, length, map}
-use Rattle.hwdb_spec.specs.Sysfs.{value_of}
+use Rattle.hwdb_spec_commands.specs.Sysfs.{value_of}
 use Rattle.hwdb_sysfs.specs.Views.{attribute_of}
 use Rattle.hwdb_rules.proofs.ancestors.value_of.Given as goal
 

@@ -1,5 +1,5 @@
 use Rattle.std.proofs.Common.{◌∙◌, ◌-◌, ap, arith, sym}
-use Rattle.hwdb_spec.specs.Inputs.{after_words}
+use Rattle.hwdb_spec_commands.specs.Inputs.{after_words}
 use Rattle.hwdb_rules.proofs.BitLemmas.{words_end, words_step}
 use Rattle.hwdb_rules.proofs.inputs.after_words.Goals as goal
 

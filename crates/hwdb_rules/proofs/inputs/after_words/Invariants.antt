@@ -1,5 +1,5 @@
 use Rattle.std.proofs.Common.{◌≡◌}
-use Rattle.hwdb_spec.specs.Inputs.{after_words}
+use Rattle.hwdb_spec_commands.specs.Inputs.{after_words}
 use Rattle.hwdb_rules.proofs.inputs.after_words.Given as goal
 
 abbrev pub invariant-loop-more : goal.invariant-loop-more

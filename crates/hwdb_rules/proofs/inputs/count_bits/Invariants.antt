@@ -1,5 +1,5 @@
 use Rattle.std.proofs.Common.{◌≡◌, ◌≤◌, ◌-◌}
-use Rattle.hwdb_spec.specs.Inputs.{count_bits}
+use Rattle.hwdb_spec_commands.specs.Inputs.{count_bits}
 use Rattle.hwdb_rules.proofs.inputs.count_bits.Given as goal
 
 abbrev pub invariant-loop-seen : goal.invariant-loop-seen

@@ -1,6 +1,6 @@
 use Rattle.std.proofs.Common.{◌≡◌, ◌≤◌, length, take}
 use Rattle.std.specs.Prelude.{filter}
-use Rattle.hwdb_spec.specs.Inputs.{has_bit}
+use Rattle.hwdb_spec_commands.specs.Inputs.{has_bit}
 use Rattle.hwdb_rules.proofs.inputs.count_of.Given as goal
 
 abbrev pub invariant-loop-bit : goal.invariant-loop-bit

@@ -1,5 +1,5 @@
 use Rattle.std.proofs.Common.{◌≡◌, take}
-use Rattle.hwdb_spec.specs.Lookups.{without_colons}
+use Rattle.hwdb_spec_commands.specs.Lookups.{without_colons}
 use Rattle.hwdb_rules.proofs.late.without_colons.Given as goal
 
 abbrev pub invariant-loop-byte : goal.invariant-loop-byte

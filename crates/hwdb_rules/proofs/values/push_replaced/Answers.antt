@@ -1,5 +1,5 @@
 use Rattle.std.proofs.Common.{◌∙◌, ◌∷◌, ap, arith, sym}
-use Rattle.hwdb_spec.specs.Sysfs.{replaced}
+use Rattle.hwdb_spec_commands.specs.Sysfs.{replaced}
 use Rattle.hwdb_rules.proofs.ValueLemmas.{kept_step, many_step, one_step, put_step, written_end}
 use Rattle.hwdb_rules.proofs.values.push_replaced.Goals as goal
 

@@ -1,5 +1,5 @@
 use Rattle.std.proofs.Common.{◌≡◌, ◌++◌, length}
-use Rattle.hwdb_spec.specs.Sysfs.{replaced}
+use Rattle.hwdb_spec_commands.specs.Sysfs.{replaced}
 use Rattle.hwdb_rules.proofs.values.push_replaced.Given as goal
 
 abbrev pub invariant-writing : goal.invariant-writing

@@ -1,5 +1,5 @@
 use Rattle.std.proofs.Common.{sym, ◌∙◌, arith, ◌≡◌, ℕ, subst, take}
-use Rattle.hwdb_spec.specs.Sysfs.{cut_back}
+use Rattle.hwdb_spec_commands.specs.Sysfs.{cut_back}
 use Rattle.hwdb_rules.specs.Internal.{is_cut}
 use Rattle.hwdb_rules.proofs.ValueLemmas.{cut_more, cut_here, cut_none}
 use Rattle.hwdb_rules.proofs.values.without_ends.Goals as goal

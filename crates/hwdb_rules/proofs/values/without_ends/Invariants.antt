@@ -1,5 +1,5 @@
 use Rattle.std.proofs.Common.{◌≡◌, ◌≤◌, length, take}
-use Rattle.hwdb_spec.specs.Sysfs.{cut_back}
+use Rattle.hwdb_spec_commands.specs.Sysfs.{cut_back}
 use Rattle.hwdb_rules.specs.Internal.{is_cut}
 use Rattle.hwdb_rules.proofs.values.without_ends.Given as goal
 

@@ -1,4 +1,4 @@
-use Rattle.hwdb_spec.specs.declared.colours.LinePart.TheVariants as part
+use Rattle.hwdb_spec_commands.specs.declared.colours.LinePart.TheVariants as part
 use Rattle.hwdb_show.proofs.ColourLemmas.{plain_kept, same_bytes, taken_out}
 use Rattle.hwdb_show.proofs.colours.colours_are_taken_out.Goals as goal
 

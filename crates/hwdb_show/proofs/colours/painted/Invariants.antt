@@ -1,5 +1,5 @@
 use Rattle.std.proofs.Common.{◌≡◌, ◌++◌, drop}
-use Rattle.hwdb_spec.specs.Colours.{painted, painted_after, style_of, styled_after}
+use Rattle.hwdb_spec_commands.specs.Colours.{painted, painted_after, style_of, styled_after}
 use Rattle.hwdb_show.proofs.colours.painted.Given as goal
 
 abbrev pub invariant-painting : goal.invariant-painting

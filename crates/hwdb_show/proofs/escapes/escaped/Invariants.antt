@@ -1,5 +1,5 @@
 use Rattle.std.proofs.Common.{◌≡◌, ◌++◌, drop}
-use Rattle.hwdb_spec.specs.Json.{escaped_after}
+use Rattle.hwdb_spec_commands.specs.Json.{escaped_after}
 use Rattle.std.proofs.Common.{false}
 use Rattle.hwdb_show.proofs.escapes.escaped.Given as goal
 

@@ -1,6 +1,6 @@
 use Rattle.std.proofs.Common.{◌+◌, ◌++◌, ◌∙◌, Bool, ap, drop, sym}
 use Rattle.std.specs.Prelude.{slice_index}
-use Rattle.hwdb_spec.specs.Json.{begins_control, escaped_after}
+use Rattle.hwdb_spec_commands.specs.Json.{begins_control, escaped_after}
 use Rattle.hwdb_show.proofs.EscapeLemmas.{step_first, step_second}
 use Rattle.hwdb_show.proofs.VisibleLemmas.{slice_is}
 use Rattle.hwdb_show.proofs.escapes.push_at.Goals as goal

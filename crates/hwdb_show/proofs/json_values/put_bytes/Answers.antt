@@ -1,7 +1,7 @@
 use Rattle.std.proofs.Common.{ap, arith, map, take}
 use Rattle.std.proofs.lemmas.List.{take_all}
 use Rattle.std.proofs.lemmas.Result.{on_ok_weaker}
-use Rattle.hwdb_spec.specs.Json.{number_json}
+use Rattle.hwdb_spec_commands.specs.Json.{number_json}
 use Rattle.hwdb_show.specs.Lemmas.Json.{array_closed}
 use Rattle.hwdb_show.proofs.json_values.put_bytes.Goals as goal
 

@@ -1,7 +1,7 @@
 use Rattle.std.proofs.Common.{◌≡◌, ◌∷◌, ◌++◌, [], flat_map, take, map}
 use Rattle.json.specs.Token.{begin_array}
 use Rattle.json.specs.Tree.{json_tokens}
-use Rattle.hwdb_spec.specs.Json.{number_json}
+use Rattle.hwdb_spec_commands.specs.Json.{number_json}
 use Rattle.hwdb_show.proofs.json_values.put_bytes.Given as goal
 
 abbrev pub invariant-loop-byte : goal.invariant-loop-byte

@@ -1,5 +1,5 @@
 use Rattle.std.proofs.Common.{◌≡◌, ◌++◌, take}
-use Rattle.hwdb_spec.specs.Reports.{shown}
+use Rattle.hwdb_spec_commands.specs.Reports.{shown}
 use Rattle.hwdb_show.proofs.shown.push_shown.Given as goal
 
 abbrev pub invariant-loop-byte : goal.invariant-loop-byte

@@ -1,5 +1,5 @@
 use Rattle.std.proofs.Common.{◌∙◌, ◌++◌, ◌∷◌, [], ap, append_assoc, add-one}
-use Rattle.hwdb_spec.specs.Reports.{spaces}
+use Rattle.hwdb_spec_commands.specs.Reports.{spaces}
 use Rattle.hwdb_show.proofs.ShownLemmas.{one_more_space}
 use Rattle.hwdb_show.proofs.shown.push_spaces.Goals as goal
 

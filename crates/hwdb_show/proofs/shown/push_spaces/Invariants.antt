@@ -1,5 +1,5 @@
 use Rattle.std.proofs.Common.{◌≡◌, ◌++◌, take}
-use Rattle.hwdb_spec.specs.Reports.{spaces}
+use Rattle.hwdb_spec_commands.specs.Reports.{spaces}
 use Rattle.hwdb_show.proofs.shown.push_spaces.Given as goal
 
 abbrev pub invariant-loop-byte : goal.invariant-loop-byte

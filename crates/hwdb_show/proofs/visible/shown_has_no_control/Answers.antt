@@ -1,6 +1,6 @@
 use Rattle.std.proofs.Common.{false}
 use Rattle.hwdb_spec.specs.Visible.{visible}
-use Rattle.hwdb_spec.specs.declared.colours.LinePart.TheVariants as part
+use Rattle.hwdb_spec_commands.specs.declared.colours.LinePart.TheVariants as part
 use Rattle.hwdb_show.proofs.ColourLemmas.{taken_out}
 use Rattle.hwdb_show.proofs.VisibleLemmas.{kept_after, no_escape, rows_are, same_shown}
 use Rattle.hwdb_show.proofs.visible.shown_has_no_control.Goals as goal

@@ -1,6 +1,6 @@
 use Rattle.std.proofs.Common.{◌≡◌, take}
 use Rattle.std.specs.List.{list_all}
-use Rattle.hwdb_spec.specs.Commands.{is_bare_byte}
+use Rattle.hwdb_spec_commands.specs.Commands.{is_bare_byte}
 use Rattle.hwdb_show.proofs.words.is_bare.Given as goal
 
 abbrev pub invariant-loop-byte : goal.invariant-loop-byte

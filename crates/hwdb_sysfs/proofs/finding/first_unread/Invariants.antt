@@ -1,6 +1,6 @@
 use Rattle.std.proofs.Common.{◌≡◌, length, map}
-use Rattle.hwdb_spec.specs.DeviceTree as tree
-use Rattle.hwdb_spec.specs.SysfsAnswers.{seen}
+use Rattle.hwdb_spec_commands.specs.DeviceTree as tree
+use Rattle.hwdb_spec_commands.specs.SysfsAnswers.{seen}
 use Rattle.hwdb_sysfs.proofs.finding.first_unread.Given as goal
 
 abbrev pub invariant-paths : goal.invariant-paths

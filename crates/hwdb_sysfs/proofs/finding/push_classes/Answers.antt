@@ -1,7 +1,7 @@
 use Rattle.std.proofs.Common.{◌≡◌, ◌++◌, List, ap, map, ℕ, ◌∙◌}
-use Rattle.hwdb_spec.specs.DeviceTree.{names_in}
+use Rattle.hwdb_spec_commands.specs.DeviceTree.{names_in}
 use Rattle.hwdb_spec.specs.Store.{path_in}
-use Rattle.hwdb_spec.specs.SysfsAnswers.{seen}
+use Rattle.hwdb_spec_commands.specs.SysfsAnswers.{seen}
 use Rattle.hwdb_sysfs.proofs.LinkLemmas.{named_all}
 use Rattle.hwdb_sysfs.proofs.finding.push_classes.Goals as goal
 use Rattle.hwdb_sysfs.specs.Lemmas.Names.{items}

@@ -1,6 +1,6 @@
 use Rattle.std.proofs.Common.{ap, append-nil, codes, map, sym, List, ◌++◌, ℕ, ◌∙◌, Vec, Global}
-use Rattle.hwdb_spec.specs.DeviceTree.{links_in, other_links}
-use Rattle.hwdb_spec.specs.SysfsAnswers.{seen}
+use Rattle.hwdb_spec_commands.specs.DeviceTree.{links_in, other_links}
+use Rattle.hwdb_spec_commands.specs.SysfsAnswers.{seen}
 use Rattle.hwdb_sysfs.proofs.LinkLemmas.{others_more}
 use Rattle.hwdb_sysfs.proofs.listing.list_links.Goals as goal
 use Rattle.hwdb_sysfs.specs.Lemmas.Names.{items}

@@ -1,6 +1,6 @@
 use Rattle.std.proofs.Common.{◌≡◌, ◌++◌, codes, flat_map, map, take}
-use Rattle.hwdb_spec.specs.DeviceTree as tree
-use Rattle.hwdb_spec.specs.SysfsAnswers.{seen}
+use Rattle.hwdb_spec_commands.specs.DeviceTree as tree
+use Rattle.hwdb_spec_commands.specs.SysfsAnswers.{seen}
 use Rattle.hwdb_sysfs.proofs.listing.list_links.Given as goal
 
 abbrev pub invariant-loop-folder : goal.invariant-loop-folder

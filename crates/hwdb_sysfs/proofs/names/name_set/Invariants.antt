@@ -1,7 +1,7 @@
 use Rattle.std.proofs.Common.{◌≡◌, filter, map}
 use Rattle.hwdb_spec.specs.Assignment.{in_order, put_all, text_cmp}
 use Rattle.hwdb_text.specs.PiecesLeft.{pieces_left}
-use Rattle.hwdb_spec.specs.SysfsAnswers.{leads_on, names_listed}
+use Rattle.hwdb_spec_commands.specs.SysfsAnswers.{leads_on, names_listed}
 use Rattle.hwdb_sysfs.proofs.names.name_set.Given as goal
 
 abbrev pub invariant-loop-name : goal.invariant-loop-name

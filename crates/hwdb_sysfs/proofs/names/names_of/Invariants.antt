@@ -1,6 +1,6 @@
 use Rattle.std.proofs.Common.{◌≡◌, ◌++◌, length, map}
 use Rattle.hwdb_spec.specs.Assignment.{in_order, text_cmp}
-use Rattle.hwdb_spec.specs.SysfsAnswers.{names_listed}
+use Rattle.hwdb_spec_commands.specs.SysfsAnswers.{names_listed}
 use Rattle.hwdb_sysfs.proofs.names.names_of.Given as goal
 
 abbrev pub invariant-names : goal.invariant-names

@@ -1,6 +1,6 @@
 use Rattle.std.proofs.Common.{◌≡◌, ◌∷◌, Global, List, Vec, ap, flat_map, map, rules, sym, ℕ, ◌∙◌}
-use Rattle.hwdb_spec.specs.DeviceTree.{names_in, nearest_of}
-use Rattle.hwdb_spec.specs.SysfsAnswers.{seen}
+use Rattle.hwdb_spec_commands.specs.DeviceTree.{names_in, nearest_of}
+use Rattle.hwdb_spec_commands.specs.SysfsAnswers.{seen}
 use Rattle.hwdb_sysfs.proofs.NearLemmas.{nearest_after}
 use Rattle.hwdb_sysfs.proofs.near.near_name.Goals as goal
 use Rattle.hwdb_sysfs.specs.Lemmas.Names.{items}

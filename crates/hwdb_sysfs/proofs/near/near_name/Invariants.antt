@@ -1,6 +1,6 @@
 use Rattle.std.proofs.Common.{◌≡◌, [], flat_map, length, map}
-use Rattle.hwdb_spec.specs.DeviceTree as tree
-use Rattle.hwdb_spec.specs.SysfsAnswers.{seen}
+use Rattle.hwdb_spec_commands.specs.DeviceTree as tree
+use Rattle.hwdb_spec_commands.specs.SysfsAnswers.{seen}
 use Rattle.hwdb_sysfs.proofs.near.near_name.Given as goal
 
 abbrev pub invariant-folders : goal.invariant-folders

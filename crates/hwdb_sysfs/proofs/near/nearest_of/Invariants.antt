@@ -1,5 +1,5 @@
 use Rattle.std.proofs.Common.{◌≡◌, length, map}
-use Rattle.hwdb_spec.specs.DeviceTree as tree
+use Rattle.hwdb_spec_commands.specs.DeviceTree as tree
 use Rattle.hwdb_sysfs.proofs.near.nearest_of.Given as goal
 
 abbrev pub invariant-names : goal.invariant-names

@@ -1,5 +1,5 @@
 use Rattle.std.proofs.Common.{◌≡◌, []}
-use Rattle.hwdb_spec.specs.DeviceTree.{last_after}
+use Rattle.hwdb_spec_commands.specs.DeviceTree.{last_after}
 use Rattle.hwdb_spec.specs.Lines.{is, pieces}
 use Rattle.hwdb_text.specs.PiecesLeft.{pieces_left}
 use Rattle.hwdb_sysfs.proofs.paths.last_name.Given as goal

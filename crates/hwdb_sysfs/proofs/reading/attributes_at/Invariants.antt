@@ -1,9 +1,9 @@
 use Rattle.std.proofs.Common.{◌≡◌, ◌++◌, map}
 use Rattle.std.specs.Prelude.{filter_map}
-use Rattle.hwdb_spec.specs.DeviceTree as tree
+use Rattle.hwdb_spec_commands.specs.DeviceTree as tree
 use Rattle.hwdb_spec.specs.Lines.{is, pieces}
 use Rattle.hwdb_text.specs.PiecesLeft.{lines_left}
-use Rattle.hwdb_spec.specs.SysfsAnswers.{seen}
+use Rattle.hwdb_spec_commands.specs.SysfsAnswers.{seen}
 use Rattle.hwdb_sysfs.specs.Views.{attribute_of}
 use Rattle.hwdb_sysfs.proofs.reading.attributes_at.Given as goal
 

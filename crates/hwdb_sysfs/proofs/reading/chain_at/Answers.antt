@@ -1,8 +1,8 @@
 use Rattle.std.proofs.Common.{arith, ap, map, List, ◌++◌, [], ◌∙◌, ◌-◌}
 use Rattle.std.specs.List.{cons_option}
-use Rattle.hwdb_spec.specs.DeviceTree.{ancestor_below}
+use Rattle.hwdb_spec_commands.specs.DeviceTree.{ancestor_below}
 use Rattle.hwdb_spec.specs.Lines.{is, pieces}
-use Rattle.hwdb_spec.specs.SysfsAnswers.{seen}
+use Rattle.hwdb_spec_commands.specs.SysfsAnswers.{seen}
 use Rattle.hwdb_sysfs.specs.Views.{ancestor_of}
 use Rattle.hwdb_sysfs.specs.declared.device.Ancestor.{Ancestor}
 use Rattle.hwdb_sysfs.proofs.ChainLemmas.{chain_begins, chain_ends, chain_more}

@@ -1,8 +1,8 @@
 use Rattle.std.proofs.Common.{◌≡◌, ◌++◌, ◌∷◌, ◌≤◌, length, map, reverse, take}
 use Rattle.std.specs.Prelude.{filter_map}
-use Rattle.hwdb_spec.specs.DeviceTree as tree
+use Rattle.hwdb_spec_commands.specs.DeviceTree as tree
 use Rattle.hwdb_spec.specs.Lines.{is, pieces}
-use Rattle.hwdb_spec.specs.SysfsAnswers.{seen}
+use Rattle.hwdb_spec_commands.specs.SysfsAnswers.{seen}
 use Rattle.hwdb_sysfs.specs.Views.{ancestor_of}
 use Rattle.hwdb_sysfs.proofs.reading.chain_at.Given as goal
 

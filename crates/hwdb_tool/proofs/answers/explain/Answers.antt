@@ -1,11 +1,11 @@
 use Rattle.std.proofs.Common.{◌∙◌, inl, subst, sym, IfErr, IfOk, [], ◌∷◌}
-use Rattle.hwdb_spec.specs.declared.form.Form.TheVariants.{Explain}
-use Rattle.hwdb_spec.specs.Given.{is_dash}
-use Rattle.hwdb_spec.specs.Runs.{told_by}
-use Rattle.hwdb_spec.specs.Reasons.{HasAskedReason}
+use Rattle.hwdb_spec_commands.specs.declared.form.Form.TheVariants.{Explain}
+use Rattle.hwdb_spec_commands.specs.Given.{is_dash}
+use Rattle.hwdb_spec_commands.specs.Runs.{told_by}
+use Rattle.hwdb_spec_commands.specs.Reasons.{HasAskedReason}
 use Rattle.hwdb_tool.proofs.AnswerLemmas.{printed_reason, unanswered_asked}
 use Rattle.hwdb_tool.proofs.ErrorLemmas.{both_errors}
-use Rattle.hwdb_spec.specs.Queries.{AreDone, AreUnanswered}
+use Rattle.hwdb_spec_commands.specs.Queries.{AreDone, AreUnanswered}
 use Rattle.hwdb_tool.proofs.PrintingLemmas.{streamed_done, streamed_refused}
 use Rattle.hwdb_tool.proofs.answers.explain.Goals as goal
 

@@ -1,7 +1,7 @@
 use Rattle.std.proofs.Common.{◌∙◌, ap, inl, inr, ⊎_elim, string_bytes, subst, sym, Err, Some, ◌≤◌, length, List, ℕ}
 use Rattle.hwdb_spec.specs.Texts.{max_file}
-use Rattle.hwdb_spec.specs.Refusals.{IsOfDatabase}
-use Rattle.hwdb_spec.specs.Runs.{told_by}
+use Rattle.hwdb_spec_commands.specs.Refusals.{IsOfDatabase}
+use Rattle.hwdb_spec_commands.specs.Runs.{told_by}
 use Rattle.hwdb_tool.proofs.answers.list.Goals as goal
 
 pub returns-in-Ok-clause-answered : goal.returns-in-Ok-clause-answered

@@ -1,5 +1,5 @@
 use Rattle.std.proofs.Common.{◌∙◌, sym, IfErr}
-use Rattle.hwdb_spec.specs.Undone.{IsCheckRefused}
+use Rattle.hwdb_spec_commands.specs.Undone.{IsCheckRefused}
 use Rattle.hwdb_tool.proofs.CheckLemmas.{some_given}
 use Rattle.hwdb_tool.proofs.checks.check.Goals as goal
 

@@ -1,8 +1,8 @@
 use Rattle.std.proofs.Common.{map, string_bytes, ap, ◌∙◌, ◌≡◌}
 use Rattle.hwdb_spec.specs.Folders.{path_of}
 use Rattle.hwdb_text.specs.Views.{choice_of}
-use Rattle.hwdb_spec.specs.CheckedFiles.{AreChosenFiles}
-use Rattle.hwdb_spec.specs.Reading.{AreUnread}
+use Rattle.hwdb_spec_commands.specs.CheckedFiles.{AreChosenFiles}
+use Rattle.hwdb_spec_commands.specs.Reading.{AreUnread}
 use Rattle.hwdb_tool.proofs.CheckLemmas.{all_checked, chosen_sources, not_checked}
 use Rattle.hwdb_tool.proofs.checks.check_chosen.Goals as goal
 

@@ -1,10 +1,10 @@
 use Rattle.std.proofs.Common.{map, string_bytes, subst, sym, ap, true, ◌∙◌, ◌≡◌}
 use Rattle.std.proofs.lemmas.List.Elements.{All-map}
 use Rattle.hwdb_spec.specs.Errors.{refusal_of_scan}
-use Rattle.hwdb_spec.specs.Given.{any_dash}
-use Rattle.hwdb_spec.specs.CheckedFiles.{AreGivenFiles}
-use Rattle.hwdb_spec.specs.Reasons.{HasFilesReason}
-use Rattle.hwdb_spec.specs.Undone.{IsGivenUnread}
+use Rattle.hwdb_spec_commands.specs.Given.{any_dash}
+use Rattle.hwdb_spec_commands.specs.CheckedFiles.{AreGivenFiles}
+use Rattle.hwdb_spec_commands.specs.Reasons.{HasFilesReason}
+use Rattle.hwdb_spec_commands.specs.Undone.{IsGivenUnread}
 use Rattle.hwdb_tool.proofs.CheckLemmas.{IsShort, all_checked, given_sources, not_checked, told_of}
 use Rattle.hwdb_tool.proofs.GivenLemmas.{files_reason, input_read, pathless_reason, whole_reason}
 use Rattle.hwdb_tool.proofs.checks.check_given.Goals as goal

@@ -1,9 +1,9 @@
 use Rattle.std.proofs.Common.{◌≡◌, false, inl, inr, map, string_bytes, subst, sym}
-use Rattle.hwdb_spec.specs.CheckedFiles.{AreNamedFiles, StandFor}
-use Rattle.hwdb_spec.specs.Given.{any_dash}
-use Rattle.hwdb_spec.specs.CheckedReasons.{HasNamedReason}
-use Rattle.hwdb_spec.specs.GivenFolders.{IsNamedUnread}
-use Rattle.hwdb_spec.specs.Undone.{IsCheckRefused, IsGivenUnread}
+use Rattle.hwdb_spec_commands.specs.CheckedFiles.{AreNamedFiles, StandFor}
+use Rattle.hwdb_spec_commands.specs.Given.{any_dash}
+use Rattle.hwdb_spec_program.specs.CheckedReasons.{HasNamedReason}
+use Rattle.hwdb_spec_commands.specs.GivenFolders.{IsNamedUnread}
+use Rattle.hwdb_spec_commands.specs.Undone.{IsCheckRefused, IsGivenUnread}
 use Rattle.hwdb_tool.proofs.CheckLemmas.{named_checked, named_refused}
 use Rattle.hwdb_tool.proofs.checks.check_named.Goals as goal
 use Rattle.hwdb_spec.specs.Lemmas.Calls.{each_error, given_error}

@@ -1,14 +1,14 @@
 use Rattle.std.proofs.Common.{All, Global, String, Vec, [], ap, inr, length, map, rules, string_bytes, subst, sym, ◌++◌, ◌∙◌, ◌∷◌, ◌≡◌, ◌≤◌, ◌⊎◌, false, Some, ℕ}
 use Rattle.std.proofs.lemmas.List.{map-append}
 use Rattle.std.proofs.lemmas.List.Elements.{All-more, All-push}
-use Rattle.hwdb_spec.specs.Refusals.{IsUnread, IsUnreadAt}
-use Rattle.hwdb_spec.specs.declared.refusals.Refusal.TheVariants.{Plain}
+use Rattle.hwdb_spec_commands.specs.Refusals.{IsUnread, IsUnreadAt}
+use Rattle.hwdb_spec_commands.specs.declared.refusals.Refusal.TheVariants.{Plain}
 use Rattle.hwdb_spec.specs.declared.errors.ToolError.TheVariants.{Memory}
-use Rattle.hwdb_spec.specs.Given.{is_dash}
+use Rattle.hwdb_spec_commands.specs.Given.{is_dash}
 use Rattle.hwdb_spec.specs.Texts.{max_file}
 use Rattle.hwdb_tool.specs.Internal.{bytes_given}
-use Rattle.hwdb_spec.specs.Reasons.{IsFileReason, IsReadGiven}
-use Rattle.hwdb_spec.specs.Undone.{IsGivenUnread, told_path}
+use Rattle.hwdb_spec_commands.specs.Reasons.{IsFileReason, IsReadGiven}
+use Rattle.hwdb_spec_commands.specs.Undone.{IsGivenUnread, told_path}
 use Rattle.hwdb_tool.proofs.CheckLemmas.{first_given, given_unread, read_given, texts_given_more}
 use Rattle.hwdb_tool.proofs.GivenLemmas.{of_given}
 use Rattle.hwdb_tool.proofs.checks.read_given.Goals as goal

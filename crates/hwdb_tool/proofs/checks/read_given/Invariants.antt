@@ -1,7 +1,7 @@
 use Rattle.std.proofs.Common.{◌≡◌, ◌≤◌, All, Global, String, map, length, take, string_bytes}
 use Rattle.hwdb_spec.specs.Texts.{max_file}
 use Rattle.hwdb_tool.specs.Internal.{AreTextsGiven}
-use Rattle.hwdb_spec.specs.Reasons.{IsReadGiven}
+use Rattle.hwdb_spec_commands.specs.Reasons.{IsReadGiven}
 use Rattle.hwdb_tool.proofs.checks.read_given.Given as goal
 
 abbrev pub invariant-loop-path : goal.invariant-loop-path

@@ -1,7 +1,7 @@
 use Rattle.std.proofs.Common.{◌≡◌, ◌∙◌, ap, false, sym, ⊎_elim}
-use Rattle.hwdb_spec.specs.Colours.{without_sequences}
+use Rattle.hwdb_spec_commands.specs.Colours.{without_sequences}
 use Rattle.hwdb_spec.specs.Visible.{are_kept, visible}
-use Rattle.hwdb_spec.specs.declared.colours.TextKind.TheVariants.{Plain}
+use Rattle.hwdb_spec_commands.specs.declared.colours.TextKind.TheVariants.{Plain}
 use Rattle.hwdb_tool.proofs.coloured.terminals_get_no_control.Goals as goal
 
 pub returns : goal.returns

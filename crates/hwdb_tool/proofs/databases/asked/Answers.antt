@@ -1,8 +1,8 @@
 use Rattle.std.proofs.Common.{◌∙◌, ap, inl, inr, option_map, refl, string_bytes, sym, true, false, List, Ok, ℕ}
 use Rattle.hwdb_plan.specs.Lemmas.Asking.{first_found, first_stops, none_found, second_found, second_stops}
 use Rattle.hwdb_tool.specs.declared.databases.FoundDatabase.{FoundDatabase}
-use Rattle.hwdb_spec.specs.Undone.{IsUnfound}
-use Rattle.hwdb_spec.specs.Asked.{database_path}
+use Rattle.hwdb_spec_commands.specs.Undone.{IsUnfound}
+use Rattle.hwdb_spec_commands.specs.Asked.{database_path}
 use Rattle.hwdb_tool.proofs.AnswerLemmas.{unfound}
 use Rattle.hwdb_tool.proofs.databases.asked.Goals as goal
 use Rattle.hwdb_spec.specs.Lemmas.Calls.{given_error}

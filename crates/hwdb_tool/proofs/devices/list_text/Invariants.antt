@@ -1,7 +1,7 @@
 use Rattle.std.proofs.Common.{◌≡◌, flat_map, map, take}
-use Rattle.hwdb_spec.specs.DeviceAsked.{link_row}
-use Rattle.hwdb_spec.specs.SysfsAnswers.{sight_by}
-use Rattle.hwdb_spec.specs.DeviceErrors.{asked_names}
+use Rattle.hwdb_spec_commands.specs.DeviceAsked.{link_row}
+use Rattle.hwdb_spec_commands.specs.SysfsAnswers.{sight_by}
+use Rattle.hwdb_spec_program.specs.DeviceErrors.{asked_names}
 use Rattle.hwdb_tool.proofs.devices.list_text.Given as goal
 
 abbrev pub invariant-loop-link : goal.invariant-loop-link

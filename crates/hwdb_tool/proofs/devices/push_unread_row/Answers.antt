@@ -1,5 +1,5 @@
 use Rattle.std.proofs.Common.{codes, [], ◌∷◌, ◌∙◌}
-use Rattle.hwdb_spec.specs.DeviceTree.{kernel_name}
+use Rattle.hwdb_spec_commands.specs.DeviceTree.{kernel_name}
 use Rattle.hwdb_spec.specs.Lines.{byte}
 use Rattle.hwdb_tool.proofs.DeviceLemmas.{row_made}
 use Rattle.hwdb_tool.proofs.devices.push_unread_row.Goals as goal

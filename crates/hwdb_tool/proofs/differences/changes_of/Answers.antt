@@ -1,6 +1,6 @@
 use Rattle.std.proofs.Common.{ap, map, subst, sym, ℕ, IfOk, List, Option, ◌∙◌}
-use Rattle.hwdb_spec.specs.Comparisons.{comparison_form, has_changed}
-use Rattle.hwdb_spec.specs.Databases.{IsDiffText, IsDifferent}
+use Rattle.hwdb_spec_commands.specs.Comparisons.{comparison_form, has_changed}
+use Rattle.hwdb_spec_commands.specs.Databases.{IsDiffText, IsDifferent}
 use Rattle.hwdb_tool.proofs.ComparisonLemmas.{all_named}
 use Rattle.hwdb_tool.proofs.differences.changes_of.Goals as goal
 

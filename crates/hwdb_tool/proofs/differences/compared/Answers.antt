@@ -1,8 +1,8 @@
 use Rattle.std.proofs.Common.{List, inl, inr, map, subst, sym, ⊎_elim, ◌∙◌, ℕ}
-use Rattle.hwdb_lint.specs.Checks.{source_of}
-use Rattle.hwdb_spec.specs.ComparedDatabases.{IsSideGiven}
-use Rattle.hwdb_spec.specs.Comparisons.{comparison_form, devices_named}
-use Rattle.hwdb_spec.specs.Databases.{IsDiffText}
+use Rattle.hwdb_check.specs.Checks.{source_of}
+use Rattle.hwdb_spec_program.specs.ComparedDatabases.{IsSideGiven}
+use Rattle.hwdb_spec_commands.specs.Comparisons.{comparison_form, devices_named}
+use Rattle.hwdb_spec_commands.specs.Databases.{IsDiffText}
 use Rattle.hwdb_spec.specs.Lemmas.Calls.{given_error}
 use Rattle.hwdb_tool.specs.SideSteps.{IsGivenSideError, IsPairError}
 use Rattle.hwdb_tool.proofs.InputSideLemmas.{error_any, side_any}

@@ -1,5 +1,5 @@
 use Rattle.std.proofs.Common.{◌≡◌, map, take, flat_map}
-use Rattle.hwdb_lint.specs.Checks.{source_of}
+use Rattle.hwdb_check.specs.Checks.{source_of}
 use Rattle.hwdb_spec.specs.Folders.{Source}
 use Rattle.hwdb_spec.specs.Texts.{devices_of}
 use Rattle.hwdb_tool.proofs.differences.devices_in.Given as goal

@@ -1,11 +1,11 @@
 use Rattle.std.proofs.Common.{inl, inr, map, string_bytes, subst, sym, ap, true, false, ◌∙◌, ◌≡◌, IfErr, IfOk}
 use Rattle.std.proofs.lemmas.List.Elements.{All-map}
 use Rattle.std.proofs.lemmas.Result.{IfErr-weaker}
-use Rattle.hwdb_lint.specs.Checks.{source_of}
-use Rattle.hwdb_spec.specs.Given.{any_dash}
-use Rattle.hwdb_spec.specs.ComparedDatabases.{HasDiffReason, IsCompared, IsDiffRefused}
-use Rattle.hwdb_spec.specs.Comparisons.{comparison_form, devices_named, has_changed}
-use Rattle.hwdb_spec.specs.Runs.{OnOut}
+use Rattle.hwdb_check.specs.Checks.{source_of}
+use Rattle.hwdb_spec_commands.specs.Given.{any_dash}
+use Rattle.hwdb_spec_program.specs.ComparedDatabases.{HasDiffReason, IsCompared, IsDiffRefused}
+use Rattle.hwdb_spec_commands.specs.Comparisons.{comparison_form, devices_named, has_changed}
+use Rattle.hwdb_spec_commands.specs.Runs.{OnOut}
 use Rattle.hwdb_tool.specs.SideSteps.{IsPairError}
 use Rattle.hwdb_tool.specs.Views.{texts_in}
 use Rattle.hwdb_tool.proofs.CheckLemmas.{IsShort, given_sources, told_of}

@@ -1,5 +1,5 @@
 use Rattle.std.proofs.Common.{ap, sym, ◌∙◌}
-use Rattle.hwdb_spec.specs.Undone.{told_as}
+use Rattle.hwdb_spec_commands.specs.Undone.{told_as}
 use Rattle.hwdb_tool.proofs.differences.told_path.Goals as goal
 
 pub returns-then-is_dash : goal.returns-then-is_dash

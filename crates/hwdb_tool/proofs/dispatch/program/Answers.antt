@@ -1,14 +1,14 @@
 use Rattle.std.proofs.Common.{inl, inr, ⊎_elim, ◌∙◌, arith, refl, [], subst, sym, map, string_bytes}
-use Rattle.hwdb_spec.specs.declared.job.WordsFault.TheVariants as words_fault
-use Rattle.hwdb_spec.specs.Runs.{AreKept, World, files_by, told_by}
+use Rattle.hwdb_spec_commands.specs.declared.job.WordsFault.TheVariants as words_fault
+use Rattle.hwdb_spec_commands.specs.Runs.{AreKept, World, files_by, told_by}
 use Rattle.hwdb_spec.specs.Store.{LeavesOnly}
-use Rattle.hwdb_spec.specs.SysfsAnswers.{sight_by}
+use Rattle.hwdb_spec_commands.specs.SysfsAnswers.{sight_by}
 use Rattle.hwdb_spec.specs.declared.errors.ToolError.TheVariants.{Memory, Write}
-use Rattle.hwdb_spec.specs.Refusals.{Refused}
-use Rattle.hwdb_spec.specs.declared.refusals.Refusal.TheVariants.{Plain}
-use Rattle.hwdb_spec.specs.declared.refusals.Refusal.{Refusal}
-use Rattle.hwdb_spec.specs.Program.{OldOrAskedFor, OldOrDone, asks_text, root_of}
-use Rattle.hwdb_spec.specs.TaskRefusals.{IsJobNotDone}
+use Rattle.hwdb_spec_commands.specs.Refusals.{Refused}
+use Rattle.hwdb_spec_commands.specs.declared.refusals.Refusal.TheVariants.{Plain}
+use Rattle.hwdb_spec_commands.specs.declared.refusals.Refusal.{Refusal}
+use Rattle.hwdb_spec_program.specs.Program.{OldOrAskedFor, OldOrDone, asks_text, root_of}
+use Rattle.hwdb_spec_program.specs.TaskRefusals.{IsJobNotDone}
 use Rattle.hwdb_tool.proofs.MomentLemmas.{leaves_more, leaves_old}
 use Rattle.hwdb_tool.proofs.CutLemmas.{cut_keeps_from}
 use Rattle.hwdb_tool.proofs.FlushLemmas.{handed_on, handed_on_twice}

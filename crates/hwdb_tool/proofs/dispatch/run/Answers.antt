@@ -1,30 +1,30 @@
 use Rattle.std.proofs.Common.{◌∷◌, ◌≡◌, ◌⊎◌, false, ap, inl, inr, ⊎_elim, refl, string_bytes, subst, sym, ◌==◌, length, map, not, IfOk, IfErr}
 use Rattle.std.specs.Prelude.{option_map}
-use Rattle.hwdb_spec.specs.declared.job.Task.TheVariants.{Ask, Check, Device, Diff, Dump, Near, Status, Test, Update, Verify}
-use Rattle.hwdb_spec.specs.Asked.{IsAnswered, IsDumped, IsListFrom, IsPrinted}
-use Rattle.hwdb_spec.specs.Databases.{IsSummary}
-use Rattle.hwdb_spec.specs.GivenDatabases.{HasDatabaseReason, OfNamed, names_input}
-use Rattle.hwdb_spec.specs.NamedDatabases.{IsDumpRefused, IsVerifyRefused}
-use Rattle.hwdb_spec.specs.CheckedFiles.{AreCheckedFiles, IsChecked}
-use Rattle.hwdb_spec.specs.Done.{IsAsked, IsLeftByUpdateLess, OldOrUpdatedLess}
-use Rattle.hwdb_spec.specs.Given.{any_dash, is_dash}
+use Rattle.hwdb_spec_commands.specs.declared.job.Task.TheVariants.{Ask, Check, Device, Diff, Dump, Near, Status, Test, Update, Verify}
+use Rattle.hwdb_spec_commands.specs.Asked.{IsAnswered, IsDumped, IsListFrom, IsPrinted}
+use Rattle.hwdb_spec_commands.specs.Databases.{IsSummary}
+use Rattle.hwdb_spec_program.specs.GivenDatabases.{HasDatabaseReason, OfNamed, names_input}
+use Rattle.hwdb_spec_program.specs.NamedDatabases.{IsDumpRefused, IsVerifyRefused}
+use Rattle.hwdb_spec_commands.specs.CheckedFiles.{AreCheckedFiles, IsChecked}
+use Rattle.hwdb_spec_commands.specs.Done.{IsAsked, IsLeftByUpdateLess, OldOrUpdatedLess}
+use Rattle.hwdb_spec_commands.specs.Given.{any_dash, is_dash}
 use Rattle.hwdb_spec.specs.Outputs.{TookOne}
-use Rattle.hwdb_spec.specs.Status.{IsStatus}
-use Rattle.hwdb_spec.specs.StatusErrors.{IsStatusRefused}
-use Rattle.hwdb_spec.specs.Runs.{OnOut, World, files_by, told_by}
-use Rattle.hwdb_spec.specs.NearAsked.{IsNear, near_form, near_limit}
-use Rattle.hwdb_spec.specs.SysfsAnswers.{sight_by}
-use Rattle.hwdb_spec.specs.ComparedDatabases.{HasDiffReason, IsDiffed, IsDiffRefused}
-use Rattle.hwdb_spec.specs.NearErrors.{IsNearRefused}
-use Rattle.hwdb_spec.specs.Tested.{IsTested}
-use Rattle.hwdb_spec.specs.TestErrors.{HasTestReason, IsTestRefused}
-use Rattle.hwdb_spec.specs.DeviceAsked.{IsDevicePrinted, device_form}
-use Rattle.hwdb_spec.specs.DeviceErrors.{IsDeviceRefused, asked_names}
-use Rattle.hwdb_spec.specs.Program.{IsAnswerOf, IsDeviceAnswer, IsTaskDone, OldOrDone, reads_input, root_of, skips}
-use Rattle.hwdb_spec.specs.CheckedReasons.{HasCheckedReason}
-use Rattle.hwdb_spec.specs.Reasons.{HasFilesReason, HasGivenReason}
-use Rattle.hwdb_spec.specs.Undone.{AreUncheckable, IsAskRefused, IsCheckRefused}
-use Rattle.hwdb_spec.specs.TaskRefusals.{IsNotDone, IsTaskReason, Refuses}
+use Rattle.hwdb_spec_commands.specs.Status.{IsStatus}
+use Rattle.hwdb_spec_commands.specs.StatusErrors.{IsStatusRefused}
+use Rattle.hwdb_spec_commands.specs.Runs.{OnOut, World, files_by, told_by}
+use Rattle.hwdb_spec_commands.specs.NearAsked.{IsNear, near_form, near_limit}
+use Rattle.hwdb_spec_commands.specs.SysfsAnswers.{sight_by}
+use Rattle.hwdb_spec_program.specs.ComparedDatabases.{HasDiffReason, IsDiffed, IsDiffRefused}
+use Rattle.hwdb_spec_program.specs.NearErrors.{IsNearRefused}
+use Rattle.hwdb_spec_program.specs.Tested.{IsTested}
+use Rattle.hwdb_spec_program.specs.TestErrors.{HasTestReason, IsTestRefused}
+use Rattle.hwdb_spec_commands.specs.DeviceAsked.{IsDevicePrinted, device_form}
+use Rattle.hwdb_spec_program.specs.DeviceErrors.{IsDeviceRefused, asked_names}
+use Rattle.hwdb_spec_program.specs.Program.{IsAnswerOf, IsDeviceAnswer, IsTaskDone, OldOrDone, reads_input, root_of, skips}
+use Rattle.hwdb_spec_program.specs.CheckedReasons.{HasCheckedReason}
+use Rattle.hwdb_spec_commands.specs.Reasons.{HasFilesReason, HasGivenReason}
+use Rattle.hwdb_spec_commands.specs.Undone.{AreUncheckable, IsAskRefused, IsCheckRefused}
+use Rattle.hwdb_spec_program.specs.TaskRefusals.{IsNotDone, IsTaskReason, Refuses}
 use Rattle.hwdb_tool.specs.Views.{texts_in}
 use Rattle.hwdb_tool.proofs.MomentLemmas.{leaves_more}
 use Rattle.hwdb_tool.proofs.ErrorLemmas.{both_errors, both_values}

@@ -1,8 +1,8 @@
 use Rattle.std.proofs.Common.{Bool, IfErr, IfOk, inl, refl, subst, sym, ◌∙◌}
-use Rattle.hwdb_spec.specs.Program.{IsDoneFrom, OldOrDone, root_of}
-use Rattle.hwdb_spec.specs.Runs.{World, files_by, told_by}
-use Rattle.hwdb_spec.specs.SysfsAnswers.{sight_by}
-use Rattle.hwdb_spec.specs.TaskRefusals.{IsNotDoneFrom}
+use Rattle.hwdb_spec_program.specs.Program.{IsDoneFrom, OldOrDone, root_of}
+use Rattle.hwdb_spec_commands.specs.Runs.{World, files_by, told_by}
+use Rattle.hwdb_spec_commands.specs.SysfsAnswers.{sight_by}
+use Rattle.hwdb_spec_program.specs.TaskRefusals.{IsNotDoneFrom}
 use Rattle.hwdb_tool.proofs.MomentLemmas.{leaves_old}
 use Rattle.hwdb_tool.proofs.OverTextLemmas.{no_update}
 use Rattle.hwdb_tool.proofs.dispatch.run_job.Goals as goal

@@ -1,16 +1,16 @@
 use Rattle.std.proofs.Common.{subst, List, None, Some, ℕ, IfErr, IfOk, [], true}
 use Rattle.std.specs.Prelude.{codes}
 use Rattle.std.proofs.lemmas.Result.{IfErr-weaker}
-use Rattle.hwdb_spec.specs.Asked.{IsDumped}
-use Rattle.hwdb_spec.specs.Databases.{IsSayable, IsTextOf}
-use Rattle.hwdb_spec.specs.Dump.{dump_text}
-use Rattle.hwdb_spec.specs.DumpErrors.{IsDumpRefusal}
-use Rattle.hwdb_spec.specs.GivenDatabases.{OfGiven}
+use Rattle.hwdb_spec_commands.specs.Asked.{IsDumped}
+use Rattle.hwdb_spec_commands.specs.Databases.{IsSayable, IsTextOf}
+use Rattle.hwdb_spec_commands.specs.Dump.{dump_text}
+use Rattle.hwdb_spec_commands.specs.DumpErrors.{IsDumpRefusal}
+use Rattle.hwdb_spec_program.specs.GivenDatabases.{OfGiven}
 use Rattle.hwdb_spec.specs.Lemmas.Calls.{given_error}
-use Rattle.hwdb_spec.specs.NamedDatabases.{IsOfDump, IsDumpRefused}
+use Rattle.hwdb_spec_program.specs.NamedDatabases.{IsOfDump, IsDumpRefused}
 use Rattle.hwdb_plan.specs.Plans.{Follows}
 use Rattle.hwdb_plan.specs.Dump.{text_form}
-use Rattle.hwdb_spec.specs.Runs.{OnOut}
+use Rattle.hwdb_spec_commands.specs.Runs.{OnOut}
 use Rattle.hwdb_tool.specs.Internal.{IsInputReason}
 use Rattle.hwdb_tool.specs.Views.{end_of, texts_in}
 use Rattle.hwdb_tool.proofs.GivenLemmas.{input_reason}

@@ -1,12 +1,12 @@
 use Rattle.std.proofs.Common.{inr, option_map, string_bytes, subst, IfErr, IfOk, List, ℕ}
 use Rattle.std.specs.Prelude.{is_some}
 use Rattle.std.proofs.lemmas.Result.{IfErr-weaker}
-use Rattle.hwdb_spec.specs.Databases.{IsSayable, IsTextOf}
-use Rattle.hwdb_spec.specs.Dump.{dump_text}
-use Rattle.hwdb_spec.specs.DumpErrors.{IsDumpRefusal}
-use Rattle.hwdb_spec.specs.NamedDatabases.{IsOfDump}
-use Rattle.hwdb_spec.specs.Runs.{OnOut}
-use Rattle.hwdb_spec.specs.Undone.{IsUnreadableIf}
+use Rattle.hwdb_spec_commands.specs.Databases.{IsSayable, IsTextOf}
+use Rattle.hwdb_spec_commands.specs.Dump.{dump_text}
+use Rattle.hwdb_spec_commands.specs.DumpErrors.{IsDumpRefusal}
+use Rattle.hwdb_spec_program.specs.NamedDatabases.{IsOfDump}
+use Rattle.hwdb_spec_commands.specs.Runs.{OnOut}
+use Rattle.hwdb_spec_commands.specs.Undone.{IsUnreadableIf}
 use Rattle.hwdb_plan.specs.Asking.{named}
 use Rattle.hwdb_plan.specs.Plans.{Follows}
 use Rattle.hwdb_plan.specs.Dump.{text_form}

@@ -1,8 +1,8 @@
 use Rattle.std.proofs.Common.{ℕ, List, subst, sym}
-use Rattle.hwdb_spec.specs.Asked.{unsayable_text}
+use Rattle.hwdb_spec_commands.specs.Asked.{unsayable_text}
 use Rattle.hwdb_plan.specs.Dump.{dump_stop}
-use Rattle.hwdb_spec.specs.Told.{IsStop}
-use Rattle.hwdb_spec.specs.Told.Stop.{Says}
+use Rattle.hwdb_spec_commands.specs.Told.{IsStop}
+use Rattle.hwdb_spec_commands.specs.Told.Stop.{Says}
 use Rattle.hwdb_tool.proofs.dumps.refusal_of.Goals as goal
 
 pub returns-in-Unsayable-clause-stops : goal.returns-in-Unsayable-clause-stops

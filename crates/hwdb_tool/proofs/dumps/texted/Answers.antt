@@ -1,6 +1,6 @@
 use Rattle.std.proofs.Common.{sym, subst, List, ℕ}
-use Rattle.hwdb_spec.specs.Databases.{IsTextOf}
-use Rattle.hwdb_spec.specs.Dump.{dump_text}
+use Rattle.hwdb_spec_commands.specs.Databases.{IsTextOf}
+use Rattle.hwdb_spec_commands.specs.Dump.{dump_text}
 use Rattle.hwdb_tool.proofs.PlanLemmas.{texted, untexted}
 use Rattle.hwdb_tool.proofs.dumps.texted.Goals as goal
 

@@ -1,5 +1,5 @@
 use Rattle.std.proofs.Common.{◌∙◌, ◌++◌, ap, append_assoc, codes}
-use Rattle.hwdb_spec.specs.Reports.{shown}
+use Rattle.hwdb_spec_commands.specs.Reports.{shown}
 use Rattle.hwdb_spec.specs.Visible.{shown_name}
 use Rattle.hwdb_tool.proofs.dumps.unsayable.Goals as goal
 

@@ -1,10 +1,10 @@
 use Rattle.std.proofs.Common.{IfSome, List, Option, length, subst, ◌++◌, ◌≤◌, ℕ}
-use Rattle.hwdb_spec.specs.Emptied.{IsLost}
-use Rattle.hwdb_spec.specs.Refusals.{IsUnreadAt}
+use Rattle.hwdb_spec_commands.specs.Emptied.{IsLost}
+use Rattle.hwdb_spec_commands.specs.Refusals.{IsUnreadAt}
 use Rattle.hwdb_spec.specs.Store.{database_name, path_in}
 use Rattle.hwdb_spec.specs.Texts.{max_file}
 use Rattle.hwdb_spec.specs.declared.errors.ToolError.TheVariants.{Memory}
-use Rattle.hwdb_spec.specs.declared.refusals.Refusal.TheVariants.{Plain}
+use Rattle.hwdb_spec_commands.specs.declared.refusals.Refusal.TheVariants.{Plain}
 use Rattle.hwdb_tool.proofs.EmptyingLemmas.{found_within}
 use Rattle.hwdb_tool.proofs.emptied.is_lost_in.Goals as goal
 use Rattle.hwdb_spec.specs.Lemmas.Calls.{given_error}

@@ -1,6 +1,6 @@
 use Rattle.std.proofs.Common.{Bool, Some, not, subst, sym}
-use Rattle.hwdb_spec.specs.Emptied.{IsLost}
-use Rattle.hwdb_inspect.specs.Views.{amount_shown}
+use Rattle.hwdb_spec_commands.specs.Emptied.{IsLost}
+use Rattle.hwdb_databases.specs.Views.{amount_shown}
 use Rattle.hwdb_tool.proofs.EmptyingLemmas.{lost_of}
 use Rattle.hwdb_tool.proofs.emptied.is_lost_of.Goals as goal
 

@@ -1,5 +1,5 @@
 use Rattle.std.proofs.Common.{sym, ◌∙◌}
-use Rattle.hwdb_spec.specs.Emptied.{IsLossOf, IsLossUnseen}
+use Rattle.hwdb_spec_commands.specs.Emptied.{IsLossOf, IsLossUnseen}
 use Rattle.hwdb_tool.proofs.EmptyingLemmas.{loss_bare, unseen_bare}
 use Rattle.hwdb_tool.proofs.emptied.loss_if.Goals as goal
 use Rattle.hwdb_spec.specs.Lemmas.Calls.{each_error, each_value}

@@ -1,7 +1,7 @@
 use Rattle.std.proofs.Common.{inl, inr}
-use Rattle.hwdb_spec.specs.Emptied.{IsOneUnseen}
+use Rattle.hwdb_spec_commands.specs.Emptied.{IsOneUnseen}
 use Rattle.hwdb_spec.specs.declared.errors.ToolError.TheVariants.{Memory}
-use Rattle.hwdb_spec.specs.declared.refusals.Refusal.TheVariants.{Plain}
+use Rattle.hwdb_spec_commands.specs.declared.refusals.Refusal.TheVariants.{Plain}
 use Rattle.hwdb_tool.proofs.emptied.loss_of_empty.Goals as goal
 use Rattle.hwdb_spec.specs.Lemmas.Calls.{given_error}
 

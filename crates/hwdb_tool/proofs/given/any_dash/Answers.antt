@@ -1,5 +1,5 @@
 use Rattle.std.proofs.Common.{◌∙◌, ap, string_bytes}
-use Rattle.hwdb_spec.specs.Given.{is_dash}
+use Rattle.hwdb_spec_commands.specs.Given.{is_dash}
 use Rattle.hwdb_tool.proofs.CheckLemmas.{any_at, any_behind, any_from}
 use Rattle.hwdb_tool.proofs.given.any_dash.Goals as goal
 

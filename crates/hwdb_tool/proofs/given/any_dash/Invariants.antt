@@ -1,5 +1,5 @@
 use Rattle.std.proofs.Common.{◌≡◌, drop, map, string_bytes}
-use Rattle.hwdb_spec.specs.Given.{any_dash}
+use Rattle.hwdb_spec_commands.specs.Given.{any_dash}
 use Rattle.hwdb_tool.proofs.given.any_dash.Given as goal
 
 abbrev pub invariant-loop-path : goal.invariant-loop-path

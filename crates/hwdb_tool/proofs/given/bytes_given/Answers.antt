@@ -1,6 +1,6 @@
 use Rattle.std.proofs.Common.{◌≡◌, ◌∙◌, sym, inr, false}
 use Rattle.std.proofs.lemmas.Result.{IfErr-weaker}
-use Rattle.hwdb_spec.specs.Given.{is_dash}
+use Rattle.hwdb_spec_commands.specs.Given.{is_dash}
 use Rattle.hwdb_tool.proofs.given.bytes_given.Goals as goal
 
 pub returns-else-is_dash-clause-file : goal.returns-else-is_dash-clause-file

@@ -1,7 +1,7 @@
 use Rattle.std.proofs.Common.{◌≡◌, ◌∙◌, sym, subst, true, false, IfErr}
 use Rattle.std.proofs.lemmas.Result.{IfErr-weaker}
-use Rattle.hwdb_spec.specs.Given.{is_dash}
-use Rattle.hwdb_spec.specs.Reasons.{HasGivenReason}
+use Rattle.hwdb_spec_commands.specs.Given.{is_dash}
+use Rattle.hwdb_spec_commands.specs.Reasons.{HasGivenReason}
 use Rattle.hwdb_tool.proofs.GivenLemmas.{file_reason, input_reason}
 use Rattle.hwdb_tool.proofs.given.read.Goals as goal
 

@@ -1,7 +1,7 @@
 use Rattle.std.proofs.Common.{◌∙◌, ap, map, string_bytes, subst}
-use Rattle.hwdb_spec.specs.CheckedFiles.{StandsFor, is_file}
-use Rattle.hwdb_spec.specs.Given.{any_dash, is_dash}
-use Rattle.hwdb_spec.specs.GivenFolders.{AreFoldersUnread, IsFolderUnread}
+use Rattle.hwdb_spec_commands.specs.CheckedFiles.{StandsFor, is_file}
+use Rattle.hwdb_spec_commands.specs.Given.{any_dash, is_dash}
+use Rattle.hwdb_spec_commands.specs.GivenFolders.{AreFoldersUnread, IsFolderUnread}
 use Rattle.hwdb_tool.proofs.GivenFolderLemmas.{member_plain, memory_unread, none_more, one_unread, stand_next}
 use Rattle.hwdb_tool.proofs.given_folders.named_files.Goals as goal
 use Rattle.hwdb_spec.specs.Lemmas.Calls.{given_error}

@@ -1,6 +1,6 @@
 use Rattle.std.proofs.Common.{◌≡◌, false, map, take, string_bytes}
-use Rattle.hwdb_spec.specs.CheckedFiles.{StandFor}
-use Rattle.hwdb_spec.specs.Given.{any_dash}
+use Rattle.hwdb_spec_commands.specs.CheckedFiles.{StandFor}
+use Rattle.hwdb_spec_commands.specs.Given.{any_dash}
 use Rattle.hwdb_tool.proofs.given_folders.named_files.Given as goal
 
 abbrev pub invariant-loop-path : goal.invariant-loop-path

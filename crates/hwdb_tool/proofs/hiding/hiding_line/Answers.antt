@@ -1,5 +1,5 @@
 use Rattle.std.proofs.Common.{codes, false, true}
-use Rattle.hwdb_spec.specs.Asked.{database_path}
+use Rattle.hwdb_spec_commands.specs.Asked.{database_path}
 use Rattle.hwdb_spec.specs.Visible.{shown_name}
 use Rattle.hwdb_tool.proofs.ProgressLemmas.{four_names}
 use Rattle.hwdb_tool.proofs.hiding.hiding_line.Goals as goal

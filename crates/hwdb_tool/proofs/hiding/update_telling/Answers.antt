@@ -1,8 +1,8 @@
 use Rattle.std.proofs.Common.{inl, inr, refl}
-use Rattle.hwdb_spec.specs.Runs.{files_by, told_by}
+use Rattle.hwdb_spec_commands.specs.Runs.{files_by, told_by}
 use Rattle.hwdb_spec.specs.Store as spec
 use Rattle.hwdb_spec.specs.System.{database_folder}
-use Rattle.hwdb_spec.specs.HidingTold.{IsTellingUpdateRefused, IsUpdatedTelling}
+use Rattle.hwdb_spec_program.specs.HidingTold.{IsTellingUpdateRefused, IsUpdatedTelling}
 use Rattle.hwdb_tool.proofs.FlushLemmas.{hands_on_twice}
 use Rattle.hwdb_tool.proofs.hiding.update_telling.Goals as goal
 use Rattle.hwdb_spec.specs.Lemmas.Calls.{each_error, each_value, given_error}

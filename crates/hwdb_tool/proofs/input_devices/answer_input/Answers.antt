@@ -1,9 +1,9 @@
 use Rattle.std.proofs.Common.{ap, false, inl, inr, refl, string_bytes, subst, sym, Err, true}
-use Rattle.hwdb_spec.specs.Asked.{database_path}
-use Rattle.hwdb_spec.specs.Queries.{IsOfInput, IsStreamRefused}
-use Rattle.hwdb_spec.specs.Reasons.{HasAskedReason}
-use Rattle.hwdb_spec.specs.Runs.{told_by}
-use Rattle.hwdb_spec.specs.declared.refusals.Refusal.TheVariants.{Plain}
+use Rattle.hwdb_spec_commands.specs.Asked.{database_path}
+use Rattle.hwdb_spec_commands.specs.Queries.{IsOfInput, IsStreamRefused}
+use Rattle.hwdb_spec_commands.specs.Reasons.{HasAskedReason}
+use Rattle.hwdb_spec_commands.specs.Runs.{told_by}
+use Rattle.hwdb_spec_commands.specs.declared.refusals.Refusal.TheVariants.{Plain}
 use Rattle.hwdb_spec.specs.declared.errors.ToolError.TheVariants.{Memory}
 use Rattle.hwdb_spec.specs.Lemmas.Calls.{given_error}
 use Rattle.hwdb_tool.proofs.AnswerLemmas.{if_bad, stream_reason, streamed, unfound_asked}

@@ -1,5 +1,5 @@
 use Rattle.std.proofs.Common.{codes}
-use Rattle.hwdb_spec.specs.DeviceAsked.{cause_part, near_hint}
+use Rattle.hwdb_spec_commands.specs.DeviceAsked.{cause_part, near_hint}
 use Rattle.hwdb_spec.specs.Visible.{shown_name}
 use Rattle.hwdb_tool.proofs.DeviceLemmas.{four_pieces}
 use Rattle.hwdb_tool.proofs.missing.no_device_text.Goals as goal

@@ -1,8 +1,8 @@
 use Rattle.std.proofs.Common.{inr, refl, subst, sym, Bool, []}
-use Rattle.hwdb_spec.specs.DeviceAsked.{no_device_text}
-use Rattle.hwdb_spec.specs.DeviceTree.{last_name, near_name}
-use Rattle.hwdb_spec.specs.SysfsAnswers.{sight_by}
-use Rattle.hwdb_spec.specs.Refusals.{IsInWords}
+use Rattle.hwdb_spec_commands.specs.DeviceAsked.{no_device_text}
+use Rattle.hwdb_spec_commands.specs.DeviceTree.{last_name, near_name}
+use Rattle.hwdb_spec_commands.specs.SysfsAnswers.{sight_by}
+use Rattle.hwdb_spec_commands.specs.Refusals.{IsInWords}
 use Rattle.hwdb_tool.proofs.DeviceLemmas.{leads_somewhere}
 use Rattle.hwdb_tool.proofs.missing.not_there.Goals as goal
 

@@ -1,5 +1,5 @@
 use Rattle.std.proofs.Common.{◌≡◌, map, take}
-use Rattle.hwdb_lint.specs.Checks
+use Rattle.hwdb_check.specs.Checks
 use Rattle.hwdb_near.specs.Views
 use Rattle.hwdb_tool.proofs.near_misses.compared.Given as goal
 

@@ -1,10 +1,10 @@
 use Rattle.std.proofs.Common.{map, string_bytes, subst, sym, ◌≡◌, ◌∙◌, ℕ, IfErr, IfOk, List}
-use Rattle.hwdb_spec.specs.Asked.{IsAnswered}
-use Rattle.hwdb_spec.specs.CheckedFiles.{AreGivenFiles}
-use Rattle.hwdb_spec.specs.Databases.{IsTextOf}
+use Rattle.hwdb_spec_commands.specs.Asked.{IsAnswered}
+use Rattle.hwdb_spec_commands.specs.CheckedFiles.{AreGivenFiles}
+use Rattle.hwdb_spec_commands.specs.Databases.{IsTextOf}
 use Rattle.hwdb_spec.specs.Folders.{Source}
-use Rattle.hwdb_spec.specs.NearAsked.{database_patterns, near_form, near_limit, patterns_from}
-use Rattle.hwdb_spec.specs.Runs.{OnOut}
+use Rattle.hwdb_spec_commands.specs.NearAsked.{database_patterns, near_form, near_limit, patterns_from}
+use Rattle.hwdb_spec_commands.specs.Runs.{OnOut}
 use Rattle.hwdb_tool.specs.Views.{texts_in}
 use Rattle.hwdb_tool.proofs.NearLemmas.{none_given, some_given}
 use Rattle.hwdb_tool.proofs.near_misses.near.Goals as goal

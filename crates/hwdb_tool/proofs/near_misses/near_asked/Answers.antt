@@ -1,8 +1,8 @@
 use Rattle.std.proofs.Common.{◌∙◌, ◌≤◌, ap, inr, length, string_bytes, subst, sym, Some, List, ℕ}
 use Rattle.hwdb_spec.specs.Texts.{max_file}
-use Rattle.hwdb_spec.specs.Refusals.{IsOfDatabase}
+use Rattle.hwdb_spec_commands.specs.Refusals.{IsOfDatabase}
 use Rattle.hwdb_spec.specs.declared.errors.ToolError.{ToolError}
-use Rattle.hwdb_spec.specs.NearErrors.{error_of}
+use Rattle.hwdb_spec_program.specs.NearErrors.{error_of}
 use Rattle.hwdb_tool.proofs.NearLemmas.{compared_error}
 use Rattle.hwdb_tool.proofs.near_misses.near_asked.Goals as goal
 

@@ -1,11 +1,11 @@
 use Rattle.std.proofs.Common.{map, string_bytes, subst, sym, ap, true, ◌∙◌, ◌≡◌, List}
 use Rattle.std.proofs.lemmas.List.Elements.{All-map}
-use Rattle.hwdb_spec.specs.Given.{any_dash}
-use Rattle.hwdb_lint.specs.Checks
+use Rattle.hwdb_spec_commands.specs.Given.{any_dash}
+use Rattle.hwdb_check.specs.Checks
 use Rattle.hwdb_near.specs.Views
 use Rattle.hwdb_spec.specs.Folders.{Source}
-use Rattle.hwdb_spec.specs.NearAsked.{near_form, patterns_from}
-use Rattle.hwdb_spec.specs.Reasons.{HasFilesReason}
+use Rattle.hwdb_spec_commands.specs.NearAsked.{near_form, patterns_from}
+use Rattle.hwdb_spec_commands.specs.Reasons.{HasFilesReason}
 use Rattle.hwdb_tool.proofs.CheckLemmas.{IsShort, given_sources, told_of}
 use Rattle.hwdb_tool.proofs.GivenLemmas.{files_reason, input_read, whole_reason}
 use Rattle.hwdb_tool.proofs.near_misses.near_given.Goals as goal

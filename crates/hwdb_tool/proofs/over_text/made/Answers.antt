@@ -4,11 +4,11 @@ use Rattle.hwdb_text.specs.Views.{choice_in}
 use Rattle.hwdb_text.specs.declared.choice.ChosenFile.{ChosenFile}
 use Rattle.hwdb_spec.specs.Lemmas.Calls.{given_error}
 use Rattle.hwdb_spec.specs.Folders.{Source}
-use Rattle.hwdb_spec.specs.OverText.{AreTextsRefused, text_besides}
-use Rattle.hwdb_spec.specs.Refusals.{HasReason}
-use Rattle.hwdb_spec.specs.StatusErrors.{IsNotCompiled}
+use Rattle.hwdb_spec_commands.specs.OverText.{AreTextsRefused, text_besides}
+use Rattle.hwdb_spec_commands.specs.Refusals.{HasReason}
+use Rattle.hwdb_spec_commands.specs.StatusErrors.{IsNotCompiled}
 use Rattle.hwdb_spec.specs.declared.errors.ToolError.TheVariants.{Memory}
-use Rattle.hwdb_spec.specs.declared.refusals.Refusal.TheVariants.{Plain}
+use Rattle.hwdb_spec_commands.specs.declared.refusals.Refusal.TheVariants.{Plain}
 use Rattle.hwdb_text.specs.Views.{choice_of}
 use Rattle.hwdb_tool.specs.Internal.{AreReadOf}
 use Rattle.hwdb_tool.specs.Statuses.{AreMadeOf}

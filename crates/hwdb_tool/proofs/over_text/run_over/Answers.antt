@@ -1,11 +1,11 @@
 use Rattle.std.proofs.Common.{List, subst, ◌≡◌, ℕ, IfErr, IfOk}
-use Rattle.hwdb_fs.specs.declared.overlay.Overlay.{Overlay}
+use Rattle.hwdb_system.specs.declared.overlay.Overlay.{Overlay}
 use Rattle.hwdb_spec.specs.Lemmas.Calls.{each_error, each_value}
-use Rattle.hwdb_spec.specs.OverText.{with_database}
-use Rattle.hwdb_spec.specs.Program.{IsTaskDone, root_of}
-use Rattle.hwdb_spec.specs.Runs.{World, told_by}
-use Rattle.hwdb_spec.specs.SysfsAnswers.{sight_by}
-use Rattle.hwdb_spec.specs.TaskRefusals.{IsNotDone}
+use Rattle.hwdb_spec_commands.specs.OverText.{with_database}
+use Rattle.hwdb_spec_program.specs.Program.{IsTaskDone, root_of}
+use Rattle.hwdb_spec_commands.specs.Runs.{World, told_by}
+use Rattle.hwdb_spec_commands.specs.SysfsAnswers.{sight_by}
+use Rattle.hwdb_spec_program.specs.TaskRefusals.{IsNotDone}
 use Rattle.hwdb_tool.proofs.OverTextLemmas.{World_of, done_alike, no_update, not_done_alike, taken}
 use Rattle.hwdb_tool.proofs.over_text.run_over.Goals as goal
 

@@ -1,11 +1,11 @@
 use Rattle.std.proofs.Common.{List, [], inl, inr, refl, subst, sym, ◌∙◌, ◌≡◌, ◌≢◌, ℕ, true}
 use Rattle.hwdb_spec.specs.Lemmas.Calls.{given_error}
-use Rattle.hwdb_spec.specs.OverText.{text_besides, world_over}
-use Rattle.hwdb_spec.specs.Program.{IsTaskDone, root_of}
-use Rattle.hwdb_spec.specs.Runs.{HasTaken, WasCut, World, files_by, told_by}
-use Rattle.hwdb_spec.specs.Status.{IsMade}
-use Rattle.hwdb_spec.specs.SysfsAnswers.{sight_by}
-use Rattle.hwdb_spec.specs.TaskRefusals.{IsNotDone, IsNotDoneFrom}
+use Rattle.hwdb_spec_commands.specs.OverText.{text_besides, world_over}
+use Rattle.hwdb_spec_program.specs.Program.{IsTaskDone, root_of}
+use Rattle.hwdb_spec_commands.specs.Runs.{HasTaken, WasCut, World, files_by, told_by}
+use Rattle.hwdb_spec_commands.specs.Status.{IsMade}
+use Rattle.hwdb_spec_commands.specs.SysfsAnswers.{sight_by}
+use Rattle.hwdb_spec_program.specs.TaskRefusals.{IsNotDone, IsNotDoneFrom}
 use Rattle.hwdb_tool.proofs.FlushLemmas.{hands_on_twice}
 use Rattle.hwdb_tool.proofs.OverTextLemmas.{no_misuse, words_reason}
 use Rattle.hwdb_tool.proofs.over_text.run_over_text.Goals as goal

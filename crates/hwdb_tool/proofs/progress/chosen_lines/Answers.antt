@@ -1,5 +1,5 @@
 use Rattle.std.proofs.Common.{map, string_bytes, add-one}
-use Rattle.hwdb_spec.specs.Progress.{chosen_line}
+use Rattle.hwdb_spec_commands.specs.Progress.{chosen_line}
 use Rattle.hwdb_tool.proofs.ProgressLemmas.{lines_more}
 use Rattle.hwdb_tool.proofs.progress.chosen_lines.Goals as goal
 

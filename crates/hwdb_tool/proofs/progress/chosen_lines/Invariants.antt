@@ -1,6 +1,6 @@
 use Rattle.std.proofs.Common.{◌≡◌, map, string_bytes, take}
 use Rattle.std.specs.Prelude.{flat_map}
-use Rattle.hwdb_spec.specs.Progress.{chosen_line}
+use Rattle.hwdb_spec_commands.specs.Progress.{chosen_line}
 use Rattle.hwdb_text.specs.Views.{choice_in}
 use Rattle.hwdb_tool.proofs.progress.chosen_lines.Given as goal
 

@@ -1,6 +1,6 @@
 use Rattle.std.proofs.Common.{◌∙◌, ap}
 use Rattle.std.proofs.lemmas.Result.{IfOk-weaker}
-use Rattle.hwdb_spec.specs.Summary.{depth}
+use Rattle.hwdb_spec_commands.specs.Summary.{depth}
 use Rattle.hwdb_tool.proofs.progress.depth.Goals as goal
 
 pub returns-in-Ok : goal.returns-in-Ok

@@ -1,7 +1,7 @@
 use Rattle.std.proofs.Common.{◌++◌, ◌∙◌, ap, length}
 use Rattle.std.specs.Prelude.{flat_map}
-use Rattle.hwdb_spec.specs.Progress.{deep_line, kept_line, too_long_lines}
-use Rattle.hwdb_spec.specs.Summary.{depth}
+use Rattle.hwdb_spec_commands.specs.Progress.{deep_line, kept_line, too_long_lines}
+use Rattle.hwdb_spec_commands.specs.Summary.{depth}
 use Rattle.hwdb_text.specs.Views.{bytes_in, choice_in}
 use Rattle.hwdb_tool.proofs.progress.full_progress.Goals as goal
 

@@ -1,5 +1,5 @@
 use Rattle.std.proofs.Common.{ap, length}
-use Rattle.hwdb_inspect.specs.Views.{assignment_of}
+use Rattle.hwdb_databases.specs.Views.{assignment_of}
 use Rattle.hwdb_tool.proofs.ProgressLemmas.{kept_count}
 use Rattle.hwdb_tool.proofs.progress.kept.Goals as goal
 

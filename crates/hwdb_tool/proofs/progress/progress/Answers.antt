@@ -1,8 +1,8 @@
 use Rattle.std.proofs.Common.{◌∙◌, ap, map, option_map, string_bytes, subst, sym}
 use Rattle.std.proofs.lemmas.Result.{IfOk-weaker}
 use Rattle.hwdb_spec.specs.Format.{IsDatabase}
-use Rattle.hwdb_spec.specs.Progress.{progress_text}
-use Rattle.hwdb_spec.specs.Summary.{depth}
+use Rattle.hwdb_spec_commands.specs.Progress.{progress_text}
+use Rattle.hwdb_spec_commands.specs.Summary.{depth}
 use Rattle.hwdb_spec.specs.Written.{IsDatabaseOf}
 use Rattle.hwdb_tool.proofs.ProgressLemmas.{progress_is}
 use Rattle.hwdb_tool.proofs.progress.progress.Goals as goal

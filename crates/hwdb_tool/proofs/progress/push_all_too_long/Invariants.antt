@@ -1,6 +1,6 @@
 use Rattle.std.proofs.Common.{◌≡◌, ◌++◌, take}
 use Rattle.std.specs.Prelude.{flat_map}
-use Rattle.hwdb_spec.specs.Progress.{too_long_lines}
+use Rattle.hwdb_spec_commands.specs.Progress.{too_long_lines}
 use Rattle.hwdb_text.specs.Views.{bytes_in, choice_in}
 use Rattle.hwdb_tool.proofs.progress.push_all_too_long.Given as goal
 

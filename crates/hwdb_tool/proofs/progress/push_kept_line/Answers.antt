@@ -1,6 +1,6 @@
 use Rattle.std.proofs.Common.{◌++◌, codes}
 use Rattle.std.specs.Fmt.{decimal}
-use Rattle.hwdb_spec.specs.Checks.{count_text}
+use Rattle.hwdb_spec_commands.specs.Checks.{count_text}
 use Rattle.hwdb_tool.proofs.ProgressLemmas.{kept_pieces}
 use Rattle.hwdb_tool.proofs.progress.push_kept_line.Goals as goal
 

@@ -1,6 +1,6 @@
 use Rattle.std.proofs.Common.{◌∙◌, ap, inr, string_bytes, subst, sym, Some, ◌≤◌, length, List, ℕ}
 use Rattle.hwdb_spec.specs.Texts.{max_file}
-use Rattle.hwdb_spec.specs.Refusals.{IsOfDatabase}
+use Rattle.hwdb_spec_commands.specs.Refusals.{IsOfDatabase}
 use Rattle.hwdb_tool.proofs.queries.query_whole.Goals as goal
 
 pub returns-clause-refused : goal.returns-clause-refused

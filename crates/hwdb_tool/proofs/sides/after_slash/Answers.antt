@@ -1,5 +1,5 @@
 use Rattle.std.proofs.Common.{ap, ◌∙◌}
-use Rattle.hwdb_spec.specs.Sides.{file_name}
+use Rattle.hwdb_spec_commands.specs.Sides.{file_name}
 use Rattle.hwdb_tool.proofs.SideReadLemmas.{name_after, name_alone}
 use Rattle.hwdb_tool.proofs.sides.after_slash.Goals as goal
 

@@ -1,6 +1,6 @@
 use Rattle.std.proofs.Common.{inl, inr, sym, ◌∙◌}
 use Rattle.hwdb_spec.specs.Lemmas.Calls.{each_error}
-use Rattle.hwdb_spec.specs.Refusals.{HasReason, IsUnreadAt, IsUnreadable}
+use Rattle.hwdb_spec_commands.specs.Refusals.{HasReason, IsUnreadAt, IsUnreadable}
 use Rattle.hwdb_tool.specs.SideSteps.{IsSideError}
 use Rattle.hwdb_tool.proofs.SideReadLemmas.{held_side, unheld_side}
 use Rattle.hwdb_tool.proofs.sides.file_at.Goals as goal

@@ -1,7 +1,7 @@
 use denote.Shadow.{shadow}
 use denote.Text.{Utf8}
 use Rattle.std.proofs.Common.{◌≡◌, length}
-use Rattle.hwdb_spec.specs.Sides.{file_name}
+use Rattle.hwdb_spec_commands.specs.Sides.{file_name}
 use Rattle.hwdb_tool.proofs.sides.file_name.Given as goal
 
 abbrev pub invariant-slashes : goal.invariant-slashes

@@ -1,11 +1,11 @@
 use Rattle.std.proofs.Common.{List, ap, inl, inr, map, string_bytes, subst, sym, true, false, ◌==◌, ◌∙◌, ◌≡◌, length, ℕ, ⊎_elim}
 use Rattle.std.proofs.lemmas.List.{length-map}
-use Rattle.hwdb_spec.specs.CheckedFiles.{folder_of}
+use Rattle.hwdb_spec_commands.specs.CheckedFiles.{folder_of}
 use Rattle.hwdb_spec.specs.Lemmas.Calls.{each_error, each_value, given_error}
-use Rattle.hwdb_spec.specs.Reading.{AreUnread}
+use Rattle.hwdb_spec_commands.specs.Reading.{AreUnread}
 use Rattle.hwdb_spec.specs.Selected.{AreSelected}
-use Rattle.hwdb_spec.specs.Sides.{HasTexts, IsSide}
-use Rattle.hwdb_spec.specs.Sides.Kind.{Root}
+use Rattle.hwdb_spec_commands.specs.Sides.{HasTexts, IsSide}
+use Rattle.hwdb_spec_commands.specs.Sides.Kind.{Root}
 use Rattle.hwdb_text.specs.Views.{choice_of}
 use Rattle.hwdb_text.specs.declared.choice.Chosen.{Chosen}
 use Rattle.hwdb_tool.specs.SideSteps.{IsSideError}

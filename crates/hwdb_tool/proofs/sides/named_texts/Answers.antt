@@ -1,8 +1,8 @@
 use Rattle.std.proofs.Common.{ap, inl, inr, map, string_bytes, subst, sym, ◌∙◌, ◌∷◌, []}
-use Rattle.hwdb_spec.specs.CheckedFiles.{StandFor}
+use Rattle.hwdb_spec_commands.specs.CheckedFiles.{StandFor}
 use Rattle.hwdb_spec.specs.Lemmas.Calls.{each_error, each_value, given_error}
-use Rattle.hwdb_spec.specs.Sides.{IsSide}
-use Rattle.hwdb_spec.specs.Sides.Kind.{Texts}
+use Rattle.hwdb_spec_commands.specs.Sides.{IsSide}
+use Rattle.hwdb_spec_commands.specs.Sides.Kind.{Texts}
 use Rattle.hwdb_tool.specs.SideSteps.{IsSideError}
 use Rattle.hwdb_tool.proofs.SideReadLemmas.{folder_error, folder_stands, own_kind}
 use Rattle.hwdb_tool.proofs.sides.named_texts.Goals as goal

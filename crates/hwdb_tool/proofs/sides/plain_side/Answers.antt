@@ -1,8 +1,8 @@
 use Rattle.std.proofs.Common.{List, ap, inl, inr, map, string_bytes, subst, sym, true, false, ◌∙◌, ◌≡◌, Some, None}
 use Rattle.std.specs.Prelude.{option_map}
-use Rattle.hwdb_spec.specs.GivenFolders.{IsUnlistedFolder}
+use Rattle.hwdb_spec_commands.specs.GivenFolders.{IsUnlistedFolder}
 use Rattle.hwdb_spec.specs.Lemmas.Calls.{given_error}
-use Rattle.hwdb_spec.specs.Reading.{IsFolderAt}
+use Rattle.hwdb_spec_commands.specs.Reading.{IsFolderAt}
 use Rattle.hwdb_tool.specs.SideSteps.{IsFolderOf, IsSideError}
 use Rattle.hwdb_tool.proofs.SideReadLemmas.{file_or_not, folder_found}
 use Rattle.hwdb_tool.proofs.sides.plain_side.Goals as goal

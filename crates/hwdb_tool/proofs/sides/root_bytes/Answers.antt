@@ -2,9 +2,9 @@ use Rattle.std.proofs.Common.{List, ap, inl, inr, map, refl, string_bytes, subst
 use Rattle.hwdb_compile.specs.Views.{ForFolders}
 use Rattle.hwdb_text.specs.declared.choice.ChosenFile.{ChosenFile}
 use Rattle.hwdb_spec.specs.Lemmas.Calls.{given_error}
-use Rattle.hwdb_spec.specs.StatusErrors.{AreNotMade, IsNotCompiled}
+use Rattle.hwdb_spec_commands.specs.StatusErrors.{AreNotMade, IsNotCompiled}
 use Rattle.hwdb_spec.specs.declared.errors.ToolError.TheVariants.{Memory}
-use Rattle.hwdb_spec.specs.declared.refusals.Refusal.TheVariants.{Plain}
+use Rattle.hwdb_spec_commands.specs.declared.refusals.Refusal.TheVariants.{Plain}
 use Rattle.hwdb_text.specs.Views.{choice_of}
 use Rattle.hwdb_tool.specs.Internal.{AreReadOf}
 use Rattle.hwdb_tool.specs.Statuses.{AreMadeOf}

@@ -1,10 +1,10 @@
 use Rattle.std.proofs.Common.{ap, inl, inr, map, refl, string_bytes, subst, sym, true, ◌∙◌, ◌∷◌, []}
-use Rattle.hwdb_spec.specs.CheckedFiles.{StandFor}
+use Rattle.hwdb_spec_commands.specs.CheckedFiles.{StandFor}
 use Rattle.hwdb_spec.specs.Lemmas.Calls.{each_error, each_value, given_error}
-use Rattle.hwdb_spec.specs.Sides.{IsSide}
-use Rattle.hwdb_spec.specs.Sides.Kind.{Texts}
+use Rattle.hwdb_spec_commands.specs.Sides.{IsSide}
+use Rattle.hwdb_spec_commands.specs.Sides.Kind.{Texts}
 use Rattle.hwdb_spec.specs.declared.errors.ToolError.TheVariants.{Memory}
-use Rattle.hwdb_spec.specs.declared.refusals.Refusal.TheVariants.{Plain}
+use Rattle.hwdb_spec_commands.specs.declared.refusals.Refusal.TheVariants.{Plain}
 use Rattle.hwdb_tool.specs.SideSteps.{IsSideError}
 use Rattle.hwdb_tool.proofs.SideReadLemmas.{side_memory, stand_alone}
 use Rattle.hwdb_tool.proofs.sides.text_file_at.Goals as goal

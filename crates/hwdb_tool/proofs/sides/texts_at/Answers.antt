@@ -1,10 +1,10 @@
 use Rattle.std.proofs.Common.{[], Some, ap, arith, inr, inl, map, refl, string_bytes, ◌∙◌, ◌≡◌, ◌∷◌}
 use Rattle.std.proofs.lemmas.List.Elements.{All-map}
-use Rattle.hwdb_lint.specs.Checks.{source_of}
+use Rattle.hwdb_check.specs.Checks.{source_of}
 use Rattle.hwdb_spec.specs.Lemmas.Calls.{each_error, each_value, given_error}
-use Rattle.hwdb_spec.specs.Sides.{AreMadeAt, AreSideFiles}
+use Rattle.hwdb_spec_commands.specs.Sides.{AreMadeAt, AreSideFiles}
 use Rattle.hwdb_spec.specs.declared.errors.ToolError.TheVariants.{Memory}
-use Rattle.hwdb_spec.specs.declared.refusals.Refusal.TheVariants.{Plain}
+use Rattle.hwdb_spec_commands.specs.declared.refusals.Refusal.TheVariants.{Plain}
 use Rattle.hwdb_tool.specs.SideSteps.{AreTextsError}
 use Rattle.hwdb_tool.proofs.CheckLemmas.{IsShort, given_sources}
 use Rattle.hwdb_tool.proofs.SideReadLemmas.{made_at, texts_memory}

@@ -1,5 +1,5 @@
 use Rattle.std.proofs.Common.{inl, refl, false}
-use Rattle.hwdb_spec.specs.Asked.{database_path}
+use Rattle.hwdb_spec_commands.specs.Asked.{database_path}
 use Rattle.hwdb_tool.specs.Statuses.{IsOneUnread}
 use Rattle.hwdb_tool.proofs.statuses.asked_database.Goals as goal
 use Rattle.hwdb_spec.specs.Lemmas.Calls.{given_error}

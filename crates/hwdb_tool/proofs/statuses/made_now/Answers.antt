@@ -2,11 +2,11 @@ use Rattle.std.proofs.Common.{List, length, ap, inl, inr, map, refl, string_byte
 use Rattle.hwdb_compile.specs.Views.{ForFolders}
 use Rattle.hwdb_text.specs.Views.{choice_in}
 use Rattle.hwdb_text.specs.declared.choice.ChosenFile.{ChosenFile}
-use Rattle.hwdb_spec.specs.Refusals.{HasReason}
-use Rattle.hwdb_spec.specs.Status.{masked_paths}
-use Rattle.hwdb_spec.specs.StatusErrors.{IsNotCompiled}
+use Rattle.hwdb_spec_commands.specs.Refusals.{HasReason}
+use Rattle.hwdb_spec_commands.specs.Status.{masked_paths}
+use Rattle.hwdb_spec_commands.specs.StatusErrors.{IsNotCompiled}
 use Rattle.hwdb_spec.specs.declared.errors.ToolError.TheVariants.{Memory}
-use Rattle.hwdb_spec.specs.declared.refusals.Refusal.TheVariants.{Plain}
+use Rattle.hwdb_spec_commands.specs.declared.refusals.Refusal.TheVariants.{Plain}
 use Rattle.hwdb_text.specs.Views.{choice_of}
 use Rattle.hwdb_tool.specs.Internal.{AreReadOf}
 use Rattle.hwdb_tool.specs.Statuses.{AreMadeOf, IsNotMadeNow}

@@ -1,5 +1,5 @@
 use Rattle.std.proofs.Common.{map, string_bytes, add-one}
-use Rattle.hwdb_spec.specs.Status.{masked_of}
+use Rattle.hwdb_spec_commands.specs.Status.{masked_of}
 use Rattle.hwdb_tool.proofs.ProgressLemmas.{lines_more}
 use Rattle.hwdb_tool.proofs.statuses.masked_paths.Goals as goal
 

@@ -1,5 +1,5 @@
 use Rattle.std.proofs.Common.{map, option_map}
-use Rattle.hwdb_inspect.specs.Views.{amount_shown, state_shown}
+use Rattle.hwdb_databases.specs.Views.{amount_shown, state_shown}
 use Rattle.hwdb_tool.proofs.statuses.report_of.Goals as goal
 
 pub returns : goal.returns

@@ -1,9 +1,9 @@
 use Rattle.std.proofs.Common.{Bool, IfSome, List, Option, ap, false, length, map, option_map, subst, ◌≤◌, ◌∙◌, ℕ}
-use Rattle.hwdb_spec.specs.declared.refusals.Refusal.TheVariants.{Plain}
+use Rattle.hwdb_spec_commands.specs.declared.refusals.Refusal.TheVariants.{Plain}
 use Rattle.hwdb_spec.specs.declared.errors.ToolError.TheVariants.{Memory}
-use Rattle.hwdb_spec.specs.Status.{IsAmount, IsState, has_database, report_of}
+use Rattle.hwdb_spec_commands.specs.Status.{IsAmount, IsState, has_database, report_of}
 use Rattle.hwdb_spec.specs.Texts.{max_file}
-use Rattle.hwdb_inspect.specs.Views.{amount_shown, report_shown, state_shown}
+use Rattle.hwdb_databases.specs.Views.{amount_shown, report_shown, state_shown}
 use Rattle.hwdb_tool.specs.Statuses.{IsOneUnread}
 use Rattle.hwdb_tool.proofs.StatusLemmas.{asked_memory}
 use Rattle.hwdb_tool.proofs.statuses.reported.Goals as goal

@@ -1,8 +1,8 @@
 use Rattle.std.proofs.Common.{inr, subst, sym, List, ℕ}
 use Rattle.hwdb_compile.specs.Views.{ForFolders}
-use Rattle.hwdb_spec.specs.Runs.{OnOut}
-use Rattle.hwdb_spec.specs.Status.{IsStatus}
-use Rattle.hwdb_spec.specs.StatusErrors.{IsStatusRefused}
+use Rattle.hwdb_spec_commands.specs.Runs.{OnOut}
+use Rattle.hwdb_spec_commands.specs.Status.{IsStatus}
+use Rattle.hwdb_spec_commands.specs.StatusErrors.{IsStatusRefused}
 use Rattle.hwdb_tool.specs.Statuses.{AreMadeOf}
 use Rattle.hwdb_tool.specs.Views.{texts_in}
 use Rattle.hwdb_tool.proofs.StatusLemmas.{not_beside, not_made_now, reported_status}

@@ -1,9 +1,9 @@
 use Rattle.std.proofs.Common.{inl, inr, map, string_bytes, subst, sym, ap, true, refl, ◌∙◌, ◌≡◌}
 use Rattle.std.specs.Prelude.{option_map}
 use Rattle.std.proofs.lemmas.List.Elements.{All-map}
-use Rattle.hwdb_lint.specs.Checks.{source_of}
-use Rattle.hwdb_spec.specs.Given.{any_dash}
-use Rattle.hwdb_spec.specs.TestErrors.{HasTestReason}
+use Rattle.hwdb_check.specs.Checks.{source_of}
+use Rattle.hwdb_spec_commands.specs.Given.{any_dash}
+use Rattle.hwdb_spec_program.specs.TestErrors.{HasTestReason}
 use Rattle.hwdb_tool.proofs.CheckLemmas.{IsShort, given_sources, told_of}
 use Rattle.hwdb_tool.proofs.GivenLemmas.{files_reason, input_read, whole_reason}
 use Rattle.hwdb_tool.proofs.TrialLemmas.{all_tested, not_tested, tested_reason}

@@ -1,5 +1,5 @@
 use Rattle.std.proofs.Common.{◌∙◌, ap, inr, string_bytes, subst, sym, Some, ◌≤◌, length, List, ℕ}
-use Rattle.hwdb_spec.specs.Refusals.{IsOfDatabase}
+use Rattle.hwdb_spec_commands.specs.Refusals.{IsOfDatabase}
 use Rattle.hwdb_spec.specs.Texts.{max_file}
 use Rattle.hwdb_tool.proofs.trials.tried.Goals as goal
 

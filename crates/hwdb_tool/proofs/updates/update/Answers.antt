@@ -1,8 +1,8 @@
 use Rattle.std.proofs.Common.{inl, inr, refl, subst, sym}
-use Rattle.hwdb_spec.specs.LeftOutTold.{AreTold}
-use Rattle.hwdb_spec.specs.LeftOut.{without}
-use Rattle.hwdb_spec.specs.Runs.{HasTaken, WasCut, files_by, told_by}
-use Rattle.hwdb_spec.specs.Readable.{IsUpdateRefused}
+use Rattle.hwdb_spec_commands.specs.LeftOutTold.{AreTold}
+use Rattle.hwdb_spec_commands.specs.LeftOut.{without}
+use Rattle.hwdb_spec_commands.specs.Runs.{HasTaken, WasCut, files_by, told_by}
+use Rattle.hwdb_spec_commands.specs.Readable.{IsUpdateRefused}
 use Rattle.hwdb_tool.proofs.FlushLemmas.{hands_on_twice}
 use Rattle.hwdb_tool.proofs.FolderLemmas.{all_read}
 use Rattle.hwdb_tool.proofs.MomentLemmas.{leaves_less}

@@ -2,12 +2,12 @@ use Rattle.std.proofs.Common.{◌≡◌, ◌∙◌, ◌++◌, ap, append_assoc, 
 use Rattle.std.specs.Io.KnownBytes.{Appends}
 use Rattle.hwdb_compile.specs.Views.{fault_of}
 use Rattle.hwdb_spec.specs.Outputs.{CutShort}
-use Rattle.hwdb_spec.specs.Progress.{progress_text, update_text}
+use Rattle.hwdb_spec_commands.specs.Progress.{progress_text, update_text}
 use Rattle.hwdb_spec.specs.Texts.{faults_text, status_of}
-use Rattle.hwdb_spec.specs.Done.{OldOrWritten}
-use Rattle.hwdb_spec.specs.Runs.{told_by}
+use Rattle.hwdb_spec_commands.specs.Done.{OldOrWritten}
+use Rattle.hwdb_spec_commands.specs.Runs.{told_by}
 use Rattle.hwdb_spec.specs.Store.{OldOrNew}
-use Rattle.hwdb_spec.specs.Summary.{depth}
+use Rattle.hwdb_spec_commands.specs.Summary.{depth}
 use Rattle.hwdb_tool.proofs.EmptyingLemmas.{after_loss, placed_of, took_loss, took_rest}
 use Rattle.hwdb_tool.proofs.MomentLemmas.{leaves_more}
 use Rattle.hwdb_tool.proofs.UpdateLemmas.{unreplaced_of}

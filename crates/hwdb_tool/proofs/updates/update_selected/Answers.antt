@@ -1,23 +1,23 @@
 use Rattle.std.proofs.Common.{◌≡◌, ◌∙◌, ◌++◌, ap, inl, inr, length, map, option_map, string_bytes, refl, subst, sym, Err, List, Option, ℕ}
 use Rattle.std.specs.Io.KnownBytes.{Appends}
-use Rattle.hwdb_spec.specs.Progress.{given_where, update_text}
+use Rattle.hwdb_spec_commands.specs.Progress.{given_where, update_text}
 use Rattle.hwdb_text.specs.Views.{choice_in, choice_of}
 use Rattle.hwdb_compile.specs.Views.{ForFolders}
 use Rattle.hwdb_spec.specs.declared.errors.ToolError.TheVariants.{Memory}
 use Rattle.hwdb_spec.specs.Folders.{chosen_of}
-use Rattle.hwdb_spec.specs.Runs.{HasTaken, files_by, told_by}
-use Rattle.hwdb_spec.specs.Status.{is_bare}
+use Rattle.hwdb_spec_commands.specs.Runs.{HasTaken, files_by, told_by}
+use Rattle.hwdb_spec_commands.specs.Status.{is_bare}
 use Rattle.hwdb_spec.specs.declared.errors.Unreplaced.{Unreplaced}
-use Rattle.hwdb_spec.specs.UpdateErrors.{OnUnreplaced, UpdateUndone}
+use Rattle.hwdb_spec_commands.specs.UpdateErrors.{OnUnreplaced, UpdateUndone}
 use Rattle.hwdb_spec.specs.Store.{InPlace, database_name, path_in}
-use Rattle.hwdb_spec.specs.Summary.{depth}
+use Rattle.hwdb_spec_commands.specs.Summary.{depth}
 use Rattle.hwdb_spec.specs.System.{database_folder}
 use Rattle.hwdb_tool.specs.Emptying.{AfterLoss}
 use Rattle.hwdb_tool.specs.Internal.{AreReadOf}
-use Rattle.hwdb_spec.specs.Refusals.{IsOfUpdate}
-use Rattle.hwdb_spec.specs.Undone.{IsSelectedRefused, IsUnwritable, WasSayingCut}
-use Rattle.hwdb_spec.specs.Asked.{database_path}
-use Rattle.hwdb_spec.specs.declared.refusals.Refusal.TheVariants.{Plain}
+use Rattle.hwdb_spec_commands.specs.Refusals.{IsOfUpdate}
+use Rattle.hwdb_spec_commands.specs.Undone.{IsSelectedRefused, IsUnwritable, WasSayingCut}
+use Rattle.hwdb_spec_commands.specs.Asked.{database_path}
+use Rattle.hwdb_spec_commands.specs.declared.refusals.Refusal.TheVariants.{Plain}
 use Rattle.hwdb_tool.proofs.FolderLemmas.{are_read}
 use Rattle.hwdb_tool.proofs.MomentLemmas.{leaves_old_or_updated}
 use Rattle.hwdb_tool.proofs.StatusLemmas.{bare_files}

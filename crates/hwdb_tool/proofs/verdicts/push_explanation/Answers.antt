@@ -1,5 +1,5 @@
 use Rattle.std.proofs.Common.{◌≡◌, ◌∙◌, ◌++◌, ap, codes}
-use Rattle.hwdb_spec.specs.Verdicts.{db_fault_cause, db_fault_words, remedy}
+use Rattle.hwdb_spec_commands.specs.Verdicts.{db_fault_cause, db_fault_words, remedy}
 use Rattle.hwdb_tool.proofs.VerdictLemmas.{five_pieces}
 use Rattle.hwdb_tool.proofs.verdicts.push_explanation.Goals as goal
 

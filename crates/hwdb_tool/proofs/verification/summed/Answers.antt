@@ -1,5 +1,5 @@
 use Rattle.std.proofs.Common.{sym, subst, List, ℕ}
-use Rattle.hwdb_spec.specs.Databases.{IsSummary}
+use Rattle.hwdb_spec_commands.specs.Databases.{IsSummary}
 use Rattle.hwdb_tool.proofs.PlanLemmas.{summed, unsummed}
 use Rattle.hwdb_tool.proofs.verification.summed.Goals as goal
 

@@ -1,11 +1,11 @@
 use Rattle.std.proofs.Common.{◌∙◌, ap, option_map, sym, subst, true, false, IfErr, IfOk}
 use Rattle.std.proofs.lemmas.Result.{IfErr-weaker}
-use Rattle.hwdb_spec.specs.Asked.{IsPrinted}
-use Rattle.hwdb_spec.specs.Databases.{IsSummary}
-use Rattle.hwdb_spec.specs.GivenDatabases.{OfNamed, names_input}
+use Rattle.hwdb_spec_commands.specs.Asked.{IsPrinted}
+use Rattle.hwdb_spec_commands.specs.Databases.{IsSummary}
+use Rattle.hwdb_spec_program.specs.GivenDatabases.{OfNamed, names_input}
 use Rattle.hwdb_spec.specs.Lemmas.Calls.{each_value}
-use Rattle.hwdb_spec.specs.NamedDatabases.{IsVerifyRefused}
-use Rattle.hwdb_spec.specs.Runs.{OnOut}
+use Rattle.hwdb_spec_program.specs.NamedDatabases.{IsVerifyRefused}
+use Rattle.hwdb_spec_commands.specs.Runs.{OnOut}
 use Rattle.hwdb_plan.specs.Plans.{Follows}
 use Rattle.hwdb_plan.specs.Verify.{verify_plan}
 use Rattle.hwdb_tool.specs.Views.{end_of, texts_in}

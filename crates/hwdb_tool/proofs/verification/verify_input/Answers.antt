@@ -1,15 +1,15 @@
 use Rattle.std.proofs.Common.{subst, List, None, Some, ℕ, IfErr, IfOk, [], true}
 use Rattle.std.specs.Prelude.{codes}
 use Rattle.std.proofs.lemmas.Result.{IfErr-weaker}
-use Rattle.hwdb_spec.specs.Asked.{IsPrinted}
-use Rattle.hwdb_spec.specs.Databases.{IsSummary}
-use Rattle.hwdb_spec.specs.GivenDatabases.{OfGiven}
+use Rattle.hwdb_spec_commands.specs.Asked.{IsPrinted}
+use Rattle.hwdb_spec_commands.specs.Databases.{IsSummary}
+use Rattle.hwdb_spec_program.specs.GivenDatabases.{OfGiven}
 use Rattle.hwdb_spec.specs.Lemmas.Calls.{given_error}
-use Rattle.hwdb_spec.specs.NamedDatabases.{IsOfVerify, IsVerifyRefused}
+use Rattle.hwdb_spec_program.specs.NamedDatabases.{IsOfVerify, IsVerifyRefused}
 use Rattle.hwdb_plan.specs.Plans.{Follows}
 use Rattle.hwdb_plan.specs.Verify.{summary}
-use Rattle.hwdb_spec.specs.VerifyErrors.{IsVerifyRefusal}
-use Rattle.hwdb_spec.specs.Runs.{OnOut}
+use Rattle.hwdb_spec_commands.specs.VerifyErrors.{IsVerifyRefusal}
+use Rattle.hwdb_spec_commands.specs.Runs.{OnOut}
 use Rattle.hwdb_tool.specs.Internal.{IsInputReason}
 use Rattle.hwdb_tool.specs.Views.{end_of, texts_in}
 use Rattle.hwdb_tool.proofs.GivenLemmas.{input_reason}

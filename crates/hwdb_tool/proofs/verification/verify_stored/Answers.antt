@@ -1,11 +1,11 @@
 use Rattle.std.proofs.Common.{inr, option_map, string_bytes, subst, IfErr, IfOk, List, ℕ}
 use Rattle.std.specs.Prelude.{is_some}
 use Rattle.std.proofs.lemmas.Result.{IfErr-weaker}
-use Rattle.hwdb_spec.specs.Databases.{IsSummary}
-use Rattle.hwdb_spec.specs.VerifyErrors.{IsVerifyRefusal}
-use Rattle.hwdb_spec.specs.NamedDatabases.{IsOfVerify}
-use Rattle.hwdb_spec.specs.Runs.{OnOut}
-use Rattle.hwdb_spec.specs.Undone.{IsUnreadableIf}
+use Rattle.hwdb_spec_commands.specs.Databases.{IsSummary}
+use Rattle.hwdb_spec_commands.specs.VerifyErrors.{IsVerifyRefusal}
+use Rattle.hwdb_spec_program.specs.NamedDatabases.{IsOfVerify}
+use Rattle.hwdb_spec_commands.specs.Runs.{OnOut}
+use Rattle.hwdb_spec_commands.specs.Undone.{IsUnreadableIf}
 use Rattle.hwdb_plan.specs.Asking.{named}
 use Rattle.hwdb_plan.specs.Plans.{Follows}
 use Rattle.hwdb_plan.specs.Verify.{summary}

@@ -1,0 +1,217 @@
+-- The laws.
+use Rattle.std.proofs.Common.{◌≡◌, ◌∙◌, ◌⊎◌, ◌||◌, ◌+◌, ◌++◌, ◌-◌, ◌<◌, ◌≤◌, ◌==◌, ap, sym, refl, subst, inl, inr, arith, append_assoc, eqb-true, ℕ, zero, suc, Bool, true, false, List, [], ◌∷◌, length, get_or}
+use Rattle.std.specs.Prelude.{Contains, flat_map, nat_lt, if◌then◌else◌}
+use Rattle.std.specs.List.{list_any}
+use Rattle.std.specs.Ordering.{is_eq}
+use Rattle.std.proofs.lemmas.Bool.{le-ltb}
+use Rattle.std.proofs.lemmas.Cmp.{nat_list_cmp_total, tied_itself}
+use Rattle.hwdb_spec.specs.Folders.{same}
+use Rattle.hwdb_spec.specs.Forms.{all_bytes_from}
+use Rattle.hwdb_spec_commands.specs.Kinds.{warning_name}
+use Rattle.hwdb_spec.specs.Lines.{begins_with, byte, is_none, max_pattern, pieces}
+use Rattle.hwdb_spec_commands.specs.Unmatched.{compare_hint, expected_after, judgement_of, runs_from}
+use Rattle.hwdb_spec.specs.declared.Judgement.TheVariants.{Dead, Fine, UnknownPrefix}
+use Rattle.hwdb_spec_commands.specs.declared.WarningKind.TheVariants.{ByteOrderMark, CarriageReturn, CutValue, EmptyRange, LeadingTab, MayBeTooDeep, Misused, OpenBracket, RepeatedMatch, Replaced, SpacedEquals, TooLongForUdev, Unmatched, Unpaired, Unread}
+use Rattle.hwdb_spec_commands.specs.declared.WarningKind.{WarningKind}
+use Rattle.hwdb_spec_commands.specs.declared.vocabulary.Misuse.TheVariants.{NearName, ScanCode, TwoDefaults, UnfitValue, UnknownKey, ZeroRow}
+use Rattle.hwdb_check.specs.Laws.{KindsAreNamed, PatternsAreJudged, RunsAreAll, TooDeepRows, TooLongRows, UnmatchedRows, kind_number, kinds, run_bytes}
+
+-- ---- runs
+one_more : (n first : ℕ) → all_bytes_from (suc n) first ≡ all_bytes_from n first ++ (n + first) ∷ []
+unfolding all_bytes_from
+one_more zero first = let e : first ≡ 0 + first = omega arith in ap (λ (b : ℕ). b ∷ []) e
+one_more (suc n) first =
+    ap (λ (l : List ℕ). first ∷ l) (one_more n (suc first) ∙ ap (λ (b : ℕ). all_bytes_from n (suc first) ++ b ∷ []) (let e : n + suc first ≡ suc n + first = omega arith in e))
+
+longer_run : (first last : ℕ) → first ≤ last → run_bytes (first, suc last) ≡ run_bytes (first, last) ++ suc last ∷ []
+longer_run first last h =
+    let n : suc (suc last) - first ≡ suc (suc last - first) = omega (arith, h) in
+    let b : (suc last - first) + first ≡ suc last = omega (arith, h) in
+    ap (λ (k : ℕ). all_bytes_from k first) n ∙ one_more (suc last - first) first ∙ ap (λ (x : ℕ). all_bytes_from (suc last - first) first ++ x ∷ []) b
+
+one_byte : (b : ℕ) → run_bytes (b, b) ≡ b ∷ []
+unfolding all_bytes_from
+one_byte b = let n : suc b - b ≡ suc zero = omega arith in ap (λ (k : ℕ). all_bytes_from k b) n
+
+from_run : (first last : ℕ) (bytes : List ℕ) → first ≤ last → flat_map run_bytes (runs_from first last bytes) ≡ run_bytes (first, last) ++ bytes
+unfolding runs_from
+from_run first last [] h = refl
+from_run first last (b ∷ more) h = by (b == last + 1) refl (λ k. from_run first b more k) (from_run b b more (omega arith))
+  where
+    by : (c : Bool) → (b == last + 1) ≡ c → (first ≤ b → flat_map run_bytes (runs_from first b more) ≡ run_bytes (first, b) ++ more) → flat_map run_bytes (runs_from b b more) ≡ run_bytes (b, b) ++ more
+        → flat_map run_bytes (if c then runs_from first b more else (first, last) ∷ runs_from b b more) ≡ run_bytes (first, last) ++ b ∷ more
+    by true e longer other =
+        let is : b ≡ suc last = (let k : b ≡ last + 1 = eqb-true b (last + 1) e in omega (arith, k)) in
+        longer (omega (arith, is, h))
+        ∙ ap (λ (x : ℕ). run_bytes (first, x) ++ more) is
+        ∙ ap (λ (l : List ℕ). l ++ more) (longer_run first last h)
+        ∙ append_assoc (run_bytes (first, last)) (suc last ∷ []) more
+        ∙ ap (λ (x : ℕ). run_bytes (first, last) ++ x ∷ more) (sym is)
+    by false e longer other = ap (λ (l : List ℕ). run_bytes (first, last) ++ l) (other ∙ ap (λ (l : List ℕ). l ++ more) (one_byte b))
+
+pub all_runs : RunsAreAll
+all_runs [] = refl
+all_runs (b ∷ more) = from_run b b more (omega arith) ∙ ap (λ (l : List ℕ). l ++ more) (one_byte b)
+
+-- ---- patterns
+if_false : {X : Type 0} (b : Bool) (x y : X) → b ≡ false → (if b then x else y) ≡ y
+if_false true x y e = absurd cc
+if_false false x y e = refl
+
+pub judged_patterns : PatternsAreJudged
+unfolding judgement_of expected_after
+judged_patterns = record {
+  judges = λ text none space tab short.
+      if_false (is_none text) Fine _ none ∙ if_false (begins_with (byte " ") text) Fine _ space ∙ if_false (begins_with (byte "\t") text) Fine _ tab
+      ∙ if_false (nat_lt max_pattern (length text)) Fine _ (le-ltb max_pattern (length text) short);
+  hints = λ front short. if_false (nat_lt 256 (length front)) compare_hint _ (le-ltb 256 (length front) short);
+  place = λ place pattern. refl;
+  nothing = refl;
+  property = refl;
+  tab = refl;
+}
+
+pub unmatched_rows : UnmatchedRows
+unfolding runs_from all_bytes_from
+unmatched_rows = record {
+  fine = refl;
+  unknown = refl;
+  dead = refl;
+  begins = refl;
+  goes_on = refl;
+  hex = refl;
+  one = refl;
+  three = refl;
+  four = refl;
+  none = refl;
+  long = refl;
+  meant = refl;
+  other = refl;
+  nothing = refl;
+}
+
+-- ---- names
+-- no member comes twice
+distinct : List (List ℕ) → Bool
+distinct [] = true
+distinct (x ∷ xs) = if list_any (same x) xs then false else distinct xs
+
+found_at : (x : List ℕ) (xs : List (List ℕ)) (i : ℕ) → i < length xs → x ≡ get_or xs i [] → list_any (same x) xs ≡ true
+found_at x [] i lt is = absurd (omega (arith, lt))
+found_at x (y ∷ xs) zero lt is = ap (λ b. b || list_any (same x) xs) (ap (λ (z : List ℕ). same x z) (sym is) ∙ ap is_eq (tied_itself nat_list_cmp_total x))
+found_at x (y ∷ xs) (suc i) lt is = or_true (same x y) (list_any (same x) xs) (found_at x xs i (omega (arith, lt)) is)
+  where
+    or_true : (a b : Bool) → b ≡ true → (a || b) ≡ true
+    or_true true b e = refl
+    or_true false b e = e
+
+parts : (a b : Bool) → (if a then false else b) ≡ true → (a ≡ false) × (b ≡ true)
+parts true b e = absurd cc
+parts false b e = (refl, e)
+
+one_place : (xs : List (List ℕ)) (i j : ℕ) → distinct xs ≡ true → i < length xs → j < length xs → get_or xs i [] ≡ get_or xs j [] → i ≡ j
+unfolding distinct
+one_place [] i j d lt lt2 e = absurd (omega (arith, lt))
+one_place (x ∷ xs) zero zero d lt lt2 e = refl
+one_place (x ∷ xs) zero (suc j) d lt lt2 e =
+    absurd (let no = (parts (list_any (same x) xs) (distinct xs) d).0 in let yes = found_at x xs j (omega (arith, lt2)) e in let both : true ≡ false = sym yes ∙ no in cc)
+one_place (x ∷ xs) (suc i) zero d lt lt2 e =
+    absurd (let no = (parts (list_any (same x) xs) (distinct xs) d).0 in let yes = found_at x xs i (omega (arith, lt)) (sym e) in let both : true ≡ false = sym yes ∙ no in cc)
+one_place (x ∷ xs) (suc i) (suc j) d lt lt2 e = ap suc (one_place xs i j (parts (list_any (same x) xs) (distinct xs) d).1 (omega (arith, lt)) (omega (arith, lt2)) e)
+
+-- all names, that of a fine pattern too
+abbrev names : List (List ℕ)
+names = kinds ++ [] ∷ []
+
+-- where a kind's name is
+abbrev IsAt : WarningKind → Type 0
+IsAt kind = (kind_number kind < 21) × (warning_name kind ≡ get_or names (kind_number kind) [])
+
+are_distinct : distinct names ≡ true
+unfolding distinct pieces
+are_distinct = refl
+
+at : (kind : WarningKind) → IsAt kind
+unfolding pieces
+at ByteOrderMark = (omega arith, refl)
+at LeadingTab = (omega arith, refl)
+at CarriageReturn = (omega arith, refl)
+at OpenBracket = (omega arith, refl)
+at EmptyRange = (omega arith, refl)
+at SpacedEquals = (omega arith, refl)
+at CutValue = (omega arith, refl)
+at RepeatedMatch = (omega arith, refl)
+at (Replaced by) = (omega arith, refl)
+at (Misused NearName) = (omega arith, refl)
+at (Misused ScanCode) = (omega arith, refl)
+at (Misused UnknownKey) = (omega arith, refl)
+at (Misused UnfitValue) = (omega arith, refl)
+at (Misused ZeroRow) = (omega arith, refl)
+at (Misused TwoDefaults) = (omega arith, refl)
+at Unread = (omega arith, refl)
+at Unpaired = (omega arith, refl)
+at (Unmatched UnknownPrefix) = (omega arith, refl)
+at (Unmatched (Dead place)) = (omega arith, refl)
+at (Unmatched Fine) = (omega arith, refl)
+at TooLongForUdev = (omega arith, refl)
+at MayBeTooDeep = (omega arith, refl)
+
+long : length names ≡ 21
+unfolding pieces
+long = refl
+
+among : (n : ℕ) (name : List ℕ) → n < 21 → name ≡ get_or names n [] → (n ≡ 20) ⊎ Contains kinds name
+unfolding pieces
+among n name lt is = by (n == 20) refl
+  where
+    short : length kinds ≡ 20
+    short = refl
+
+    in_front : (xs : List (List ℕ)) (i : ℕ) → i < length xs → get_or (xs ++ [] ∷ []) i [] ≡ get_or xs i name
+    in_front [] i h = absurd (omega (arith, h))
+    in_front (x ∷ xs) zero h = refl
+    in_front (x ∷ xs) (suc i) h = in_front xs i (omega (arith, h))
+
+    by : (c : Bool) → (n == 20) ≡ c → (n ≡ 20) ⊎ Contains kinds name
+    by true e = inl (eqb-true n 20 e)
+    by false e =
+        let other : n ≡ 20 → ⊥ = λ k. (let t : (n == 20) ≡ true = ap (λ (m : ℕ). m == 20) k in let both : true ≡ false = sym t ∙ e in cc) in
+        let h : n < length kinds = subst (λ (m : ℕ). n < m) (sym short) (omega (arith, lt, other)) in
+        inr (n, h, sym (in_front kinds n h) ∙ sym is)
+
+pub too_long_rows : TooLongRows
+too_long_rows = record {
+  most = refl;
+  star = refl;
+  question_mark = refl;
+  bracket = refl;
+  plain = refl;
+  property = refl;
+  left_out = refl;
+  place = refl;
+}
+
+pub too_deep_rows : TooDeepRows
+too_deep_rows = record {
+  most = refl;
+  more = refl;
+  wild = refl;
+  told_once = refl;
+  property = refl;
+  left_out = refl;
+  place = refl;
+}
+
+pub named_kinds : KindsAreNamed
+unfolding pieces
+named_kinds = record {
+  each = λ kind. among (kind_number kind) (warning_name kind) (at kind).0 (at kind).1;
+  all = (
+    ByteOrderMark ∷ LeadingTab ∷ CarriageReturn ∷ OpenBracket ∷ EmptyRange ∷ SpacedEquals ∷ CutValue ∷ RepeatedMatch ∷ Replaced 0 ∷ Misused NearName ∷ Misused ScanCode
+        ∷ Misused UnknownKey ∷ Misused UnfitValue ∷ Misused ZeroRow ∷ Misused TwoDefaults ∷ Unread ∷ Unpaired ∷ Unmatched UnknownPrefix ∷ Unmatched (Dead 0) ∷ TooLongForUdev ∷ [],
+    refl,
+  );
+  own = λ one two e.
+      one_place names (kind_number one) (kind_number two) are_distinct (subst (λ (m : ℕ). kind_number one < m) (sym long) (at one).0)
+      (subst (λ (m : ℕ). kind_number two < m) (sym long) (at two).0) (sym (at one).1 ∙ e ∙ (at two).1);
+}

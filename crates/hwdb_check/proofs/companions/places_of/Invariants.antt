@@ -1,0 +1,7 @@
+use Rattle.std.proofs.Common.{map, take}
+use Rattle.hwdb_text.specs.Views.{given_in}
+use Rattle.hwdb_check.specs.Internal.{ArePlacesOf, own}
+use Rattle.hwdb_check.proofs.companions.places_of.Given as goal
+
+abbrev pub invariant-loop-given : goal.invariant-loop-given
+invariant-loop-given l = ArePlacesOf (map (given_in own) (take l.given-index l.all)) l.places

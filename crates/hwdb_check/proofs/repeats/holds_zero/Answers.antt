@@ -1,0 +1,7 @@
+use Rattle.std.proofs.Common.{◌∙◌, ap, length, nat_lt}
+use Rattle.hwdb_spec.specs.Lines.{is}
+use Rattle.hwdb_check.proofs.WarningLemmas.{some_found}
+use Rattle.hwdb_check.proofs.repeats.holds_zero.Goals as goal
+
+pub returns : goal.returns
+returns c = ap (λ n. nat_lt n (length c.args.text.now)) c.end_of.ensures.place ∙ some_found (is 0) c.args.text.now

@@ -1,0 +1,24 @@
+use Rattle.std.proofs.Common.{length, ◌+◌, ◌-◌, ◌≡◌, ◌≤◌, ◌++◌, drop, map, take}
+use Rattle.std.specs.Prelude.{flat_map, string_bytes}
+use Rattle.hwdb_spec_commands.specs.Findings.{line_text, warnings_text}
+use Rattle.hwdb_spec.specs.Lines.{is, numbered, pieces}
+use Rattle.hwdb_spec_commands.specs.Warnings.{line_warnings, warnings}
+use Rattle.hwdb_check.specs.Plain.{AreQuiet, IsTame}
+use Rattle.hwdb_check.proofs.warnings.cut_warnings.Given as goal
+
+abbrev pub invariant-loop-at : goal.invariant-loop-at
+invariant-loop-at l = record {
+  within : l.at ≤ length l.bytes + 1;
+  near : l.number ≤ l.at + 1;
+  tame : IsTame 10 (take l.tame (drop l.at l.bytes));
+  quiet : AreQuiet l.bytes (numbered l.number (pieces (is 10) (drop l.at l.bytes)));
+  text : l.warned.text.items
+      ++ flat_map (line_text l.telling.json (map string_bytes l.telling.allowed.now) l.path l.bytes) (numbered l.number (pieces (is 10) (drop l.at l.bytes)))
+      ≡ warnings_text l.telling.json (map string_bytes l.telling.allowed.now) l.path l.bytes;
+  found : l.warned.found.items
+      ++ flat_map (line_warnings (map string_bytes l.telling.allowed.now) l.bytes) (numbered l.number (pieces (is 10) (drop l.at l.bytes)))
+      ≡ warnings (map string_bytes l.telling.allowed.now) l.bytes;
+}
+
+abbrev pub decreases-loop-at : goal.decreases-loop-at
+decreases-loop-at l = length l.bytes + 1 - l.at

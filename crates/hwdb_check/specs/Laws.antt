@@ -1,0 +1,121 @@
+-- What the laws say of patterns that can't match, and of the names of warnings. A definition that said less would be noticed here.
+use Rattle.std.specs.Prelude.{◌-◌, ◌≡◌, ◌≤◌, ◌⊎◌, ◌++◌, Bool, Contains, List, None, Some, [], codes, false, flat_map, length, map, replicate, suc, true, ℕ}
+use Rattle.hwdb_spec.specs.Forms.{all_bytes_from, expected, judged}
+use Rattle.hwdb_spec_commands.specs.FormTable.{asked}
+use Rattle.hwdb_spec_commands.specs.Kinds.{warning_name}
+use Rattle.hwdb_spec.specs.Lines.{begins_with, byte, is, is_none, max_pattern, pieces}
+use Rattle.hwdb_spec_commands.specs.Unmatched.{compare_hint, is_unmatched, judgement_hint, judgement_of, judgement_place, judgement_text, place_hint, prefix_hint, runs, runs_hint}
+use Rattle.hwdb_spec_commands.specs.Warnings.{is_too_long, may_be_too_deep, warning_place}
+use Rattle.hwdb_spec.specs.declared.Judgement.TheVariants.{Dead, Fine, UnknownPrefix}
+use Rattle.hwdb_spec_commands.specs.declared.WarningKind.TheVariants.{ByteOrderMark, CarriageReturn, CutValue, EmptyRange, LeadingTab, MayBeTooDeep, Misused, OpenBracket, RepeatedMatch, Replaced, SpacedEquals, TooLongForUdev, Unmatched, Unpaired, Unread}
+use Rattle.hwdb_spec_commands.specs.declared.WarningKind.{WarningKind}
+use Rattle.hwdb_spec_commands.specs.declared.vocabulary.Misuse.TheVariants.{NearName, ScanCode, TwoDefaults, UnfitValue, UnknownKey, ZeroRow}
+use Rattle.hwdb_spec_commands.specs.declared.vocabulary.Misuse.{Misuse}
+use Rattle.hwdb_check.specs.declared.kinds.TheConstants.{KINDS}
+
+-- ---- patterns
+-- the bytes of a run, from its first one to its last
+abbrev pub run_bytes : ℕ × ℕ → List ℕ
+run_bytes run = all_bytes_from (suc run.1 - run.0) run.0
+
+-- runs are of all bytes, in their order, and of no others
+abbrev pub RunsAreAll : Type 0
+RunsAreAll = (bytes : List ℕ) → flat_map run_bytes (runs bytes) ≡ bytes
+
+-- a clean text that is a pattern, no property and not too long, is judged; a dead one with the bytes that can follow
+pub record PatternsAreJudged : Type 0 where
+  pub judges : (text : List ℕ) → is_none text ≡ false → begins_with (byte " ") text ≡ false → begins_with (byte "\t") text ≡ false
+      → length text ≤ max_pattern → judgement_of text ≡ judged asked text
+  pub hints : (front : List ℕ) → length front ≤ 256 → place_hint front ≡ runs_hint (runs (expected asked front))
+  pub place : (place : ℕ) (pattern : List ℕ) → judgement_place (Dead place) ≡ place
+  pub nothing : judgement_of [] ≡ Fine
+  pub property : judgement_of (codes " A=b") ≡ Fine
+  pub tab : judgement_of (codes "\tA=b") ≡ Fine
+
+-- what is said of them, and what to do
+pub record UnmatchedRows : Type 0 where
+  pub fine : is_unmatched Fine ≡ false
+  pub unknown : is_unmatched UnknownPrefix ≡ true
+  pub dead : is_unmatched (Dead 3) ≡ true
+  pub begins : judgement_text UnknownPrefix ≡ codes "no string that udev asks begins like this"
+  pub goes_on : judgement_text (Dead 3) ≡ codes "no string that udev asks goes on like this"
+  pub hex : runs_hint (runs (codes "0123456789ABCDEF")) ≡ codes "put 0-9 or A-F here"
+  pub one : runs_hint (runs (codes "v")) ≡ codes "put v here"
+  pub three : runs_hint (runs (codes "1ae")) ≡ codes "put 1 or a or e here"
+  pub four : runs_hint (runs (codes "1aex")) ≡ compare_hint
+  pub none : runs_hint (runs []) ≡ compare_hint
+  pub long : place_hint (all_bytes_from 257 0) ≡ compare_hint
+  pub meant : prefix_hint (Some (codes "evdev:")) ≡ codes "did you mean evdev:?"
+  pub other : prefix_hint None ≡ codes "begin it as udev's strings do, with evdev: or mouse: or usb: and the like"
+  pub nothing : judgement_hint Fine (codes "usb:") ≡ []
+
+-- ---- what udev can't take
+-- whether a line is told that begins so and has so many bytes more
+abbrev pub is_told_with : (begin : List ℕ) → (more : ℕ) → Bool
+is_told_with begin more = is_too_long (record { number = 1; text = begin ++ replicate more 97 })
+
+-- the bytes from the first wildcard on count, of a match line that isn't left out
+pub record TooLongRows : Type 0 where
+  pub most : is_told_with (codes "usb:*") 2045 ≡ false
+  pub star : is_told_with (codes "usb:*") 2046 ≡ true
+  pub question_mark : is_told_with (codes "usb:?") 2046 ≡ true
+  pub bracket : is_told_with (codes "usb:[") 2046 ≡ true
+  pub plain : is_told_with (codes "usb:") 4000 ≡ false
+  pub property : is_told_with (codes " A=*") 2046 ≡ false
+  pub left_out : is_told_with (codes "usb:*") 4092 ≡ false
+  pub place : warning_place TooLongForUdev (codes "usb:v*") (codes "usb:v*") ≡ 5
+
+-- whether a line is told as perhaps too deep that begins so and has so many bytes more
+abbrev pub is_deep_with : (begin : List ℕ) → (more : ℕ) → Bool
+is_deep_with begin more = may_be_too_deep (record { number = 1; text = begin ++ replicate more 97 })
+
+-- all bytes count, of a match line that isn't left out and isn't told as too long
+pub record TooDeepRows : Type 0 where
+  pub most : is_deep_with (codes "usb:") 2043 ≡ false
+  pub more : is_deep_with (codes "usb:") 2044 ≡ true
+  pub wild : is_deep_with (codes "usb:v*") 2042 ≡ true
+  pub told_once : is_deep_with (codes "usb:*") 2046 ≡ false
+  pub property : is_deep_with (codes " A=") 2046 ≡ false
+  pub left_out : is_deep_with (codes "usb:") 4093 ≡ false
+  pub place : warning_place MayBeTooDeep (codes "usb:") (codes "usb:") ≡ 2047
+
+-- ---- names
+-- the names of all kinds of warnings, as `--allow` takes them
+abbrev pub kinds : List (List ℕ)
+kinds = pieces (is (byte "\n")) KINDS.now
+
+-- kinds of misuses, by number
+abbrev pub misuse_number : Misuse → ℕ
+misuse_number NearName = 9
+misuse_number ScanCode = 10
+misuse_number UnknownKey = 11
+misuse_number UnfitValue = 12
+misuse_number ZeroRow = 13
+misuse_number TwoDefaults = 14
+
+-- kinds of warnings, by number; of `Replaced` and `Unmatched` the line and the place don't matter
+abbrev pub kind_number : WarningKind → ℕ
+kind_number ByteOrderMark = 0
+kind_number LeadingTab = 1
+kind_number CarriageReturn = 2
+kind_number OpenBracket = 3
+kind_number EmptyRange = 4
+kind_number SpacedEquals = 5
+kind_number CutValue = 6
+kind_number RepeatedMatch = 7
+kind_number (Replaced by) = 8
+kind_number (Misused why) = misuse_number why
+kind_number Unread = 15
+kind_number Unpaired = 16
+kind_number (Unmatched UnknownPrefix) = 17
+kind_number (Unmatched (Dead place)) = 18
+kind_number TooLongForUdev = 19
+kind_number MayBeTooDeep = 19
+kind_number (Unmatched Fine) = 20
+
+-- Each kind of warning has its own name among these, and each of them is the name of one kind. Both kinds of what udev can't take count
+-- as one.
+pub record KindsAreNamed : Type 0 where
+  pub each : (kind : WarningKind) → (kind_number kind ≡ 20) ⊎ Contains kinds (warning_name kind)
+  pub all : (some : List WarningKind) × (map warning_name some ≡ kinds)
+  pub own : (one two : WarningKind) → warning_name one ≡ warning_name two → kind_number one ≡ kind_number two

@@ -1,0 +1,175 @@
+//! Patterns that match no text that udev asks.
+ghost use Rattle.std.specs.Prelude.{◌≡◌, ◌++◌, List, ℕ, ◌∷◌, filter, map, take, IfOk, OnOk};
+ghost use Rattle.std.specs.Option.{option_map};
+ghost use Rattle.hwdb_spec_commands.specs.FormTable.{asked};
+ghost use Rattle.hwdb_spec.specs.Forms.{all_bytes_from, is_expected};
+ghost use Rattle.hwdb_spec_commands.specs.Unmatched;
+
+use crate::runs::{push_runs, runs_of};
+use hwdb_forms::{expected_below, expected_from, judge, likely_prefix};
+use hwdb_spec::Judgement;
+use hwdb_text::{LONGEST_MATCH, begins_with};
+use std::alloc::{AllocError, Global};
+
+/// A front of more bytes isn't looked at for what could come after it (our choice).
+const LONGEST_FRONT: usize = 256;
+
+/// The bytes below this are looked at first. If any byte may be there, these are of more runs than are named.
+const FIRST: u8 = 128;
+
+/// What is said of a clean text, if it is a pattern. The only error, here and below, is `AllocError`.
+#[tactic(auto, unfolding(hwdb_spec_commands::specs::Unmatched::judgement_of))]
+pub fn judgement_of(alloc: Global, clean: &[u8]) -> Result<Judgement, AllocError>
+    ensures { IfOk result (λ told. told ≡ Unmatched.judgement_of clean.now) }
+{
+    if clean.is_empty() {
+        return Ok(Judgement::Fine);
+    }
+    if begins_with(b' ', clean) {
+        return Ok(Judgement::Fine);
+    }
+    if begins_with(b'\t', clean) {
+        return Ok(Judgement::Fine);
+    }
+    if clean.len() > LONGEST_MATCH {
+        return Ok(Judgement::Fine);
+    }
+    let told = judge(alloc, clean)?;
+    Ok(told)
+}
+
+/// What is printed of a judgement.
+pub fn judgement_text(judgement: Judgement) -> &'static str
+    ensures { result.now ≡ Unmatched.judgement_text judgement }
+{
+    match judgement {
+        Judgement::Fine => "",
+        Judgement::UnknownPrefix => "no string that udev asks begins like this",
+        Judgement::Dead(_) => "no string that udev asks goes on like this",
+    }
+}
+
+/// After how many bytes of its line a judgement is.
+pub fn judgement_place(judgement: Judgement) -> usize
+    ensures { result ≡ Unmatched.judgement_place judgement }
+{
+    match judgement {
+        Judgement::Fine | Judgement::UnknownPrefix => 0,
+        Judgement::Dead(place) => place,
+    }
+}
+
+/// The first bytes of a text.
+fn front_of(text: &[u8], size: usize) -> &[u8]
+    ensures { result.now ≡ take size text.now }
+{
+    if size < text.len() {
+        &text[..size]
+    } else {
+        text
+    }
+}
+
+/// Those of the bytes that could be after a front which are looked at first.
+fn first_expected(alloc: Global, front: &[u8]) -> Result<Vec<u8>, AllocError>
+    ensures { IfOk result (λ bytes. bytes.items
+        ≡ filter (is_expected asked front.now) (all_bytes_from 128 0)) }
+{
+    expected_below(alloc, front, FIRST)
+}
+
+/// The other ones.
+fn other_expected(alloc: Global, front: &[u8]) -> Result<Vec<u8>, AllocError>
+    ensures { IfOk result (λ bytes. bytes.items
+        ≡ filter (is_expected asked front.now) (all_bytes_from 128 128)) }
+{
+    expected_from(alloc, front, FIRST)
+}
+
+/// Adds what to do about a pattern that goes wrong after this front, which isn't too long. If the first bytes are of too many runs to
+/// be named, so are all.
+fn push_expected(alloc: Global, text: &mut Vec<u8>, front: &[u8]) -> Result<(), AllocError>
+    ensures { OnOk result (text.new.items ≡ text.old.items
+        ++ Unmatched.runs_hint (Unmatched.runs (Unmatched.expected_after front.now))) }
+{
+    let mut bytes = first_expected(alloc, front)?;
+    let first = runs_of(alloc, &bytes)?;
+    if first.len() > 3 {
+        return push_runs(text, &first);
+    }
+    let others = other_expected(alloc, front)?;
+    bytes.extend_from_slice(&others)?;
+    let runs = runs_of(alloc, &bytes)?;
+    push_runs(text, &runs)
+}
+
+/// Adds what to do about a pattern that goes wrong after this front.
+fn push_place_hint(alloc: Global, text: &mut Vec<u8>, front: &[u8]) -> Result<(), AllocError>
+    ensures { OnOk result (text.new.items ≡ text.old.items ++ Unmatched.place_hint front.now) }
+{
+    if front.len() > LONGEST_FRONT {
+        return push_runs(text, &[]);
+    }
+    push_expected(alloc, text, front)
+}
+
+/// The beginning that was likely meant by that of a pattern.
+#[tactic(auto, unfolding(hwdb_spec_commands::specs::Unmatched::meant_prefix))]
+fn meant_prefix(alloc: Global, pattern: &[u8]) -> Result<Option<&'static [u8]>, AllocError>
+    ensures { IfOk result
+        (λ found. option_map (λ p. p.now) found ≡ Unmatched.meant_prefix pattern.now) }
+{
+    likely_prefix(alloc, pattern)
+}
+
+/// Adds which beginning was likely meant.
+fn push_meant(text: &mut Vec<u8>, prefix: &[u8]) -> Result<(), AllocError>
+    ensures { OnOk result
+        (text.new.items ≡ text.old.items ++ Unmatched.prefix_hint (Some prefix.now)) }
+{
+    text.extend_from_slice(b"did you mean ")?;
+    text.extend_from_slice(prefix)?;
+    text.push(b'?')?;
+    Ok(())
+}
+
+/// Adds which beginning was likely meant, or how patterns begin.
+fn push_prefix(text: &mut Vec<u8>, found: Option<&'static [u8]>) -> Result<(), AllocError>
+    ensures { OnOk result (text.new.items
+        ≡ text.old.items ++ Unmatched.prefix_hint (option_map (λ p. p.now) found.entry)) }
+{
+    match found {
+        None => {
+            let hint = "begin it as udev's strings do, with evdev: or mouse: or usb: and the like";
+            text.extend_from_slice(hint.as_bytes())?;
+        }
+        Some(prefix) => push_meant(text, prefix)?,
+    }
+    Ok(())
+}
+
+/// Adds what to do about a pattern that begins as no text does.
+fn push_prefix_hint(alloc: Global, text: &mut Vec<u8>, pattern: &[u8]) -> Result<(), AllocError>
+    ensures { OnOk result (text.new.items
+        ≡ text.old.items ++ Unmatched.prefix_hint (Unmatched.meant_prefix pattern.now)) }
+{
+    let found = meant_prefix(alloc, pattern)?;
+    push_prefix(text, found)
+}
+
+/// Adds what to do about a pattern with this judgement.
+pub fn push_judgement_hint(
+    alloc: Global,
+    text: &mut Vec<u8>,
+    judgement: Judgement,
+    pattern: &[u8],
+) -> Result<(), AllocError>
+    ensures { OnOk result (text.new.items
+        ≡ text.old.items ++ Unmatched.judgement_hint judgement pattern.now) }
+{
+    match judgement {
+        Judgement::Fine => Ok(()),
+        Judgement::UnknownPrefix => push_prefix_hint(alloc, text, pattern),
+        Judgement::Dead(place) => push_place_hint(alloc, text, front_of(pattern, place)),
+    }
+}

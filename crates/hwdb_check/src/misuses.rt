@@ -1,0 +1,82 @@
+//! Properties that don't fit what is known of properties.
+ghost use Rattle.std.specs.Prelude.{◌≡◌, ◌++◌, OnOk};
+ghost use Rattle.hwdb_spec.specs.Lines;
+ghost use Rattle.hwdb_spec_commands.specs.Properties.{misuse_hint};
+ghost use Rattle.hwdb_spec_commands.specs.Surroundings.{unpaired_hint, unread_hint};
+ghost use Rattle.hwdb_spec_commands.specs.Warnings.{misused};
+ghost use Rattle.hwdb_check.specs.Internal.{line_of};
+
+use crate::line_warnings::{is_property, is_spaced};
+use hwdb_properties::{after, before, companions_of, misuse_of, prefixes_of, push_misuse_hint};
+use hwdb_spec_commands::Misuse;
+use hwdb_text::{end_of, unindented};
+use std::alloc::AllocError;
+
+/// The key of a clean property line.
+fn key_of(clean: &[u8]) -> &[u8]
+    ensures { result.now ≡ Lines.key (line_of 0 clean.now) }
+{
+    before(b'=', unindented(clean))
+}
+
+/// The value of a clean property line.
+fn value_of(clean: &[u8]) -> &[u8]
+    ensures { result.now ≡ Lines.value (line_of 0 clean.now) }
+{
+    after(b'=', unindented(clean))
+}
+
+/// What is said of a clean line, if it is a property that doesn't fit.
+pub fn misuse_in(clean: &[u8]) -> Option<Misuse>
+    ensures { result ≡ misused (line_of 0 clean.now) }
+{
+    if !is_property(clean) {
+        return None;
+    }
+    let body = unindented(clean);
+    let equals = end_of(b'=', body);
+    if equals == body.len() {
+        return None;
+    }
+    if equals == 0 {
+        return None;
+    }
+    let key = &body[..equals];
+    let value = &body[equals + 1..];
+    if is_spaced(key, value) {
+        return None;
+    }
+    misuse_of(key, value)
+}
+
+/// Adds what to do about a misuse in a clean line. The only error, here and below, is `AllocError`.
+pub fn push_hint_of_misuse(
+    text: &mut Vec<u8>,
+    misuse: Misuse,
+    clean: &[u8],
+) -> Result<(), AllocError>
+    ensures { OnOk result (text.new.items ≡ text.old.items ++ misuse_hint misuse
+        (Lines.key (line_of 0 clean.now)) (Lines.value (line_of 0 clean.now))) }
+{
+    push_misuse_hint(text, misuse, key_of(clean), value_of(clean))
+}
+
+/// Adds where the property of a clean line is read.
+pub fn push_unread_hint(text: &mut Vec<u8>, clean: &[u8]) -> Result<(), AllocError>
+    ensures { OnOk result (text.new.items
+        ≡ text.old.items ++ unread_hint (Lines.key (line_of 0 clean.now))) }
+{
+    text.extend_from_slice(b"it is read below these prefixes: ")?;
+    text.extend_from_slice(prefixes_of(key_of(clean)))?;
+    Ok(())
+}
+
+/// Adds what the property of a clean line is read with.
+pub fn push_unpaired_hint(text: &mut Vec<u8>, clean: &[u8]) -> Result<(), AllocError>
+    ensures { OnOk result (text.new.items
+        ≡ text.old.items ++ unpaired_hint (Lines.key (line_of 0 clean.now))) }
+{
+    text.extend_from_slice(b"give its record these too: ")?;
+    text.extend_from_slice(companions_of(key_of(clean)))?;
+    Ok(())
+}

@@ -1,0 +1,507 @@
+//! Warnings: lines that are read, but likely not as they were meant.
+ghost use Rattle.std.specs.Prelude.{◌≡◌, ◌++◌, ◌∷◌, [], filter, flat_map, map, string_bytes, take, IfOk, OnOk};
+ghost use Rattle.hwdb_spec.specs.Lines.{Line, clean_line};
+ghost use Rattle.hwdb_spec.specs.Records;
+ghost use Rattle.hwdb_spec_commands.specs.Findings.{line_text, told_warning, warning_json_line, warnings_text};
+ghost use Rattle.hwdb_spec_commands.specs.Reports.{hint_line};
+ghost use Rattle.hwdb_spec_commands.specs.Warnings.{all_warnings, gets, line_kinds, line_warnings, warnings, warning_text, warning_place, warning_hint, warning_line, warning_report};
+ghost use Rattle.hwdb_text.specs.Views.{given_in};
+ghost use Rattle.hwdb_check.specs.Internal.{IsKnown, IsPlain, IsRead, clean_of, line_of, number_text, own, read_line};
+ghost use Rattle.hwdb_check.specs.Plain.{IsPlainFile, IsQuiet, IsTame};
+
+use crate::json_lines::{Finding, finding_line};
+use crate::judgements::{judgement_of, judgement_place, judgement_text, push_judgement_hint};
+use crate::kinds::{Telling, is_told, warning_name};
+use crate::known::{Known, known_of, nothing_known};
+use crate::line_warnings::{
+    LONGEST_LINE, Read, closed, is_warned, is_warned_at_all, kinds_of, wild_place,
+};
+use crate::misuses::{misuse_in, push_hint_of_misuse, push_unpaired_hint, push_unread_hint};
+use crate::plain_files::{is_plain, tame_after, tame_size};
+use hwdb_pattern::{open_place, range_place};
+use hwdb_properties::misuse_text;
+use hwdb_show::{push_mark_line, push_name, push_shown_line};
+use hwdb_spec::Fault;
+use hwdb_spec_commands::{Misuse, WarningKind};
+use hwdb_text::{Content, Given, Lines, content_of, end_of, indent_of};
+use itoa::Buffer;
+use std::alloc::{AllocError, Global};
+
+/// What is printed of a warning, up to the number in it.
+fn text_of(kind: WarningKind) -> &'static str
+    ensures { warning_text kind ≡ result.now ++ number_text kind }
+{
+    match kind {
+        WarningKind::ByteOrderMark => "the pattern begins with a byte order mark",
+        WarningKind::LeadingTab => "a match line that begins with a tab",
+        WarningKind::CarriageReturn => "a carriage return in the middle of the line",
+        WarningKind::OpenBracket => "a [ that is never closed stands for itself",
+        WarningKind::EmptyRange => "a range without members",
+        WarningKind::SpacedEquals => "a blank beside the first =",
+        WarningKind::CutValue => "a # without a blank before it cuts the value",
+        WarningKind::RepeatedMatch => "a match line that stands in its record already",
+        WarningKind::Replaced(_) => "an assignment that line ",
+        WarningKind::Misused(misuse) => misuse_text(misuse),
+        WarningKind::Unread => "a property that isn't read below its patterns",
+        WarningKind::Unpaired => "a property that is read with others alone",
+        WarningKind::Unmatched(judgement) => judgement_text(judgement),
+        WarningKind::TooLongForUdev => {
+            "udev takes at most 2046 bytes from the first *, ? or [ on"
+        }
+        WarningKind::MayBeTooDeep => {
+            "with other lines, more than 2047 bytes may be too deep for udev"
+        }
+    }
+}
+
+/// Adds what is printed of a warning from the number in it on; nothing if it has none. The only error, here and below,
+/// is `AllocError`.
+fn push_number(text: &mut Vec<u8>, kind: WarningKind) -> Result<(), AllocError>
+    ensures { OnOk result (text.new.items ≡ text.old.items ++ number_text kind) }
+{
+    if let WarningKind::Replaced(by) = kind {
+        let mut digits = Buffer::new();
+        text.extend_from_slice(digits.format(by).as_bytes())?;
+        text.extend_from_slice(b" replaces")?;
+    }
+    Ok(())
+}
+
+/// What to do about a warning that says it in the same words for each line.
+fn hint_of(kind: WarningKind) -> &'static str
+    ensures { (clean : Line) → IsPlain kind → result.now ≡ warning_hint kind clean }
+{
+    match kind {
+        WarningKind::ByteOrderMark => "save the file without a byte order mark",
+        WarningKind::LeadingTab => "begin a property with a space",
+        WarningKind::CarriageReturn => "end each line with a newline alone",
+        WarningKind::OpenBracket => "close it with a ], or write [[] for the byte",
+        WarningKind::EmptyRange => "put the lower end of the range first",
+        WarningKind::SpacedEquals => "take it away: it belongs to the key or to the value",
+        WarningKind::CutValue => "put a blank before a comment; a value can't hold a #",
+        WarningKind::RepeatedMatch | WarningKind::Replaced(_) => "take one of the two away",
+        WarningKind::TooLongForUdev => {
+            "shorten it: systemd 252 and 257 crash at it, and 262 finds nothing"
+        }
+        WarningKind::MayBeTooDeep => {
+            "shorten it: systemd 262 refuses a depth of more than 2048, which hwdb verify tells"
+        }
+        WarningKind::Misused(_)
+        | WarningKind::Unread
+        | WarningKind::Unpaired
+        | WarningKind::Unmatched(_) => "",
+    }
+}
+
+/// Adds some words.
+fn push_words(text: &mut Vec<u8>, words: &str) -> Result<(), AllocError>
+    ensures { OnOk result (text.new.items ≡ text.old.items ++ words.now) }
+{
+    text.extend_from_slice(words.as_bytes())?;
+    Ok(())
+}
+
+/// Adds what to do about a warning of a line with this clean text.
+fn push_hint(
+    alloc: Global,
+    text: &mut Vec<u8>,
+    kind: WarningKind,
+    clean: &[u8],
+) -> Result<(), AllocError>
+    ensures { OnOk result
+        (text.new.items ≡ text.old.items ++ warning_hint kind (line_of 0 clean.now)) }
+{
+    match kind {
+        WarningKind::Misused(misuse) => push_hint_of_misuse(text, misuse, clean),
+        WarningKind::Unread => push_unread_hint(text, clean),
+        WarningKind::Unpaired => push_unpaired_hint(text, clean),
+        WarningKind::Unmatched(judgement) => push_judgement_hint(alloc, text, judgement, clean),
+        _ => push_words(text, hint_of(kind)),
+    }
+}
+
+/// Adds the line of what to do about a warning of a line with this clean text.
+fn push_hint_line(
+    alloc: Global,
+    text: &mut Vec<u8>,
+    kind: WarningKind,
+    clean: &[u8],
+) -> Result<(), AllocError>
+    ensures { OnOk result (text.new.items
+        ≡ text.old.items ++ hint_line (warning_hint kind (line_of 0 clean.now))) }
+{
+    text.extend_from_slice(b"    hint: ")?;
+    push_hint(alloc, text, kind, clean)?;
+    text.push(b'\n')?;
+    Ok(())
+}
+
+/// The place of a warning in its line, in bytes from 0.
+fn warning_place(kind: WarningKind, line: &[u8], clean: &[u8]) -> usize
+    ensures { result ≡ warning_place kind line.now clean.now }
+{
+    match kind {
+        WarningKind::ByteOrderMark | WarningKind::LeadingTab | WarningKind::RepeatedMatch => 0,
+        WarningKind::CarriageReturn => end_of(b'\r', line),
+        WarningKind::OpenBracket => open_place(clean),
+        WarningKind::EmptyRange => range_place(closed(clean)),
+        WarningKind::SpacedEquals => end_of(b'=', line),
+        WarningKind::CutValue => end_of(b'#', line),
+        WarningKind::Replaced(_) => indent_of(line),
+        WarningKind::Misused(Misuse::NearName | Misuse::ScanCode) => indent_of(line),
+        WarningKind::Misused(_) => end_of(b'=', line) + 1,
+        WarningKind::Unread | WarningKind::Unpaired => indent_of(line),
+        WarningKind::Unmatched(judgement) => judgement_place(judgement),
+        WarningKind::TooLongForUdev => wild_place(clean),
+        WarningKind::MayBeTooDeep => LONGEST_LINE,
+    }
+}
+
+/// Adds the line of a warning.
+pub fn push_warning_line(
+    text: &mut Vec<u8>,
+    path: &[u8],
+    number: u64,
+    kind: WarningKind,
+) -> Result<(), AllocError>
+    ensures { OnOk result (text.new.items ≡ text.old.items ++ warning_line path.now number kind) }
+{
+    let mut digits = Buffer::new();
+    push_name(text, path)?;
+    text.push(b':')?;
+    text.extend_from_slice(digits.format(number).as_bytes())?;
+    text.extend_from_slice(b": warning: ")?;
+    text.extend_from_slice(text_of(kind).as_bytes())?;
+    push_number(text, kind)?;
+    text.push(b'\n')?;
+    Ok(())
+}
+
+/// Adds the report of a warning.
+fn push_warning(
+    alloc: Global,
+    text: &mut Vec<u8>,
+    path: &[u8],
+    line: &Read<'_>,
+    kind: WarningKind,
+) -> Result<(), AllocError>
+    requires { IsRead line.now }
+    ensures { OnOk result (text.new.items
+        ≡ text.old.items ++ warning_report path.now (read_line line.now) kind) }
+{
+    push_warning_line(text, path, line.number, kind)?;
+    let place = warning_place(kind, line.text, line.clean);
+    push_shown_line(text, line.text, place)?;
+    push_mark_line(alloc, text, line.text, place)?;
+    push_hint_line(alloc, text, kind, line.clean)
+}
+
+/// What is printed of a warning, without its line.
+fn words_of(alloc: Global, kind: WarningKind) -> Result<Vec<u8>, AllocError>
+    ensures { IfOk result (λ words. words.items ≡ warning_text kind) }
+{
+    let mut words = Vec::new(alloc);
+    words.extend_from_slice(text_of(kind).as_bytes())?;
+    push_number(&mut words, kind)?;
+    Ok(words)
+}
+
+/// Adds the line of JSON of a warning.
+fn push_warning_json(
+    alloc: Global,
+    text: &mut Vec<u8>,
+    path: &[u8],
+    line: &Read<'_>,
+    kind: WarningKind,
+) -> Result<(), AllocError>
+    requires { IsRead line.now }
+    ensures { OnOk result (text.new.items
+        ≡ text.old.items ++ warning_json_line path.now (read_line line.now) kind) }
+{
+    let words = words_of(alloc, kind)?;
+    let mut hint = Vec::new(alloc);
+    push_hint(alloc, &mut hint, kind, line.clean)?;
+    let found = Finding {
+        path,
+        line: line.number,
+        place: warning_place(kind, line.text, line.clean),
+        kind: warning_name(kind),
+        text: &words,
+        hint: &hint,
+    };
+    text.extend_from_slice(&finding_line(alloc, &found)?)?;
+    Ok(())
+}
+
+/// Adds what is printed of a warning: a line of JSON, or its report.
+fn push_told(
+    alloc: Global,
+    json: bool,
+    text: &mut Vec<u8>,
+    path: &[u8],
+    line: &Read<'_>,
+    kind: WarningKind,
+) -> Result<(), AllocError>
+    requires { IsRead line.now }
+    ensures { OnOk result (text.new.items
+        ≡ text.old.items ++ told_warning json path.now (read_line line.now) kind) }
+{
+    if json {
+        push_warning_json(alloc, text, path, line, kind)
+    } else {
+        push_warning(alloc, text, path, line, kind)
+    }
+}
+
+/// Whether a line gets a warning that is told.
+fn gets(allowed: &[String], line: &Read<'_>, kind: WarningKind) -> bool
+    requires { IsRead line.now }
+    ensures { result ≡ gets (map string_bytes allowed.now) line.now.bytes.now
+        (read_line line.now) (clean_of line.now) kind }
+{
+    is_told(allowed, kind) && is_warned(kind, line)
+}
+
+/// What was found in the lines so far.
+#[derive(Drop)]
+pub struct Warned {
+    /// The reports.
+    pub text: Vec<u8>,
+    /// The warnings.
+    pub found: Vec<WarningKind>,
+}
+
+impl Warned {
+    /// Adds a warning, if the line gets it and it is told.
+    fn put_if(
+        &mut self,
+        alloc: Global,
+        telling: &Telling<'_>,
+        path: &[u8],
+        line: &Read<'_>,
+        kind: WarningKind,
+    ) -> Result<(), AllocError>
+        requires { IsRead line.now }
+        ensures text { OnOk result (self.new.text.items ≡ self.old.text.items
+            ++ flat_map (told_warning telling.now.json path.now (read_line line.now))
+            (filter (gets (map string_bytes telling.now.allowed.now) line.now.bytes.now
+            (read_line line.now) (clean_of line.now)) (kind ∷ []))) }
+        ensures found { OnOk result (self.new.found.items ≡ self.old.found.items
+            ++ filter (gets (map string_bytes telling.now.allowed.now) line.now.bytes.now
+            (read_line line.now) (clean_of line.now)) (kind ∷ [])) }
+    {
+        if gets(telling.allowed, line, kind) {
+            push_told(alloc, telling.json, &mut self.text, path, line, kind)?;
+            self.found.push(kind)?;
+        }
+        Ok(())
+    }
+
+    /// Adds the warnings of a line with its clean text.
+    fn put_all(
+        &mut self,
+        alloc: Global,
+        telling: &Telling<'_>,
+        path: &[u8],
+        line: &Read<'_>,
+    ) -> Result<(), AllocError>
+        requires { IsRead line.now }
+        ensures text { OnOk result (self.new.text.items ≡ self.old.text.items
+            ++ flat_map (told_warning telling.now.json path.now (read_line line.now))
+            (all_warnings (map string_bytes telling.now.allowed.now) line.now.bytes.now
+            (read_line line.now) (clean_of line.now))) }
+        ensures found { OnOk result (self.new.found.items ≡ self.old.found.items
+            ++ all_warnings (map string_bytes telling.now.allowed.now) line.now.bytes.now
+            (read_line line.now) (clean_of line.now)) }
+    {
+        if !is_warned_at_all(line) {
+            return Ok(());
+        }
+        let kinds = kinds_of(line);
+        for kind in &kinds {
+            self.put_if(alloc, telling, path, line, *kind)?;
+        }
+        Ok(())
+    }
+
+    /// Adds the warnings of a line of a file with its clean text.
+    fn put_kept(
+        &mut self,
+        alloc: Global,
+        telling: &Telling<'_>,
+        path: &[u8],
+        known: &Known<'_>,
+        number: u64,
+        text: &[u8],
+        clean: &[u8],
+    ) -> Result<(), AllocError>
+        requires known { IsKnown known.now }
+        requires clean { clean.now ≡ (clean_line (line_of number text.now)).text }
+        ensures text { OnOk result (self.new.text.items ≡ self.old.text.items
+            ++ flat_map (told_warning telling.now.json path.now (line_of number text.now))
+            (all_warnings (map string_bytes telling.now.allowed.now) known.now.bytes.now
+            (line_of number text.now) (clean_line (line_of number text.now)))) }
+        ensures found { OnOk result (self.new.found.items ≡ self.old.found.items
+            ++ all_warnings (map string_bytes telling.now.allowed.now) known.now.bytes.now
+            (line_of number text.now) (clean_line (line_of number text.now))) }
+    {
+        let line = Read {
+            bytes: known.bytes,
+            number,
+            text,
+            clean,
+            repeated: known.repeated.contains(&number),
+            replaced_by: known.replaced.get(&number).copied().unwrap_or(0),
+            misuse: misuse_in(clean),
+            unread: known.unread.has(number),
+            unpaired: known.unpaired.contains(&number),
+            judgement: judgement_of(alloc, clean)?,
+        };
+        self.put_all(alloc, telling, path, &line)
+    }
+
+    /// Adds the warnings of a line of a file.
+    #[tactic(auto, using(crate::proofs::RepeatLemmas::no_text))]
+    fn put_line(
+        &mut self,
+        alloc: Global,
+        telling: &Telling<'_>,
+        path: &[u8],
+        known: &Known<'_>,
+        number: u64,
+        text: &[u8],
+    ) -> Result<(), AllocError>
+        requires { IsKnown known.now }
+        ensures text { OnOk result (self.new.text.items ≡ self.old.text.items
+            ++ line_text telling.now.json (map string_bytes telling.now.allowed.now) path.now
+            known.now.bytes.now (line_of number text.now)) }
+        ensures found { OnOk result (self.new.found.items ≡ self.old.found.items
+            ++ line_warnings (map string_bytes telling.now.allowed.now) known.now.bytes.now
+            (line_of number text.now)) }
+    {
+        match content_of(text) {
+            Content::Comment => Ok(()),
+            Content::ZeroByte => Ok(()),
+            Content::Empty => self.put_kept(alloc, telling, path, known, number, text, &[]),
+            Content::Property(clean) | Content::Match(clean) => {
+                self.put_kept(alloc, telling, path, known, number, text, clean)
+            }
+        }
+    }
+
+    /// As `put_line`, of a line that gets no warning unless a `#` cuts it. So many of its first bytes are tame.
+    fn put_tame(
+        &mut self,
+        alloc: Global,
+        telling: &Telling<'_>,
+        path: &[u8],
+        known: &Known<'_>,
+        number: u64,
+        text: &[u8],
+        tame: usize,
+    ) -> Result<(), AllocError>
+        requires known { IsKnown known.now }
+        requires quiet { IsQuiet known.now.bytes.now (line_of number text.now) }
+        requires tame { IsTame 10 (take tame text.now) }
+        ensures text { OnOk result (self.new.text.items ≡ self.old.text.items
+            ++ line_text telling.now.json (map string_bytes telling.now.allowed.now) path.now
+            known.now.bytes.now (line_of number text.now)) }
+        ensures found { OnOk result (self.new.found.items ≡ self.old.found.items
+            ++ line_warnings (map string_bytes telling.now.allowed.now) known.now.bytes.now
+            (line_of number text.now)) }
+    {
+        if text.len() <= tame {
+            return Ok(());
+        }
+        self.put_line(alloc, telling, path, known, number, text)
+    }
+}
+
+/// As `warnings_of`, of any file.
+#[tactic(auto, unfolding(hwdb_spec::specs::Lines::numbered))]
+fn warnings_by_line(
+    alloc: Global,
+    telling: &Telling<'_>,
+    path: &[u8],
+    bytes: &[u8],
+    assignments: &[Given<'_>],
+) -> Result<Warned, AllocError>
+    requires { map (given_in own) assignments.now ≡ Records.assignments own bytes.now }
+    ensures text { IfOk result (λ w. w.text.items
+        ≡ warnings_text telling.now.json (map string_bytes telling.now.allowed.now)
+        path.now bytes.now) }
+    ensures found { IfOk result (λ w. w.found.items
+        ≡ warnings (map string_bytes telling.now.allowed.now) bytes.now) }
+{
+    let known = known_of(alloc, bytes, assignments)?;
+    let mut warned = Warned {
+        text: Vec::new(alloc),
+        found: Vec::new(alloc),
+    };
+    let mut number = 1;
+    for text in Lines::new(bytes) {
+        warned.put_line(alloc, telling, path, &known, number, text)?;
+        number += 1;
+    }
+    Ok(warned)
+}
+
+/// As `warnings_of`, of a plain file: only lines with a `#` that no blank is before are looked at, and none after the last of
+/// these.
+fn cut_warnings(
+    alloc: Global,
+    telling: &Telling<'_>,
+    path: &[u8],
+    bytes: &[u8],
+) -> Result<Warned, AllocError>
+    requires { IsPlainFile bytes.now }
+    ensures text { IfOk result (λ w. w.text.items
+        ≡ warnings_text telling.now.json (map string_bytes telling.now.allowed.now)
+        path.now bytes.now) }
+    ensures found { IfOk result (λ w. w.found.items
+        ≡ warnings (map string_bytes telling.now.allowed.now) bytes.now) }
+{
+    let known = nothing_known(alloc, bytes);
+    let mut warned = Warned {
+        text: Vec::new(alloc),
+        found: Vec::new(alloc),
+    };
+    let mut number = 1;
+    let mut at = 0;
+    let mut tame = tame_size(bytes);
+    while at < bytes.len() {
+        let rest = &bytes[at..];
+        if rest.len() <= tame {
+            return Ok(warned);
+        }
+        let end = end_of(b'\n', rest);
+        warned.put_tame(alloc, telling, path, &known, number, &rest[..end], tame)?;
+        tame = tame_after(rest, end, tame);
+        at = at + end + 1;
+        number += 1;
+    }
+    Ok(warned)
+}
+
+/// The warnings of a file with these assignments and these faults that are told, and what is printed of them, by line.
+pub fn warnings_of(
+    alloc: Global,
+    telling: &Telling<'_>,
+    path: &[u8],
+    bytes: &[u8],
+    assignments: &[Given<'_>],
+    faults: &[Fault],
+) -> Result<Warned, AllocError>
+    requires assignments { map (given_in own) assignments.now ≡ Records.assignments own bytes.now }
+    requires faults { faults.now ≡ Records.faults bytes.now }
+    ensures text { IfOk result (λ w. w.text.items
+        ≡ warnings_text telling.now.json (map string_bytes telling.now.allowed.now)
+        path.now bytes.now) }
+    ensures found { IfOk result (λ w. w.found.items
+        ≡ warnings (map string_bytes telling.now.allowed.now) bytes.now) }
+{
+    if is_plain(alloc, bytes, assignments, faults)? {
+        return cut_warnings(alloc, telling, path, bytes);
+    }
+    warnings_by_line(alloc, telling, path, bytes, assignments)
+}

@@ -1,7 +1,0 @@
-use Rattle.std.proofs.Common.{map, take}
-use Rattle.hwdb_expect.specs.Internal.{AreNamed}
-use Rattle.hwdb_expect.specs.Views.{line_at}
-use Rattle.hwdb_expect.proofs.holding.named.Given as goal
-
-abbrev pub invariant-loop-line : goal.invariant-loop-line
-invariant-loop-line l = AreNamed (map line_at (take l.line-index l.all)) l.keys

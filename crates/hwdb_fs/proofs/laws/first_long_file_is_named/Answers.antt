@@ -1,5 +1,0 @@
-use Rattle.hwdb_fs.proofs.FirstLemmas.{one_named}
-use Rattle.hwdb_fs.proofs.laws.first_long_file_is_named.Goals as goal
-
-pub returns : goal.returns
-returns c = one_named

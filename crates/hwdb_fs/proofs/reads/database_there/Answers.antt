@@ -1,7 +1,0 @@
-use Rattle.hwdb_fs.specs.Raw.{bytes_at, kinds_at}
-use Rattle.hwdb_fs.proofs.RawLemmas.{untold_as}
-use Rattle.hwdb_fs.proofs.reads.database_there.Goals as goal
-
-pub returns-in-Err-clause-exact : goal.returns-in-Err-clause-exact
-returns-in-Err-clause-exact g c = λ t.
-    untold_as (g.F.RawFiles.place c.args.files.now c.args.path.now) (bytes_at (kinds_at (g.F.RawFiles.entry c.args.files.now c.args.path.now) (g.F.RawFiles.kind c.args.files.now)) (g.F.RawFiles.contents c.args.files.now)) c.in-Err.cause c.args.path.now c.untold.result (c.in-Err.ensures t) c.untold.ensures.exact

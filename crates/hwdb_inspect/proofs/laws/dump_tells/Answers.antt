@@ -1,5 +1,0 @@
-use Rattle.hwdb_inspect.proofs.ToldLemmas.{asked_same}
-use Rattle.hwdb_inspect.proofs.laws.dump_tells.Goals as goal
-
-pub returns : goal.returns
-returns c = asked_same

@@ -1,7 +1,0 @@
-use Rattle.hwdb_inspect.proofs.meeting.tell_both.Goals as goal
-
-pub are_same-requires-clause-old : goal.are_same-requires-clause-old
-are_same-requires-clause-old c = c.requires.old.value
-
-pub are_same-requires-clause-new : goal.are_same-requires-clause-new
-are_same-requires-clause-new c = c.requires.new.value

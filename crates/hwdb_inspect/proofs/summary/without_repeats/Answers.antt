@@ -1,6 +1,0 @@
-use Rattle.std.proofs.lemmas.List.Filters.{dedup_is}
-use Rattle.hwdb_inspect.proofs.DifferentLemmas.{different_left}
-use Rattle.hwdb_inspect.proofs.summary.without_repeats.Goals as goal
-
-pub returns : goal.returns
-returns c = different_left (λ t. t.now) c.args.texts.items c.dedup.new.self.items (dedup_is _ _ _ c.dedup.ensures.filtered)

@@ -1,9 +1,0 @@
-use Rattle.std.proofs.Common.{◌-◌}
-use Rattle.hwdb_inspect.specs.Internal.Trails.{AreAlike}
-use Rattle.hwdb_inspect.proofs.trail.alike.Given as goal
-
-abbrev pub invariant-segments : goal.invariant-segments
-invariant-segments l = AreAlike l.n l.old l.new
-
-abbrev pub decreases-segments : goal.decreases-segments
-decreases-segments l = l.most - l.n

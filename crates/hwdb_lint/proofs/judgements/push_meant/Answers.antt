@@ -1,9 +1,0 @@
-use Rattle.std.proofs.Common.{◌∷◌, []}
-use Rattle.std.specs.Prelude.{codes}
-use Rattle.hwdb_lint.proofs.judgements.push_meant.Goals as goal
-use Rattle.hwdb_spec.specs.Lemmas.Lists.{three_pieces}
-
-pub returns : goal.returns
-returns c =
-    three_pieces c.args.text.now.items _ _ _ (codes "did you mean ") _ (63 ∷ []) c.in_ok-extend_from_slice.ensures.items
-    c.in_ok-extend_from_slice-2.ensures.items c.in_ok-push.ensures.items

@@ -1,6 +1,0 @@
-use Rattle.hwdb_lint.proofs.PlainLemmas.{known_nothing}
-use Rattle.hwdb_lint.proofs.known.nothing_known.Goals as goal
-use Rattle.std.proofs.Common.{refl}
-
-pub returns : goal.returns
-returns c = (known_nothing _ c.requires c.new-repeated.ensures.empty c.new-replaced.ensures.empty c.new-elsewhere.ensures.empty c.new-unpaired.ensures.empty, refl)

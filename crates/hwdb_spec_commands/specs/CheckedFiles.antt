@@ -1,0 +1,73 @@
+-- Which text files `check` reads, and what it prints. Our choice.
+use Rattle.std.specs.Prelude.{◌++◌, ◌==◌, ◌∷◌, ◌≡◌, ◌≤◌, All, Bool, List, Option, Some, [], false, if◌then◌else◌, is_some, length, map, true, ℕ}
+use Rattle.hwdb_spec_commands.specs.Checks.{check_status, check_text, empty_tally, tally_from}
+use Rattle.hwdb_spec.specs.Folders.{Choice, Source, choice, max_files, names, path_of}
+use Rattle.hwdb_spec_commands.specs.Given.{IsGiven, is_dash}
+use Rattle.hwdb_spec.specs.Lines.{byte}
+use Rattle.hwdb_spec.specs.Store.{Contents, path_in}
+use Rattle.hwdb_spec.specs.System.{AreNamesIn, bytes_at, etc_files, usr_files}
+use Rattle.hwdb_spec.specs.Texts.{max_file}
+
+-- These are the chosen of both folders' text files below the root, by priority. Each has its stored path, as `update` names
+-- it, and what it holds. None is longer than a file may be.
+pub record AreChosenFiles (root : List ℕ) (contents : Contents) (sources : List Source) : Type 0 where
+  pub etc : List (List ℕ)
+  pub usr : List (List ℕ)
+  pub in_etc : AreNamesIn (etc_files root) contents etc
+  pub in_usr : AreNamesIn (usr_files root) contents usr
+  pub few : length (names etc usr) ≤ max_files
+  pub named : map (λ (s : Source). s.name) sources ≡ map path_of (choice etc usr)
+  pub held : map (λ (s : Source). Some s.bytes) sources ≡ map (λ c. bytes_at contents (root ++ path_of c)) (choice etc usr)
+  pub within : All (λ (s : Source). length s.bytes ≤ max_file) sources
+
+-- these are the files with the given paths, in their order, each with what it has, which isn't longer than a file may be
+pub record AreGivenFiles (paths : List (List ℕ)) (input : Option (List ℕ)) (contents : Contents) (sources : List Source) : Type 0 where
+  pub named : map (λ (s : Source). s.name) sources ≡ paths
+  pub held : All (λ (s : Source). IsGiven s.name input contents s.bytes) sources
+  pub within : All (λ (s : Source). length s.bytes ≤ max_file) sources
+
+-- the folder that a path names: without a slash at its end
+unfoldable pub folder_of : (path : List ℕ) → List ℕ
+folder_of [] = []
+folder_of (b ∷ []) = if b == byte "/" then [] else b ∷ []
+folder_of (b ∷ next ∷ more) = b ∷ folder_of (next ∷ more)
+
+-- The text files of the folder that a path names, chosen as those of one folder: by name, each once. It is the path
+-- itself if there are no names.
+abbrev pub files_in : (path : List ℕ) (names : List (List ℕ)) → List (List ℕ)
+files_in path [] = path ∷ []
+files_in path (name ∷ more) = map (λ (c : Choice). path_in (folder_of path) c.name) (choice (name ∷ more) [])
+
+-- whether a path stands for standard input, or for a file that is there
+abbrev pub is_file : Contents → (path : List ℕ) → Bool
+is_file contents path = if is_dash path then true else is_some (bytes_at contents (folder_of path))
+
+-- a path stands for these text files: itself if it is a file, else those of its folder, at most 65,535
+abbrev pub StandsFor : (is_file : Bool) → Contents → (path : List ℕ) (paths : List (List ℕ)) → Type 0
+StandsFor true contents path paths = paths ≡ path ∷ []
+StandsFor false contents path paths =
+    (found : List (List ℕ)) × AreNamesIn (folder_of path) contents found × (length (names found []) ≤ max_files) × (paths ≡ files_in path found)
+
+-- given paths stand for these text files, in their order
+abbrev pub StandFor : Contents → (given paths : List (List ℕ)) → Type 0
+StandFor contents [] paths = paths ≡ []
+StandFor contents (path ∷ more) paths =
+    (own rest : List (List ℕ)) × (paths ≡ own ++ rest)
+    × StandsFor (is_file contents path) contents path own × StandFor contents more rest
+
+-- these are the files that the given paths mean, each with what it has
+abbrev pub AreNamedFiles : (given : List (List ℕ)) (input : Option (List ℕ)) → Contents → List Source → Type 0
+AreNamedFiles given input contents sources = (paths : List (List ℕ)) × StandFor contents given paths × AreGivenFiles paths input contents sources
+
+-- the files that are checked: those that the given paths mean, or if none is given those of both folders
+abbrev pub AreCheckedFiles : (given : List (List ℕ)) (root : List ℕ) (input : Option (List ℕ)) → Contents → List Source → Type 0
+AreCheckedFiles [] root input contents sources = AreChosenFiles root contents sources
+AreCheckedFiles (path ∷ more) root input contents sources = AreNamedFiles (path ∷ more) input contents sources
+
+-- The text is what is said of such files, as text or JSON, but for kinds that are allowed. The status says whether something is
+-- wrong with one.
+pub record IsChecked (Are : List Source → Type 0) (json strict : Bool) (allowed : List (List ℕ)) (text : List ℕ) (status : ℕ) : Type 0 where
+  pub sources : List Source
+  pub are : Are sources
+  pub is : text ≡ check_text json allowed sources
+  pub says : status ≡ check_status strict (tally_from allowed empty_tally sources)

@@ -1,0 +1,66 @@
+-- What `device` asks sysfs, and its errors. Our choice.
+use Rattle.std.specs.Prelude.{◌≡◌, ◌⊎◌, List, None, Option, Some, is_some, true, ℕ}
+use Rattle.hwdb_spec_commands.specs.DeviceAsked.{device_meant, missing_text, no_sysfs_text, unread_text}
+use Rattle.hwdb_spec_commands.specs.DeviceTree.{Sight, device_for, missing_folder, sysfs_below, unread_for}
+use Rattle.hwdb_spec.specs.Failures.{IsOneLine}
+use Rattle.hwdb_spec.specs.Lines.{is, pieces}
+use Rattle.hwdb_spec.specs.Store.{Contents}
+use Rattle.hwdb_spec_commands.specs.declared.attributes.TheConstants.{ATTRIBUTES}
+use Rattle.hwdb_spec.specs.declared.errors.ToolError.TheVariants.{Memory}
+use Rattle.hwdb_spec_commands.specs.Refusals.{IsInWords}
+use Rattle.hwdb_spec_commands.specs.declared.refusals.Refusal.{Refusal}
+use Rattle.hwdb_spec_commands.specs.declared.refusals.Refusal.TheVariants.{Plain}
+use Rattle.hwdb_spec_commands.specs.Undone.{IsUnanswered}
+
+-- the names of the attributes that rules ask for
+abbrev pub asked_names : List (List ℕ)
+asked_names = pieces (is 10) ATTRIBUTES.now
+
+-- an error in whatever words, or of memory
+abbrev pub IsWorded : Refusal → Type 0
+IsWorded refusal = (text : List ℕ) × IsInWords text refusal
+
+-- the error says which folder of sysfs isn't there, and a cause in one line
+pub record SaysNoSysfs (root : List ℕ) (sight : Sight) (refusal : Refusal) : Type 0 where
+  pub path : List ℕ
+  pub missing : missing_folder sight root ≡ Some path
+  pub words : List ℕ
+  pub one_line : IsOneLine words
+  pub said : IsInWords (no_sysfs_text path words) refusal
+
+-- there is no sysfs below the root, or no memory
+abbrev pub IsNoSysfs : (root : List ℕ) → Sight → Refusal → Type 0
+IsNoSysfs root sight refusal = (refusal ≡ Plain Memory) ⊎ SaysNoSysfs root sight refusal
+
+-- the error says which path can't be read that would tell whether a device is there, and a cause in one line
+pub record SaysUnread (root sys given : List ℕ) (sight : Sight) (refusal : Refusal) : Type 0 where
+  pub none : device_for sight root sys given ≡ None
+  pub path : List ℕ
+  pub unread : unread_for sight root sys given ≡ Some path
+  pub words : List ℕ
+  pub one_line : IsOneLine words
+  pub said : IsInWords (unread_text path words) refusal
+
+-- the error says which device isn't there, and what is near; and if a path leads nowhere, a cause in one line
+pub record SaysNoDevice (root sys given : List ℕ) (sight : Sight) (refusal : Refusal) : Type 0 where
+  pub none : device_for sight root sys given ≡ None
+  pub all_read : unread_for sight root sys given ≡ None
+  pub words : List ℕ
+  pub one_line : IsOneLine words
+  pub said : IsInWords (missing_text sight root sys given words) refusal
+
+-- no device is meant, or it can't be told whether one is, or there is no memory
+abbrev pub IsNoDevice : (root sys given : List ℕ) → Sight → Refusal → Type 0
+IsNoDevice root sys given sight refusal =
+    (refusal ≡ Plain Memory) ⊎ (SaysUnread root sys given sight refusal ⊎ SaysNoDevice root sys given sight refusal)
+
+-- there is no sysfs, or no device in it
+abbrev pub IsUnmeant : (root given : List ℕ) → Sight → Refusal → Type 0
+IsUnmeant root given sight refusal =
+    IsNoSysfs root sight refusal ⊎ ((sys : List ℕ) × (sysfs_below sight root ≡ Some sys) × IsNoDevice root sys given sight refusal)
+
+-- `device` fails: there is no sysfs; or no such device; or after that was found, the database can't be read, or is none
+abbrev pub IsDeviceRefused : (root : List ℕ) (given : Option (List ℕ)) → Sight → Contents → Refusal → Type 0
+IsDeviceRefused root None sight contents refusal = IsNoSysfs root sight refusal
+IsDeviceRefused root (Some given) sight contents refusal =
+    IsUnmeant root given sight refusal ⊎ ((is_some (device_meant sight asked_names root given) ≡ true) × IsUnanswered root contents refusal)

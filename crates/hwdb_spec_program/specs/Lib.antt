@@ -1,0 +1,13 @@
+pub mod Hiding
+pub mod Words
+pub mod NamedDatabases
+pub mod NearErrors
+pub mod Tested
+pub mod TestErrors
+pub mod DeviceErrors
+pub mod HidingTold
+pub mod CheckedReasons
+pub mod GivenDatabases
+pub mod ComparedDatabases
+pub mod Program
+pub mod TaskRefusals

@@ -1,0 +1,164 @@
+//! What is printed of a line that doesn't hold.
+ghost use Rattle.std.specs.Prelude.{◌≡◌, ◌++◌, flat_map, map, option_map, OnOk, Some};
+ghost use Rattle.hwdb_spec.specs.Texts.{place_text};
+ghost use Rattle.hwdb_spec_commands.specs.Wanted;
+ghost use Rattle.hwdb_test.specs.Views.{given_at, line_at};
+
+use crate::given_values::GivenValue;
+use crate::json_lines::push_json;
+use crate::wanted_lines::{WantedLine, property_of, wants_no_others};
+use hwdb_show::push_name;
+use itoa::Buffer;
+use std::alloc::{AllocError, Global};
+
+/// What a line wants, in words.
+pub fn wanted_text<'b>(line: &WantedLine<'b>) -> &'b [u8]
+    ensures { result.now ≡ Wanted.wanted_text (line_at line.now) }
+{
+    if wants_no_others(line) {
+        b"nothing else"
+    } else {
+        property_of(line)
+    }
+}
+
+/// Adds a place: a path, `:`, and a line. The only error, here and below, is `AllocError`.
+fn push_place(text: &mut Vec<u8>, path: &[u8], line: u64) -> Result<(), AllocError>
+    ensures { OnOk result (text.new.items ≡ text.old.items ++ place_text path.now line) }
+{
+    let mut digits = Buffer::new();
+    push_name(text, path)?;
+    text.push(b':')?;
+    text.extend_from_slice(digits.format(line).as_bytes())?;
+    Ok(())
+}
+
+/// Adds the line that says what a line wants.
+fn push_wanted_line(
+    text: &mut Vec<u8>,
+    path: &[u8],
+    line: &WantedLine<'_>,
+) -> Result<(), AllocError>
+    ensures { OnOk result
+        (text.new.items ≡ text.old.items ++ Wanted.wanted_line path.now (line_at line.now)) }
+{
+    push_place(text, path, line.number)?;
+    text.extend_from_slice(b": wanted ")?;
+    text.extend_from_slice(wanted_text(line))?;
+    text.push(b'\n')?;
+    Ok(())
+}
+
+/// Adds the line of the device.
+fn push_device_line(text: &mut Vec<u8>, device: &[u8]) -> Result<(), AllocError>
+    ensures { OnOk result (text.new.items ≡ text.old.items ++ Wanted.device_line device.now) }
+{
+    text.extend_from_slice(b"    device: ")?;
+    text.extend_from_slice(device)?;
+    text.push(b'\n')?;
+    Ok(())
+}
+
+/// Adds what the device has instead.
+fn push_given(text: &mut Vec<u8>, given: Option<GivenValue<'_>>) -> Result<(), AllocError>
+    ensures { OnOk result (text.new.items
+        ≡ text.old.items ++ Wanted.given_text (option_map given_at given.entry)) }
+{
+    match given {
+        None => {
+            text.extend_from_slice(b"nothing")?;
+            Ok(())
+        }
+        Some(given) => {
+            text.extend_from_slice(given.key)?;
+            text.push(b'=')?;
+            text.extend_from_slice(given.value)?;
+            text.extend_from_slice(b" by ")?;
+            push_place(text, given.path, given.line)
+        }
+    }
+}
+
+/// Adds the line of what the device has instead.
+fn push_given_line(text: &mut Vec<u8>, given: Option<GivenValue<'_>>) -> Result<(), AllocError>
+    ensures { OnOk result (text.new.items
+        ≡ text.old.items ++ Wanted.given_line (option_map given_at given.entry)) }
+{
+    text.extend_from_slice(b"    given: ")?;
+    push_given(text, given)?;
+    text.push(b'\n')?;
+    Ok(())
+}
+
+/// Adds three lines on a line that doesn't hold: what it wants, of which device, and what that device has.
+fn push_text(
+    text: &mut Vec<u8>,
+    path: &[u8],
+    device: &[u8],
+    line: &WantedLine<'_>,
+    given: Option<GivenValue<'_>>,
+) -> Result<(), AllocError>
+    ensures { OnOk result (text.new.items ≡ text.old.items ++ Wanted.failure_text path.now
+        device.now (line_at line.now) (option_map given_at given.entry)) }
+{
+    push_wanted_line(text, path, line)?;
+    push_device_line(text, device)?;
+    push_given_line(text, given)
+}
+
+/// Adds the same for each property that is given instead.
+fn push_each(
+    text: &mut Vec<u8>,
+    path: &[u8],
+    device: &[u8],
+    line: &WantedLine<'_>,
+    instead: &[GivenValue<'_>],
+) -> Result<(), AllocError>
+    ensures { OnOk result (text.new.items ≡ text.old.items
+        ++ flat_map (λ g. Wanted.failure_text path.now device.now (line_at line.now) (Some g))
+        (map given_at instead.now)) }
+{
+    for given in instead {
+        push_text(text, path, device, line, Some(*given))?;
+    }
+    Ok(())
+}
+
+/// Adds the same for each property that is given instead, or once if there is none.
+fn push_texts(
+    text: &mut Vec<u8>,
+    path: &[u8],
+    device: &[u8],
+    line: &WantedLine<'_>,
+    instead: &[GivenValue<'_>],
+) -> Result<(), AllocError>
+    ensures { OnOk result (text.new.items ≡ text.old.items ++ Wanted.failure_texts path.now
+        device.now (line_at line.now) (map given_at instead.now)) }
+{
+    if instead.is_empty() {
+        push_text(text, path, device, line, None)
+    } else {
+        push_each(text, path, device, line, instead)
+    }
+}
+
+/// Adds what is printed of a line that doesn't hold, if these are the properties that are given instead: a line of JSON, or three
+/// lines for each.
+pub fn push_failures(
+    alloc: Global,
+    json: bool,
+    text: &mut Vec<u8>,
+    path: &[u8],
+    device: &[u8],
+    line: &WantedLine<'_>,
+    instead: &[GivenValue<'_>],
+) -> Result<(), AllocError>
+    ensures { OnOk result (text.new.items ≡ text.old.items ++ Wanted.failures json path.now
+        device.now (line_at line.now) (map given_at instead.now)) }
+{
+    if json {
+        push_json(alloc, text, path, device, line, instead)
+    } else {
+        push_texts(text, path, device, line, instead)
+    }
+}
