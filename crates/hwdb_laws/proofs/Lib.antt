@@ -7,3 +7,6 @@ pub mod ComputedWantedRows
 pub mod ComputedStatusRows
 pub mod ComputedOverTextRows
 pub mod ComputedSaidRows
+pub mod ComputedErrorRows
+pub mod ComputedAnswerRows
+pub mod ComputedCompareRows

@@ -6,3 +6,6 @@ pub mod WantedRows
 pub mod StatusRows
 pub mod OverTextRows
 pub mod SaidRows
+pub mod ErrorRows
+pub mod AnswerRows
+pub mod CompareRows

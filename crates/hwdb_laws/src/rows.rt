@@ -1,6 +1,9 @@
 //! The rows. Each function does nothing: its contract is that the definitions give them.
+ghost use Rattle.hwdb_laws.specs.AnswerRows;
 ghost use Rattle.hwdb_laws.specs.ChangeRows;
 ghost use Rattle.hwdb_laws.specs.CheckRows;
+ghost use Rattle.hwdb_laws.specs.CompareRows;
+ghost use Rattle.hwdb_laws.specs.ErrorRows;
 ghost use Rattle.hwdb_laws.specs.FormRows;
 ghost use Rattle.hwdb_laws.specs.OverTextRows;
 ghost use Rattle.hwdb_laws.specs.SaidRows;
@@ -121,4 +124,57 @@ pub fn over_text_rows()
     ensures list { OverTextRows.ListRows }
     ensures device { OverTextRows.DeviceRows }
     ensures taken { OverTextRows.TakenRows }
+{}
+
+/// What is said of errors, and what they are to the program.
+pub fn error_rows()
+    ensures words { ErrorRows.WordRows }
+    ensures paths { ErrorRows.PathRows }
+    ensures lines { ErrorRows.LineRows }
+    ensures own { ErrorRows.OwnRows }
+    ensures others { ErrorRows.OtherRows }
+    ensures numbers { ErrorRows.NumberRows }
+    ensures verdicts { ErrorRows.VerdictRows }
+    ensures offsets { ErrorRows.OffsetRows }
+    ensures passed { ErrorRows.PassedRows }
+    ensures compiled { ErrorRows.CompiledRows }
+    ensures stops { ErrorRows.StopRows }
+    ensures own_stops { ErrorRows.OwnStopRows }
+    ensures failures { ErrorRows.FailureRows }
+{}
+
+/// What a database, or text files, answer.
+pub fn answer_rows()
+    ensures nodes { AnswerRows.NodeRows }
+    ensures database { AnswerRows.DatabaseRows }
+    ensures files { AnswerRows.FileRows }
+    ensures raw { AnswerRows.RawRows }
+    ensures positions { AnswerRows.PositionRows }
+    ensures list { AnswerRows.ListRows }
+    ensures file_list { AnswerRows.FileListRows }
+    ensures strings { AnswerRows.StringRows }
+    ensures dump { AnswerRows.DumpRows }
+    ensures said { AnswerRows.SaidRows }
+    ensures unsaid { AnswerRows.UnsaidRows }
+    ensures patterns { AnswerRows.PatternRows }
+    ensures limit { AnswerRows.LimitRows }
+    ensures near { AnswerRows.NearRows }
+    ensures lines { AnswerRows.LineRows }
+    ensures lone { AnswerRows.LoneRows }
+{}
+
+/// What `diff` prints of two databases.
+pub fn compare_rows()
+    ensures changes { CompareRows.ChangeRows }
+    ensures first_device { CompareRows.FirstDeviceRows }
+    ensures second_device { CompareRows.SecondDeviceRows }
+    ensures last_device { CompareRows.LastDeviceRows }
+    ensures text { CompareRows.TextRows }
+    ensures devices { CompareRows.DeviceTextRows }
+    ensures status { CompareRows.StatusRows }
+    ensures same { CompareRows.SameRows }
+    ensures named { CompareRows.NamedRows }
+    ensures stale { CompareRows.StaleRows }
+    ensures amount { CompareRows.AmountRows }
+    ensures patterns { CompareRows.PatternRows }
 {}

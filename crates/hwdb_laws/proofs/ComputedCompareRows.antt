@@ -1,0 +1,103 @@
+-- The rows, computed.
+use Rattle.hwdb_laws.specs.CompareRows.{AmountRows, ChangeRows, DeviceTextRows, FirstDeviceRows, LastDeviceRows, NamedRows, PatternRows, SameRows, SecondDeviceRows, StaleRows, StatusRows, TextRows}
+use Rattle.hex.specs.Hex.{encode_with}
+use Rattle.hwdb_spec.specs.Answers.{effective_of, is_after, last_assignments, last_matching, last_of_each, last_value}
+use Rattle.hwdb_spec.specs.Assignment.{ascending, assignment_cmp, position_cmp, put, put_all}
+use Rattle.hwdb_spec_commands.specs.Dump.{dumped, is_said}
+use Rattle.hwdb_spec.specs.Explanations.{explained}
+use Rattle.hwdb_spec.specs.Folders.{first_of}
+use Rattle.hwdb_spec_commands.specs.Json.{escaped_after, items_of, members_of}
+use Rattle.hwdb_spec.specs.Lines.{numbered, pieces, trimmed}
+use Rattle.hwdb_spec_commands.specs.Near.{first_up_to, last_up_to}
+use Rattle.hwdb_spec_commands.specs.Once.{once}
+use Rattle.hwdb_spec.specs.Patterns.{bracket_at, byte_then, classes, item_at, items_from, matches, piece_then, some_ending, token_at, tokens_from}
+use Rattle.hwdb_spec.specs.Records.{behind, first_section, sections_from}
+use Rattle.hwdb_spec_commands.specs.Summary.{depth, depth_of, nodes, nodes_of}
+use Rattle.hwdb_spec.specs.Texts.{with_empty_lines}
+use Rattle.hwdb_spec.specs.Tree.{answers, answers_after, prefix_of, some_up_to, values_below, values_of, values_under}
+use Rattle.hwdb_spec.specs.Visible.{visible_after}
+use Rattle.hwdb_spec_commands.specs.Wanted.{records_from}
+use Rattle.json.specs.Print.{escape_byte, print_from}
+use Rattle.std.specs.Char.{encode_utf8}
+use Rattle.std.specs.Fmt.{digits}
+use Rattle.std.specs.Str.{chars, is_utf8}
+use Rattle.hwdb_laws.proofs.MapLemmas.{Entry, differences_built, entries_built}
+use Rattle.hwdb_laws.specs.CompareRows.{new_tree, of_usr, old_tree, some_devices}
+use Rattle.hwdb_spec_commands.specs.ChangeCounts.{Stat, counted, no_stat, stat_form, with_changes, with_device, with_devices}
+use Rattle.hwdb_spec_commands.specs.Comparisons.{changes_form, device_changes_form}
+use Rattle.hwdb_spec_commands.specs.DeviceDifferences.{counting_answers, device_differences, gifts, given_to}
+use Rattle.hwdb_spec_commands.specs.Differences.{Change, are_some, changes_text, differences}
+use Rattle.hwdb_spec.specs.Folders.{all_assignments}
+use Rattle.hwdb_spec_commands.specs.NearAsked.{gathered, pattern_of}
+use Rattle.hwdb_spec.specs.Tree.{Tree, entry_of, map_of, members_under}
+use Rattle.std.specs.Prelude.{◌++◌, ◌∷◌, ◌≡◌, List, None, Some, [], codes, false, map, reverse, true, ◌||◌, ℕ}
+use Rattle.std.proofs.Common.{◌∙◌, ap, refl}
+
+pub named_rows : NamedRows
+unfolding pieces numbered trimmed first_section sections_from behind records_from tokens_from token_at item_at items_from bracket_at classes nodes nodes_of depth depth_of explained first_of once last_up_to first_up_to some_up_to values_under values_below ascending put put_all assignment_cmp position_cmp matches some_ending byte_then piece_then visible_after is_utf8 chars encode_utf8 digits encode_with items_of members_of escaped_after escape_byte print_from answers effective_of last_of_each last_value last_matching last_assignments is_after answers_after prefix_of values_of with_empty_lines dumped is_said
+named_rows = refl
+
+pub stale_rows : StaleRows
+unfolding pieces numbered trimmed first_section sections_from behind records_from tokens_from token_at item_at items_from bracket_at classes nodes nodes_of depth depth_of explained first_of once last_up_to first_up_to some_up_to values_under values_below ascending put put_all assignment_cmp position_cmp matches some_ending byte_then piece_then visible_after is_utf8 chars encode_utf8 digits encode_with items_of members_of escaped_after escape_byte print_from answers effective_of last_of_each last_value last_matching last_assignments is_after answers_after prefix_of values_of with_empty_lines dumped is_said
+stale_rows = refl
+
+pub amount_rows : AmountRows
+unfolding pieces numbered trimmed first_section sections_from behind records_from tokens_from token_at item_at items_from bracket_at classes nodes nodes_of depth depth_of explained first_of once last_up_to first_up_to some_up_to values_under values_below ascending put put_all assignment_cmp position_cmp matches some_ending byte_then piece_then visible_after is_utf8 chars encode_utf8 digits encode_with items_of members_of escaped_after escape_byte print_from answers effective_of last_of_each last_value last_matching last_assignments is_after answers_after prefix_of values_of with_empty_lines dumped is_said
+amount_rows = refl
+
+entries_in : Tree → List Entry
+entries_in t = map entry_of (members_under [] t)
+
+pub change_rows : ChangeRows
+unfolding pieces numbered trimmed first_section sections_from behind records_from tokens_from token_at item_at items_from bracket_at classes nodes nodes_of depth depth_of explained first_of once last_up_to first_up_to some_up_to values_under values_below ascending put put_all assignment_cmp position_cmp matches some_ending byte_then piece_then visible_after is_utf8 chars encode_utf8 digits encode_with items_of members_of escaped_after escape_byte print_from answers effective_of last_of_each last_value last_matching last_assignments is_after answers_after prefix_of values_of with_empty_lines dumped is_said map_of entries_in
+change_rows = differences_built (entries_in old_tree) (entries_in new_tree) ∙ refl
+
+no_changes : differences (map_of old_tree) (map_of old_tree) ≡ []
+unfolding pieces numbered trimmed first_section sections_from behind records_from tokens_from token_at item_at items_from bracket_at classes nodes nodes_of depth depth_of explained first_of once last_up_to first_up_to some_up_to values_under values_below ascending put put_all assignment_cmp position_cmp matches some_ending byte_then piece_then visible_after is_utf8 chars encode_utf8 digits encode_with items_of members_of escaped_after escape_byte print_from answers effective_of last_of_each last_value last_matching last_assignments is_after answers_after prefix_of values_of with_empty_lines dumped is_said map_of entries_in
+no_changes = differences_built (entries_in old_tree) (entries_in old_tree) ∙ refl
+
+entries_to : List ℕ → Tree → List Entry
+entries_to d t = map entry_of (map (given_to d) (counting_answers d t))
+
+pub first_device_rows : FirstDeviceRows
+unfolding pieces numbered trimmed first_section sections_from behind records_from tokens_from token_at item_at items_from bracket_at classes nodes nodes_of depth depth_of explained first_of once last_up_to first_up_to some_up_to values_under values_below ascending put put_all assignment_cmp position_cmp matches some_ending byte_then piece_then visible_after is_utf8 chars encode_utf8 digits encode_with items_of members_of escaped_after escape_byte print_from answers effective_of last_of_each last_value last_matching last_assignments is_after answers_after prefix_of values_of with_empty_lines dumped is_said device_differences gifts entries_to
+first_device_rows = differences_built (entries_to (codes "ab") old_tree) (entries_to (codes "ab") new_tree) ∙ refl
+
+pub second_device_rows : SecondDeviceRows
+unfolding pieces numbered trimmed first_section sections_from behind records_from tokens_from token_at item_at items_from bracket_at classes nodes nodes_of depth depth_of explained first_of once last_up_to first_up_to some_up_to values_under values_below ascending put put_all assignment_cmp position_cmp matches some_ending byte_then piece_then visible_after is_utf8 chars encode_utf8 digits encode_with items_of members_of escaped_after escape_byte print_from answers effective_of last_of_each last_value last_matching last_assignments is_after answers_after prefix_of values_of with_empty_lines dumped is_said device_differences gifts entries_to
+second_device_rows = differences_built (entries_to (codes "b") old_tree) (entries_to (codes "b") new_tree) ∙ refl
+
+pub last_device_rows : LastDeviceRows
+unfolding pieces numbered trimmed first_section sections_from behind records_from tokens_from token_at item_at items_from bracket_at classes nodes nodes_of depth depth_of explained first_of once last_up_to first_up_to some_up_to values_under values_below ascending put put_all assignment_cmp position_cmp matches some_ending byte_then piece_then visible_after is_utf8 chars encode_utf8 digits encode_with items_of members_of escaped_after escape_byte print_from answers effective_of last_of_each last_value last_matching last_assignments is_after answers_after prefix_of values_of with_empty_lines dumped is_said device_differences gifts entries_to
+last_device_rows = differences_built (entries_to (codes "x") old_tree) (entries_to (codes "x") new_tree) ∙ refl
+
+pub text_rows : TextRows
+unfolding pieces numbered trimmed first_section sections_from behind records_from tokens_from token_at item_at items_from bracket_at classes nodes nodes_of depth depth_of explained first_of once last_up_to first_up_to some_up_to values_under values_below ascending put put_all assignment_cmp position_cmp matches some_ending byte_then piece_then visible_after is_utf8 chars encode_utf8 digits encode_with items_of members_of escaped_after escape_byte print_from answers effective_of last_of_each last_value last_matching last_assignments is_after answers_after prefix_of values_of with_empty_lines dumped is_said counted with_changes
+text_rows =
+    ap (λ c. changes_form false c ∷ changes_form true c ∷ stat_form false None (with_changes no_stat c) ∷ stat_form true None (with_changes no_stat c) ∷ changes_text c ∷ []) change_rows
+    ∙ refl
+
+with_one : Stat → List Change → Stat
+with_one s changes = with_device (are_some changes) (with_changes s changes)
+
+pub device_text_rows : DeviceTextRows
+unfolding pieces numbered trimmed first_section sections_from behind records_from tokens_from token_at item_at items_from bracket_at classes nodes nodes_of depth depth_of explained first_of once last_up_to first_up_to some_up_to values_under values_below ascending put put_all assignment_cmp position_cmp matches some_ending byte_then piece_then visible_after is_utf8 chars encode_utf8 digits encode_with items_of members_of escaped_after escape_byte print_from answers effective_of last_of_each last_value last_matching last_assignments is_after answers_after prefix_of values_of with_empty_lines dumped is_said counted with_changes with_devices with_one
+device_text_rows =
+    (λ i.
+    (device_changes_form false (codes "ab") (first_device_rows i) ++ (device_changes_form false (codes "x") (last_device_rows i) ++ (device_changes_form false (codes "b") (second_device_rows i) ++ [])))
+    ∷ (device_changes_form true (codes "ab") (first_device_rows i) ++ (device_changes_form true (codes "x") (last_device_rows i) ++ (device_changes_form true (codes "b") (second_device_rows i) ++ [])))
+    ∷ stat_form false (Some some_devices) (with_one (with_one (with_one no_stat (first_device_rows i)) (last_device_rows i)) (second_device_rows i)) ∷ [])
+    ∙ refl
+
+pub status_rows : StatusRows
+unfolding pieces numbered trimmed first_section sections_from behind records_from tokens_from token_at item_at items_from bracket_at classes nodes nodes_of depth depth_of explained first_of once last_up_to first_up_to some_up_to values_under values_below ascending put put_all assignment_cmp position_cmp matches some_ending byte_then piece_then visible_after is_utf8 chars encode_utf8 digits encode_with items_of members_of escaped_after escape_byte print_from answers effective_of last_of_each last_value last_matching last_assignments is_after answers_after prefix_of values_of with_empty_lines dumped is_said
+status_rows =
+    (λ i. are_some (change_rows i) ∷ are_some (change_rows i) ∷ (are_some (first_device_rows i) || false) ∷ (are_some (last_device_rows i) || false) ∷ [])
+    ∙ refl
+
+pub same_rows : SameRows
+same_rows = ap (λ c. are_some c ∷ are_some c ∷ []) no_changes
+
+pub pattern_rows : PatternRows
+unfolding pieces numbered trimmed first_section sections_from behind records_from tokens_from token_at item_at items_from bracket_at classes nodes nodes_of depth depth_of explained first_of once last_up_to first_up_to some_up_to values_under values_below ascending put put_all assignment_cmp position_cmp matches some_ending byte_then piece_then visible_after is_utf8 chars encode_utf8 digits encode_with items_of members_of escaped_after escape_byte print_from answers effective_of last_of_each last_value last_matching last_assignments is_after answers_after prefix_of values_of with_empty_lines dumped is_said
+pattern_rows = ap (λ es. gathered (map pattern_of (map (λ e. e.1) es))) (entries_built (map entry_of (reverse (all_assignments [] of_usr)))) ∙ refl
