@@ -10,3 +10,5 @@ pub mod ComputedSaidRows
 pub mod ComputedErrorRows
 pub mod ComputedAnswerRows
 pub mod ComputedCompareRows
+pub mod ComputedColourRows
+pub mod ComputedPlaceRows

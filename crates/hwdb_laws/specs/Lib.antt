@@ -9,3 +9,5 @@ pub mod SaidRows
 pub mod ErrorRows
 pub mod AnswerRows
 pub mod CompareRows
+pub mod ColourRows
+pub mod PlaceRows

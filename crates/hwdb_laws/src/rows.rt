@@ -2,10 +2,12 @@
 ghost use Rattle.hwdb_laws.specs.AnswerRows;
 ghost use Rattle.hwdb_laws.specs.ChangeRows;
 ghost use Rattle.hwdb_laws.specs.CheckRows;
+ghost use Rattle.hwdb_laws.specs.ColourRows;
 ghost use Rattle.hwdb_laws.specs.CompareRows;
 ghost use Rattle.hwdb_laws.specs.ErrorRows;
 ghost use Rattle.hwdb_laws.specs.FormRows;
 ghost use Rattle.hwdb_laws.specs.OverTextRows;
+ghost use Rattle.hwdb_laws.specs.PlaceRows;
 ghost use Rattle.hwdb_laws.specs.SaidRows;
 ghost use Rattle.hwdb_laws.specs.StatusRows;
 ghost use Rattle.hwdb_laws.specs.SysfsRows;
@@ -177,4 +179,37 @@ pub fn compare_rows()
     ensures stale { CompareRows.StaleRows }
     ensures amount { CompareRows.AmountRows }
     ensures patterns { CompareRows.PatternRows }
+{}
+
+/// Which bytes of a text have which colour.
+pub fn colour_rows()
+    ensures properties { ColourRows.PropertyRows }
+    ensures origins { ColourRows.OriginRows }
+    ensures hits { ColourRows.HitRows }
+    ensures reports { ColourRows.ReportRows }
+    ensures changes { ColourRows.ChangeRows }
+    ensures devices { ColourRows.DeviceRows }
+    ensures records { ColourRows.RecordRows }
+    ensures without { ColourRows.WithoutRows }
+{}
+
+/// Where files are, which of them count, and what calls of a store leave.
+pub fn place_rows()
+    ensures asked { PlaceRows.AskedRows }
+    ensures hidden { PlaceRows.HiddenRows }
+    ensures there { PlaceRows.ThereRows }
+    ensures folders { PlaceRows.FolderRows }
+    ensures ignored { PlaceRows.IgnoredRows }
+    ensures over { PlaceRows.OverRows }
+    ensures dash { PlaceRows.DashRows }
+    ensures twice { PlaceRows.TwiceRows }
+    ensures lines { PlaceRows.LineRows }
+    ensures without { PlaceRows.WithoutRows }
+    ensures status { PlaceRows.StatusRows }
+    ensures faults { PlaceRows.FaultRows }
+    ensures listing { PlaceRows.ListingRows }
+    ensures parts { PlaceRows.PartRows }
+    ensures blocks { PlaceRows.BlockRows }
+    ensures update { PlaceRows.UpdateRows }
+    ensures loose { PlaceRows.LooseRows }
 {}
