@@ -12,3 +12,4 @@ pub mod ComputedAnswerRows
 pub mod ComputedCompareRows
 pub mod ComputedColourRows
 pub mod ComputedPlaceRows
+pub mod ComputedWordRows

@@ -11,3 +11,4 @@ pub mod AnswerRows
 pub mod CompareRows
 pub mod ColourRows
 pub mod PlaceRows
+pub mod WordRows

@@ -12,6 +12,7 @@ ghost use Rattle.hwdb_laws.specs.SaidRows;
 ghost use Rattle.hwdb_laws.specs.StatusRows;
 ghost use Rattle.hwdb_laws.specs.SysfsRows;
 ghost use Rattle.hwdb_laws.specs.WantedRows;
+ghost use Rattle.hwdb_laws.specs.WordRows;
 
 /// What a file system answers of sysfs.
 pub fn sysfs_rows()
@@ -212,4 +213,26 @@ pub fn place_rows()
     ensures blocks { PlaceRows.BlockRows }
     ensures update { PlaceRows.UpdateRows }
     ensures loose { PlaceRows.LooseRows }
+{}
+
+/// What is read of the command line.
+pub fn word_rows()
+    ensures update { WordRows.UpdateRows }
+    ensures bare_update { WordRows.BareUpdateRows }
+    ensures query { WordRows.QueryRows }
+    ensures explain { WordRows.ExplainRows }
+    ensures ask { WordRows.AskRows }
+    ensures list { WordRows.ListRows }
+    ensures near { WordRows.NearRows }
+    ensures device { WordRows.DeviceRows }
+    ensures bare_device { WordRows.BareDeviceRows }
+    ensures check { WordRows.CheckRows }
+    ensures test { WordRows.TestRows }
+    ensures diff { WordRows.DiffRows }
+    ensures verify { WordRows.VerifyRows }
+    ensures dump { WordRows.DumpRows }
+    ensures status { WordRows.StatusRows }
+    ensures before { WordRows.BeforeRows }
+    ensures wrong { WordRows.WrongRows }
+    ensures right { WordRows.RightRows }
 {}
