@@ -13,3 +13,4 @@ pub mod ComputedCompareRows
 pub mod ComputedColourRows
 pub mod ComputedPlaceRows
 pub mod ComputedWordRows
+pub mod ComputedDeviceRows

@@ -12,3 +12,4 @@ pub mod CompareRows
 pub mod ColourRows
 pub mod PlaceRows
 pub mod WordRows
+pub mod DeviceRows

@@ -4,6 +4,7 @@ ghost use Rattle.hwdb_laws.specs.ChangeRows;
 ghost use Rattle.hwdb_laws.specs.CheckRows;
 ghost use Rattle.hwdb_laws.specs.ColourRows;
 ghost use Rattle.hwdb_laws.specs.CompareRows;
+ghost use Rattle.hwdb_laws.specs.DeviceRows;
 ghost use Rattle.hwdb_laws.specs.ErrorRows;
 ghost use Rattle.hwdb_laws.specs.FormRows;
 ghost use Rattle.hwdb_laws.specs.OverTextRows;
@@ -235,4 +236,14 @@ pub fn word_rows()
     ensures before { WordRows.BeforeRows }
     ensures wrong { WordRows.WrongRows }
     ensures right { WordRows.RightRows }
+{}
+
+/// What `device` prints.
+pub fn device_rows()
+    ensures meant { DeviceRows.MeantRows }
+    ensures list { DeviceRows.ListRows }
+    ensures nothing { DeviceRows.NothingRows }
+    ensures names { DeviceRows.NameRows }
+    ensures text { DeviceRows.TextRows }
+    ensures files { DeviceRows.FileRows }
 {}

@@ -1,0 +1,12 @@
+use Rattle.hwdb_laws.proofs.ComputedDeviceRows.{file_rows, list_rows, meant_rows, name_rows, nothing_rows, text_rows}
+use Rattle.hwdb_laws.proofs.rows.device_rows.Goals as goal
+
+pub returns : goal.returns
+returns c = record {
+  meant = meant_rows;
+  list = list_rows;
+  nothing = nothing_rows;
+  names = name_rows;
+  text = text_rows;
+  files = file_rows;
+}
