@@ -2,7 +2,7 @@
 use Rattle.hex.specs.Hex.{encode_with}
 use Rattle.hwdb_laws.specs.ErrorRows.{CompiledRows, FailureRows, LineRows, NumberRows, OffsetRows, OtherRows, OwnRows, OwnStopRows, PassedRows, PathRows, StopRows, VerdictRows, WordRows}
 use Rattle.hwdb_spec_commands.specs.Refusals.{path_text, refusal_line}
-use Rattle.hwdb_spec_commands.specs.Told.Stop.{NoDatabase, Over, Plain, Says}
+use Rattle.hwdb_spec_commands.specs.Told.Stop.{Over, Says}
 use Rattle.hwdb_spec.specs.declared.causes.Cause.TheVariants as why
 use Rattle.hwdb_spec.specs.declared.errors.ToolError.TheVariants.{Read}
 use Rattle.hwdb_spec.specs.Visible.{visible_after}

@@ -1,5 +1,5 @@
 -- The rows, computed.
-use Rattle.hwdb_laws.specs.PlaceRows.{AskedRows, BlockRows, DashRows, FaultRows, FolderRows, HiddenRows, IgnoredRows, LineRows, ListingRows, LooseRows, OverRows, PartRows, StatusRows, ThereRows, TwiceRows, UpdateRows, WithoutRows}
+use Rattle.hwdb_laws.specs.PlaceRows.{AskedRows, BlockRows, DashRows, FaultRows, FolderRows, HiddenRows, IgnoredRows, LineRows, ListingRows, LooseRows, OutcomeRows, OverRows, PartRows, StatusRows, ThereRows, TwiceRows, UpdateRows, WithoutRows}
 use Rattle.hex.specs.Hex.{encode_with}
 use Rattle.hwdb_spec.specs.Answers.{effective_of, last_of_each, last_value}
 use Rattle.hwdb_spec.specs.Assignment.{ascending, assignment_cmp, position_cmp, put, put_all}
@@ -22,7 +22,11 @@ use Rattle.json.specs.Print.{escape_byte, print_from}
 use Rattle.std.specs.Char.{encode_utf8}
 use Rattle.std.specs.Fmt.{digits}
 use Rattle.std.specs.Str.{chars, is_utf8}
-use Rattle.std.proofs.Common.{refl}
+use Rattle.hwdb_laws.specs.PlaceRows.{some_file}
+use Rattle.hwdb_spec.specs.Crashes.{MayLeave}
+use Rattle.hwdb_spec.specs.Store.{Stored}
+use Rattle.std.specs.Prelude.{◌≡◌, Option, Some, [], false}
+use Rattle.std.proofs.Common.{arith, inl, inr, refl, sym, true≢false}
 
 pub asked_rows : AskedRows
 unfolding pieces numbered trimmed first_section sections_from behind records_from tokens_from token_at item_at items_from bracket_at classes nodes nodes_of depth depth_of explained first_of once last_up_to first_up_to some_up_to values_under values_below ascending put put_all assignment_cmp position_cmp matches some_ending byte_then piece_then visible_after is_utf8 chars encode_utf8 digits encode_with items_of members_of escaped_after escape_byte print_from answers effective_of last_of_each last_value before_long with_database with_input
@@ -91,3 +95,11 @@ update_rows = (refl, refl, refl)
 pub loose_rows : LooseRows
 unfolding pieces numbered trimmed first_section sections_from behind records_from tokens_from token_at item_at items_from bracket_at classes nodes nodes_of depth depth_of explained first_of once last_up_to first_up_to some_up_to values_under values_below ascending put put_all assignment_cmp position_cmp matches some_ending byte_then piece_then visible_after is_utf8 chars encode_utf8 digits encode_with items_of members_of escaped_after escape_byte print_from answers effective_of last_of_each last_value before_long with_database with_input
 loose_rows = (refl, refl, refl)
+
+only_now : (file : Option Stored) → MayLeave (record { now = Some some_file; loose = false; before = []; torn = false }) file → file ≡ Some some_file
+only_now file (inl e) = e
+only_now file (inr (inl c)) = absurd (omega (arith, c.1))
+only_now file (inr (inr e)) = absurd (true≢false (sym e))
+
+pub outcome_rows : OutcomeRows
+outcome_rows = (inr (inl (0, omega arith, refl)), only_now)

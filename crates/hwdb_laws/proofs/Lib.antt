@@ -14,3 +14,4 @@ pub mod ComputedColourRows
 pub mod ComputedPlaceRows
 pub mod ComputedWordRows
 pub mod ComputedDeviceRows
+pub mod ComputedTaskRows

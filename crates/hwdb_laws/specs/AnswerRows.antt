@@ -1,18 +1,17 @@
 -- Worked rows of what a database, or text files, answer: `query`, `list`, `explain`, the strings of the C library and `dump`, as hwdb(8) and
 -- libhwdb(3) show them. The answers are worked out by hand, by hwdb(7): the last assignment of a key counts.
-use Rattle.std.specs.Prelude.{◌++◌, ◌∷◌, ◌≡◌, Bool, List, None, Option, Some, [], codes, false, map, true, ℕ}
+use Rattle.std.specs.Prelude.{◌++◌, ◌∷◌, ◌≡◌, List, None, Some, [], codes, false, map, true, ℕ}
 use Rattle.hwdb_spec_commands.specs.Asked.{list_form}
 use Rattle.hwdb_spec.specs.Assignment.{Assignment, Position}
 use Rattle.hwdb_spec_commands.specs.Dump.{dump_text, first_unsaid, is_said}
 use Rattle.hwdb_spec.specs.Folders.{Source}
-use Rattle.hwdb_spec_commands.specs.Json.{device_json, last_lines_json, number_in, properties_in, text_at, text_in}
+use Rattle.hwdb_spec_commands.specs.Json.{device_json, last_lines_json, properties_in, text_at}
 use Rattle.hwdb_spec.specs.Library.{device_strings, last_strings}
 use Rattle.hwdb_spec_commands.specs.Listings.{line_of}
 use Rattle.hwdb_spec_commands.specs.LoneFile.{lone, lone_choice}
-use Rattle.hwdb_spec_commands.specs.Near.{PatternAt}
 use Rattle.hwdb_spec_commands.specs.NearAsked.{database_patterns, near_form, near_limit}
 use Rattle.hwdb_spec_commands.specs.Streams.{last_texts_of, texts_of}
-use Rattle.hwdb_spec.specs.Texts.{canonical, devices_of, faults_text_at, last_lines_text, query_text, status_of, last_values_text}
+use Rattle.hwdb_spec.specs.Texts.{canonical, devices_of, last_lines_text, query_text, last_values_text}
 use Rattle.hwdb_spec.specs.Tree.{Tree, Value, prefix_of, values_of}
 use Rattle.hwdb_spec.specs.Tree.Children.{Child, NoMore}
 use Rattle.hwdb_spec.specs.Tree.Tree.{Node}
@@ -99,6 +98,10 @@ RawRows =
     properties_in (device_json (codes "d") ((codes "K", codes "1") ∷ (255 ∷ codes "b", codes "2") ∷ [])) ∷ properties_in (device_json (codes "d") []) ∷ []
     ≡ ((codes "K", codes "1") ∷ (255 ∷ codes "b", codes "2") ∷ []) ∷ [] ∷ []
 
+-- a device that isn't UTF-8 is read back as its bytes, and a name that isn't there gives nothing
+abbrev pub NameRows : Type 0
+NameRows = text_at (codes "device") (device_json (255 ∷ codes "d") []) ∷ text_at (codes "device") (device_json (codes "d") []) ∷ text_at (codes "x") (device_json (codes "d") []) ∷ [] ≡ (255 ∷ codes "d") ∷ codes "d" ∷ [] ∷ []
+
 -- ---- list
 
 -- where an assignment is, as `--after` has it: priority, line, and pattern and key in hexadecimal digits
@@ -125,6 +128,16 @@ FileListRows =
     ∷ codes "{\"position\":\"2:5:6162:4c\",\"path\":\"/etc/udev/hwdb.d/2.hwdb\",\"line\":5,\"priority\":2,\"pattern\":\"ab\",\"key\":\"L\",\"value\":\"3\"}\n"
     ∷ []
 
+-- an assignment of a database of another tool
+abbrev pub foreign : (path pattern key value : List ℕ) → Assignment
+foreign path pattern key value = record { position = place 1 2 pattern key; value = value; path = path }
+
+-- the line of one hit, as text or as JSON
+abbrev pub HitRows : Type 0
+HitRows =
+    map (λ json. line_of json (foreign (codes "f") (codes "a") (codes "K") (codes "v"))) (false ∷ true ∷ [])
+    ≡ codes "1:2:61:4b\ta\tK=v\n" ∷ codes "{\"position\":\"1:2:61:4b\",\"path\":\"f\",\"line\":2,\"priority\":1,\"pattern\":\"a\",\"key\":\"K\",\"value\":\"v\"}\n" ∷ []
+
 -- ---- the C library
 
 -- each key and each value ends with a byte 0
@@ -140,10 +153,6 @@ abbrev pub DumpRows : Type 0
 DumpRows =
     dump_text some_tree
     ≡ codes "# /usr/lib/udev/hwdb.d/1.hwdb:2\na*\n K=1\n\n# /etc/udev/hwdb.d/2.hwdb:4\nab\n K=2\n\n# /etc/udev/hwdb.d/2.hwdb:5\nab\n L=3\n\n"
-
--- an assignment of a database of another tool
-abbrev pub foreign : (path pattern key value : List ℕ) → Assignment
-foreign path pattern key value = record { position = place 1 2 pattern key; value = value; path = path }
 
 -- A record says an assignment, unless its key has a `=`, its pattern begins with a space, or its value has a newline or a `#`. A newline of
 -- the path is shown in the comment, and so ends nothing.

@@ -1,9 +1,9 @@
 -- Worked rows of what `diff` says: which changes two maps have and in which order, and the lines of each, as hwdb(8) shows them.
 use Rattle.std.specs.FinMap as finite
-use Rattle.std.specs.Prelude.{◌++◌, ◌∷◌, ◌≡◌, List, None, Option, Some, [], codes, map, ℕ}
+use Rattle.std.specs.Prelude.{◌∷◌, ◌≡◌, List, None, Some, [], codes, map, ℕ}
 use Rattle.hwdb_spec.specs.Assignment.{Assignment}
 use Rattle.hwdb_spec_commands.specs.DeviceDifferences.{device_changes_text}
-use Rattle.hwdb_spec_commands.specs.Differences.{Change, change_at, change_text, changes_text, differences, files_diff_text, places}
+use Rattle.hwdb_spec_commands.specs.Differences.{change_at, changes_text, differences, files_diff_text, places}
 use Rattle.hwdb_spec_commands.specs.Differences.Change.{Came, Changed, Went}
 use Rattle.hwdb_spec.specs.Folders.{Source}
 use Rattle.hwdb_spec.specs.Tree.{Map, entry_of}

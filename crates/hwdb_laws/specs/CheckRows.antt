@@ -10,7 +10,7 @@ use Rattle.hwdb_spec_commands.specs.Surroundings.{is_elsewhere, is_unpaired, is_
 use Rattle.hwdb_spec_commands.specs.Warnings.{repeated_lines, replacing, warning_report, warns}
 use Rattle.hwdb_spec_commands.specs.declared.Tally.{Tally}
 use Rattle.hwdb_spec_commands.specs.declared.WarningKind.{WarningKind}
-use Rattle.hwdb_spec_commands.specs.declared.WarningKind.TheVariants.{ByteOrderMark, CarriageReturn, CutValue, EmptyRange, LeadingTab, Misused, OpenBracket, RepeatedMatch, Replaced, SpacedEquals, TooLongForUdev, Unpaired, Unread}
+use Rattle.hwdb_spec_commands.specs.declared.WarningKind.TheVariants.{CarriageReturn, CutValue, EmptyRange, LeadingTab, Misused, OpenBracket, Replaced, SpacedEquals, Unpaired, Unread}
 use Rattle.hwdb_spec_commands.specs.declared.vocabulary.Misuse.TheVariants.{NearName, UnknownKey}
 
 -- ---- kinds that are allowed

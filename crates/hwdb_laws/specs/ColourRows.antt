@@ -1,6 +1,6 @@
 -- Worked rows of colours: which bytes of each kind of text have which, as sequences of ECMA-48 (SGR: 36 is cyan, 1 bold, 33 yellow, 32 green,
 -- and 0 takes them back).
-use Rattle.std.specs.Prelude.{◌++◌, ◌∷◌, ◌≡◌, Bool, List, [], codes, false, map, true, ℕ}
+use Rattle.std.specs.Prelude.{◌++◌, ◌∷◌, ◌≡◌, List, [], codes, false, map, ℕ}
 use Rattle.hwdb_spec_commands.specs.Colours.{painted, plain, styled, without_sequences}
 use Rattle.hwdb_spec_commands.specs.declared.colours.TextKind.{TextKind}
 use Rattle.hwdb_spec_commands.specs.declared.colours.TextKind.TheVariants as text

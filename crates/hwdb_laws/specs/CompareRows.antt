@@ -1,6 +1,6 @@
 -- Worked rows of what `diff` prints of two databases: what they assign, what devices get, and counts, as text and as JSON (hwdb(8)). And what
 -- `status` says of two that differ.
-use Rattle.std.specs.Prelude.{◌++◌, ◌∷◌, ◌≡◌, Bool, List, None, Option, Some, [], codes, false, map, true, ℕ}
+use Rattle.std.specs.Prelude.{◌++◌, ◌∷◌, ◌≡◌, List, None, Some, [], codes, false, map, true, ℕ}
 use Rattle.hwdb_spec.specs.Assignment.{Assignment}
 use Rattle.hwdb_spec_commands.specs.Comparisons.{comparison_form, devices_named, has_changed}
 use Rattle.hwdb_spec_commands.specs.DeviceDifferences.{device_differences}

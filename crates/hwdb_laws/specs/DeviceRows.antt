@@ -2,14 +2,14 @@
 -- asks for.
 use Rattle.std.specs.List.{list_any}
 use Rattle.std.specs.Option.{option_map_or}
-use Rattle.std.specs.Prelude.{◌++◌, ◌∷◌, ◌≡◌, List, None, Option, Some, [], codes, false, find, map, option_map, true, ℕ}
+use Rattle.std.specs.Prelude.{◌∷◌, ◌≡◌, List, None, Option, Some, [], codes, false, find, map, option_map, true, ℕ}
 use Rattle.hwdb_spec_commands.specs.DeviceAsked.{device_list, device_meant}
 use Rattle.hwdb_spec_program.specs.DeviceErrors.{asked_names}
 use Rattle.hwdb_spec_commands.specs.DeviceTexts.{device_text, files_device_text}
 use Rattle.hwdb_spec_commands.specs.DeviceTree.{Sight}
 use Rattle.hwdb_spec.specs.Folders.{Source, same}
 use Rattle.hwdb_spec_commands.specs.Sysfs.{Device}
-use Rattle.hwdb_spec_commands.specs.SysfsAnswers.{Answers, nothing_there, sight_by}
+use Rattle.hwdb_spec_commands.specs.SysfsAnswers.{nothing_there, sight_by}
 use Rattle.hwdb_spec.specs.Tree.{Tree}
 use Rattle.hwdb_spec.specs.Tree.Children.{NoMore}
 use Rattle.hwdb_spec.specs.Tree.Tree.{Node}

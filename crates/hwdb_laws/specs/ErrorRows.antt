@@ -1,8 +1,7 @@
 -- Worked rows of errors: their lines, as DIAGNOSTICS of hwdb(8) has them; of bytes that are no database, as hwdb-format(7) numbers their
 -- faults; and what an error of a call is to the program.
-use Rattle.std.specs.Prelude.{◌++◌, ◌∷◌, ◌≡◌, List, None, Option, Some, Vec, [], codes, map, pos, ℕ}
+use Rattle.std.specs.Prelude.{◌++◌, ◌∷◌, ◌≡◌, List, None, Some, Vec, [], codes, map, pos, ℕ}
 use Rattle.std.specs.declared.alloc.Global.{Global}
-
 use Rattle.hwdb_spec_commands.specs.Asked.{unsayable_text}
 use Rattle.hwdb_spec.specs.Errors.{error_text, of_scan, of_select, of_store, refusal_of_compile, refusal_of_position, refusal_of_read, refusal_of_scan, refusal_of_select}
 use Rattle.hwdb_spec.specs.Failures.{after_failure}
@@ -20,7 +19,6 @@ use Rattle.hwdb_spec_commands.specs.Undone.{told_path}
 use Rattle.hwdb_spec_commands.specs.Verdicts.{verdict_text}
 use Rattle.hwdb_spec.specs.declared.DbFault.{DbFault}
 use Rattle.hwdb_spec.specs.declared.DbFault.TheVariants.{ChildOrder, Depth, KeyOrder, Lengths, Place, Priority, RecordSizes, Short, Signature, StringOffset, Strings}
-use Rattle.hwdb_spec.specs.declared.causes.Cause.{Cause}
 use Rattle.hwdb_spec.specs.declared.causes.Cause.TheVariants as why
 use Rattle.hwdb_spec.specs.declared.errors.CompileError.TheVariants as compiling
 use Rattle.hwdb_spec.specs.declared.errors.NearError.TheVariants as comparing
@@ -29,7 +27,6 @@ use Rattle.hwdb_spec.specs.declared.errors.ReadError.TheVariants as reading
 use Rattle.hwdb_spec.specs.declared.errors.ScanError.TheVariants as scan
 use Rattle.hwdb_spec.specs.declared.errors.SelectError.TheVariants as select
 use Rattle.hwdb_spec.specs.declared.errors.StoreError.TheVariants as store
-use Rattle.hwdb_spec.specs.declared.errors.ToolError.{ToolError}
 use Rattle.hwdb_spec.specs.declared.errors.ToolError.TheVariants.{BadDatabase, BadPosition, Memory, Read, TooLarge, TooLong, TooManyFiles, TooManyLines, Write}
 use Rattle.hwdb_spec.specs.declared.errors.Unreplaced.TheVariants.{LeftBehind, NamesTaken, Undone, Unsynced}
 use Rattle.hwdb_spec_commands.specs.declared.refusals.Refusal.TheVariants as refusal

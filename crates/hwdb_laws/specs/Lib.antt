@@ -13,3 +13,4 @@ pub mod ColourRows
 pub mod PlaceRows
 pub mod WordRows
 pub mod DeviceRows
+pub mod TaskRows

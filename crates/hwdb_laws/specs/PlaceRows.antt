@@ -1,18 +1,18 @@
 -- Worked rows of files: where the databases and the text files are below a root (systemd-hwdb(8)), which of them count, which files words
 -- name, what calls of a store leave (POSIX, rename and fsync), and what an update leaves out.
-use Rattle.std.specs.Prelude.{◌*◌, ◌++◌, ◌∷◌, ◌≡◌, Bool, List, None, Option, Some, [], codes, false, if◌then◌else◌, map, true, ℕ}
+use Rattle.std.specs.Prelude.{◌*◌, ◌++◌, ◌∷◌, ◌≡◌, List, None, Option, Some, [], codes, false, if◌then◌else◌, map, true, ℕ}
 use Rattle.std.specs.Str.{bytes_eq}
 use Rattle.hwdb_spec_commands.specs.AnsweredLines.{answered_lines, end_after, line_error}
 use Rattle.hwdb_spec_commands.specs.Asked.{named_database}
 use Rattle.hwdb_spec.specs.Blocks.{block_bytes}
-use Rattle.hwdb_spec.specs.Crashes.{Event, Traces, after_events, begin, contents_after}
+use Rattle.hwdb_spec.specs.Crashes.{Event, after_events, begin, contents_after, outcomes_after}
 use Rattle.hwdb_spec.specs.Crashes.Event.{moved, names_synced, put, removed, synced}
 use Rattle.hwdb_spec.specs.Folders.{Choice, FaultIn}
 use Rattle.hwdb_spec_commands.specs.Given.{any_dash, is_input}
 use Rattle.hwdb_spec_program.specs.GivenDatabases.{names_input, names_twice, with_input}
 use Rattle.hwdb_spec_commands.specs.Ignored.{is_ignored, text_folder}
 use Rattle.hwdb_spec_commands.specs.LeftOut.{status_less, without}
-use Rattle.hwdb_spec_commands.specs.Listings.{list_page, line_of}
+use Rattle.hwdb_spec_commands.specs.Listings.{list_page}
 use Rattle.hwdb_spec_commands.specs.OverText.{with_database}
 use Rattle.hwdb_spec_commands.specs.Progress.{listing}
 use Rattle.hwdb_spec_commands.specs.Status.{has_database, hidden_database}
@@ -20,7 +20,6 @@ use Rattle.hwdb_spec.specs.Store.{Contents, Stored, database_file, most_parts, p
 use Rattle.hwdb_spec.specs.System.{bytes_at}
 use Rattle.hwdb_spec.specs.Texts.{faults_text_at, status_of}
 use Rattle.hwdb_spec.specs.Written.{padding}
-use Rattle.hwdb_spec.specs.declared.Fault.{Fault}
 use Rattle.hwdb_spec.specs.declared.FaultKind.TheVariants.{NoEquals}
 use Rattle.hwdb_spec.specs.declared.errors.ToolError.TheVariants.{TooLong, TooManyLines}
 
@@ -164,3 +163,9 @@ LooseRows =
     (after_events (codes "/f") begin (put (codes "/f") some_file ∷ names_synced ∷ []) ≡ record { now = Some some_file; loose = true; before = []; torn = true })
     × (after_events (codes "/f") begin (put (codes "/f") some_file ∷ removed (codes "/f") ∷ []) ≡ record { now = None; loose = false; before = None ∷ Some some_file ∷ []; torn = true })
     × (after_events (codes "/f") begin (put (codes "/f") some_file ∷ removed (codes "/f") ∷ names_synced ∷ []) ≡ record { now = None; loose = false; before = []; torn = false })
+
+-- So before that sync a crash may leave the path without a file, and after it nothing but the new one.
+abbrev pub OutcomeRows : Type 0
+OutcomeRows =
+    outcomes_after written (codes "/d/hwdb.bin") None
+    × ((file : Option Stored) → outcomes_after (written ++ names_synced ∷ []) (codes "/d/hwdb.bin") file → file ≡ Some some_file)

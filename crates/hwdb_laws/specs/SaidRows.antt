@@ -1,5 +1,5 @@
 -- Worked rows of what `verify`, `update --verbose`, `explain`, `near` and `--text` say.
-use Rattle.std.specs.Prelude.{◌++◌, ◌∷◌, ◌≡◌, List, None, Option, Some, [], codes, false, map, true, ℕ}
+use Rattle.std.specs.Prelude.{◌++◌, ◌∷◌, ◌≡◌, List, None, Some, [], codes, false, map, true, ℕ}
 use Rattle.hwdb_spec.specs.Assignment.{Assignment}
 use Rattle.hwdb_spec.specs.Explanations.{explained, explanations_text}
 use Rattle.hwdb_spec.specs.Folders.{Source}
@@ -7,7 +7,7 @@ use Rattle.hwdb_spec_program.specs.Hiding.{hiding_text}
 use Rattle.hwdb_spec_commands.specs.Near.{PatternAt, near_json, near_text}
 use Rattle.hwdb_spec_commands.specs.Progress.{deep_line, update_text}
 use Rattle.hwdb_spec.specs.Store.{Contents, database_file}
-use Rattle.hwdb_spec_commands.specs.Summary.{Summary, depth_warning, summary_of, summary_text}
+use Rattle.hwdb_spec_commands.specs.Summary.{depth_warning, summary_of, summary_text}
 use Rattle.hwdb_spec.specs.Tree.{Tree, Value}
 use Rattle.hwdb_spec.specs.Tree.Children.{Child, NoMore}
 use Rattle.hwdb_spec.specs.Tree.Tree.{Node}

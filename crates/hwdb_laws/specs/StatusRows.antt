@@ -4,7 +4,7 @@ use Rattle.std.specs.Prelude.{◌++◌, ◌∷◌, ◌≡◌, Bool, List, None, 
 use Rattle.hwdb_spec_commands.specs.Commands.{removing_words, shell_word, update_words}
 use Rattle.hwdb_spec_commands.specs.Emptied.{loss_text}
 use Rattle.hwdb_spec.specs.Folders.{Choice}
-use Rattle.hwdb_spec_commands.specs.Status.{Amount, Report, State, ignored_paths, is_bare, masked_paths, path_asked, path_hidden, remedy_of, report_form, report_of, status_of}
+use Rattle.hwdb_spec_commands.specs.Status.{Amount, Report, ignored_paths, is_bare, masked_paths, path_asked, path_hidden, remedy_of, report_form, report_of, status_of}
 use Rattle.hwdb_spec_commands.specs.Status.Amount.{Counted, Uncounted}
 use Rattle.hwdb_spec_commands.specs.Status.State.{Alike, Broken, Fresh, Missing, Stale}
 

@@ -1,8 +1,7 @@
 -- Worked rows of what a file system answers of sysfs: which errors say that a path leads nowhere (path_resolution(7), errno(3)), which
 -- names of a listing lead on, and that nothing but a regular file is read.
 use Rattle.std.specs.Prelude.{◌++◌, ◌∷◌, ◌≡◌, Bool, Err, List, None, Ok, Option, Result, Some, [], codes, false, map, pos, true, ℕ}
-use Rattle.hwdb_spec_commands.specs.DeviceTree.{Node, Sight}
-use Rattle.hwdb_spec_commands.specs.SysfsAnswers.{Answers, is_nowhere, is_untold, leads_on, names_listed, seen}
+use Rattle.hwdb_spec_commands.specs.SysfsAnswers.{Answers, is_nowhere, leads_on, names_listed, seen}
 use Rattle.hwdb_spec.specs.declared.causes.Cause.{Cause}
 use Rattle.hwdb_spec.specs.declared.causes.Cause.TheVariants.{Memory, System, Unknown}
 

@@ -1,8 +1,8 @@
 -- Worked rows of what `test` says of whole files, and of its status.
 use Rattle.std.specs.Prelude.{◌++◌, ◌∷◌, ◌≡◌, List, [], codes, false, map, true, ℕ}
 use Rattle.hwdb_spec.specs.Folders.{Source}
-use Rattle.hwdb_spec.specs.Tree.{Tree, Value}
-use Rattle.hwdb_spec.specs.Tree.Children.{Child, NoMore}
+use Rattle.hwdb_spec.specs.Tree.{Tree}
+use Rattle.hwdb_spec.specs.Tree.Children.{NoMore}
 use Rattle.hwdb_spec.specs.Tree.Tree.{Node}
 use Rattle.hwdb_spec_commands.specs.Wanted.{file_held, test_status, test_text}
 

@@ -13,10 +13,22 @@
 //! | `StatusRows` | what `status` says, and `update` without text files |
 //! | `OverTextRows` | which words don't fit `--text` |
 //! | `SaidRows` | what `verify`, `update --verbose`, `explain` and `near` say |
+//! | `ErrorRows` | lines of errors, and what an error of a call is to the program |
+//! | `AnswerRows` | what a database, or text files, answer |
+//! | `CompareRows` | what `diff` prints of two databases |
+//! | `ColourRows` | which bytes have which colour |
+//! | `PlaceRows` | where files are, and what calls of a store leave |
+//! | `WordRows` | what is read of the command line |
+//! | `DeviceRows` | what `device` prints |
+//! | `TaskRows` | what tasks read, and what `explain --text` says besides |
 //!
 //! `rows` shows them.
 #![tactic(auto)]
 
 mod rows;
 
-pub use rows::{answer_rows, change_rows, check_rows, colour_rows, compare_rows, device_rows, error_rows, explain_rows, form_rows, near_rows, over_text_rows, place_rows, status_rows, sysfs_rows, update_rows, verify_rows, wanted_rows, word_rows};
+pub use rows::{
+    answer_rows, change_rows, check_rows, colour_rows, compare_rows, device_rows, error_rows,
+    explain_rows, form_rows, near_rows, over_text_rows, place_rows, status_rows, sysfs_rows,
+    task_rows, update_rows, verify_rows, wanted_rows, word_rows,
+};

@@ -12,6 +12,7 @@ ghost use Rattle.hwdb_laws.specs.PlaceRows;
 ghost use Rattle.hwdb_laws.specs.SaidRows;
 ghost use Rattle.hwdb_laws.specs.StatusRows;
 ghost use Rattle.hwdb_laws.specs.SysfsRows;
+ghost use Rattle.hwdb_laws.specs.TaskRows;
 ghost use Rattle.hwdb_laws.specs.WantedRows;
 ghost use Rattle.hwdb_laws.specs.WordRows;
 
@@ -147,26 +148,6 @@ pub fn error_rows()
     ensures failures { ErrorRows.FailureRows }
 {}
 
-/// What a database, or text files, answer.
-pub fn answer_rows()
-    ensures nodes { AnswerRows.NodeRows }
-    ensures database { AnswerRows.DatabaseRows }
-    ensures files { AnswerRows.FileRows }
-    ensures raw { AnswerRows.RawRows }
-    ensures positions { AnswerRows.PositionRows }
-    ensures list { AnswerRows.ListRows }
-    ensures file_list { AnswerRows.FileListRows }
-    ensures strings { AnswerRows.StringRows }
-    ensures dump { AnswerRows.DumpRows }
-    ensures said { AnswerRows.SaidRows }
-    ensures unsaid { AnswerRows.UnsaidRows }
-    ensures patterns { AnswerRows.PatternRows }
-    ensures limit { AnswerRows.LimitRows }
-    ensures near { AnswerRows.NearRows }
-    ensures lines { AnswerRows.LineRows }
-    ensures lone { AnswerRows.LoneRows }
-{}
-
 /// What `diff` prints of two databases.
 pub fn compare_rows()
     ensures changes { CompareRows.ChangeRows }
@@ -193,27 +174,6 @@ pub fn colour_rows()
     ensures devices { ColourRows.DeviceRows }
     ensures records { ColourRows.RecordRows }
     ensures without { ColourRows.WithoutRows }
-{}
-
-/// Where files are, which of them count, and what calls of a store leave.
-pub fn place_rows()
-    ensures asked { PlaceRows.AskedRows }
-    ensures hidden { PlaceRows.HiddenRows }
-    ensures there { PlaceRows.ThereRows }
-    ensures folders { PlaceRows.FolderRows }
-    ensures ignored { PlaceRows.IgnoredRows }
-    ensures over { PlaceRows.OverRows }
-    ensures dash { PlaceRows.DashRows }
-    ensures twice { PlaceRows.TwiceRows }
-    ensures lines { PlaceRows.LineRows }
-    ensures without { PlaceRows.WithoutRows }
-    ensures status { PlaceRows.StatusRows }
-    ensures faults { PlaceRows.FaultRows }
-    ensures listing { PlaceRows.ListingRows }
-    ensures parts { PlaceRows.PartRows }
-    ensures blocks { PlaceRows.BlockRows }
-    ensures update { PlaceRows.UpdateRows }
-    ensures loose { PlaceRows.LooseRows }
 {}
 
 /// What is read of the command line.
@@ -246,4 +206,64 @@ pub fn device_rows()
     ensures names { DeviceRows.NameRows }
     ensures text { DeviceRows.TextRows }
     ensures files { DeviceRows.FileRows }
+{}
+
+/// What tasks read, and what `explain --text` says besides.
+pub fn task_rows()
+    ensures plain { TaskRows.PlainRows }
+    ensures dash { TaskRows.DashRows }
+    ensures other { TaskRows.OtherRows }
+    ensures diff { TaskRows.DiffRows }
+    ensures named { TaskRows.NamedRows }
+    ensures status { TaskRows.StatusRows }
+    ensures jobs { TaskRows.JobRows }
+    ensures replaced { TaskRows.ReplacedRows }
+    ensures besides { TaskRows.BesidesRows }
+    ensures told { TaskRows.ToldRows }
+    ensures over { TaskRows.OverRows }
+    ensures taken { TaskRows.TakenRows }
+{}
+
+/// What a database, or text files, answer.
+pub fn answer_rows()
+    ensures nodes { AnswerRows.NodeRows }
+    ensures database { AnswerRows.DatabaseRows }
+    ensures files { AnswerRows.FileRows }
+    ensures raw { AnswerRows.RawRows }
+    ensures names { AnswerRows.NameRows }
+    ensures positions { AnswerRows.PositionRows }
+    ensures hits { AnswerRows.HitRows }
+    ensures list { AnswerRows.ListRows }
+    ensures file_list { AnswerRows.FileListRows }
+    ensures strings { AnswerRows.StringRows }
+    ensures dump { AnswerRows.DumpRows }
+    ensures said { AnswerRows.SaidRows }
+    ensures unsaid { AnswerRows.UnsaidRows }
+    ensures patterns { AnswerRows.PatternRows }
+    ensures limit { AnswerRows.LimitRows }
+    ensures near { AnswerRows.NearRows }
+    ensures lines { AnswerRows.LineRows }
+    ensures lone { AnswerRows.LoneRows }
+{}
+
+/// Where files are, which of them count, and what calls of a store leave.
+pub fn place_rows()
+    ensures asked { PlaceRows.AskedRows }
+    ensures hidden { PlaceRows.HiddenRows }
+    ensures there { PlaceRows.ThereRows }
+    ensures folders { PlaceRows.FolderRows }
+    ensures ignored { PlaceRows.IgnoredRows }
+    ensures over { PlaceRows.OverRows }
+    ensures dash { PlaceRows.DashRows }
+    ensures twice { PlaceRows.TwiceRows }
+    ensures lines { PlaceRows.LineRows }
+    ensures without { PlaceRows.WithoutRows }
+    ensures status { PlaceRows.StatusRows }
+    ensures faults { PlaceRows.FaultRows }
+    ensures listing { PlaceRows.ListingRows }
+    ensures parts { PlaceRows.PartRows }
+    ensures blocks { PlaceRows.BlockRows }
+    ensures update { PlaceRows.UpdateRows }
+    ensures loose { PlaceRows.LooseRows }
+    ensures outcome { PlaceRows.OutcomeRows }
 {}

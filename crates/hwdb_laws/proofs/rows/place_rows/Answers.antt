@@ -1,4 +1,4 @@
-use Rattle.hwdb_laws.proofs.ComputedPlaceRows.{asked_rows, block_rows, dash_rows, fault_rows, folder_rows, hidden_rows, ignored_rows, line_rows, listing_rows, loose_rows, over_rows, part_rows, status_rows, there_rows, twice_rows, update_rows, without_rows}
+use Rattle.hwdb_laws.proofs.ComputedPlaceRows.{asked_rows, block_rows, dash_rows, fault_rows, folder_rows, hidden_rows, ignored_rows, line_rows, listing_rows, loose_rows, outcome_rows, over_rows, part_rows, status_rows, there_rows, twice_rows, update_rows, without_rows}
 use Rattle.hwdb_laws.proofs.rows.place_rows.Goals as goal
 
 pub returns : goal.returns
@@ -20,4 +20,5 @@ returns c = record {
   blocks = block_rows;
   update = update_rows;
   loose = loose_rows;
+  outcome = outcome_rows;
 }
