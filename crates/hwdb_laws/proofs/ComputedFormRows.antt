@@ -1,5 +1,5 @@
 -- The rows, computed.
-use Rattle.hwdb_laws.specs.FormRows.{AcpiRows, BluetoothRows, BusRows, CameraRows, DmiRows, EvdevRows, FireWireRows, MachineRows, MouseRows, NameMachineRows, NameRows, OuiRows, PartRows, PciRows, ScreenRows, SensorMachineRows, SensorRows, TabletRows, UsbRows}
+use Rattle.hwdb_laws.specs.FormRows.{AcpiRows, BluetoothRows, BusRows, CameraRows, DmiRows, EvdevRows, FireWireRows, MachineRows, MouseRows, NameMachineRows, NameRows, OuiRows, PartRows, PciRows, ScreenRows, SensorMachineRows, SensorRows, SingleRows, TabletRows, UsbRows}
 use Rattle.hwdb_spec.specs.Forms.{all_bytes_from, byte_row, counted_row, either_row, end_row, field_row, fields_row, fixed_row, many_row, none_row, pieces_row}
 use Rattle.hwdb_spec.specs.Patterns.{bracket_at, classes, item_at, items_from, token_at, tokens_from}
 use Rattle.std.proofs.Common.{refl}
@@ -79,3 +79,7 @@ oui_rows = refl
 pub screen_rows : ScreenRows
 unfolding tokens_from token_at item_at items_from bracket_at classes byte_row many_row fixed_row counted_row pieces_row either_row none_row end_row field_row fields_row all_bytes_from
 screen_rows = refl
+
+pub single_rows : SingleRows
+unfolding tokens_from token_at item_at items_from bracket_at classes byte_row many_row fixed_row counted_row pieces_row either_row none_row end_row field_row fields_row all_bytes_from
+single_rows = (refl, refl, refl, refl, refl, refl, refl, refl, refl, refl, refl)

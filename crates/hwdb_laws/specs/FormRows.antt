@@ -1,7 +1,7 @@
 -- Worked rows of the forms of strings that udev asks: for each way of each field a text that has it, as udev's rules or the kernel write
 -- it, and texts that are near one and have none.
 use Rattle.std.specs.Prelude.{◌∷◌, ◌≡◌, Bool, List, [], codes, false, map, true, ℕ}
-use Rattle.hwdb_spec_commands.specs.FormTable.{acpi, battery_machine, bluetooth, camera, dmi, evdev_input, evdev_machine, evdev_name, evdev_name_machine, fb, id_input_name, ieee1394_node, libwacom, mouse, oui, pci, sensor, sensor_machine, usb}
+use Rattle.hwdb_spec_commands.specs.FormTable.{acpi, battery, battery_machine, block, bluetooth, camera, dmi, evdev_input, evdev_keyboard, evdev_machine, evdev_name, evdev_name_machine, fb, id_input, id_input_name, ieee1394_node, ieee1394_unit, joystick, libwacom, mouse, net, oui, pci, sdio, sensor, sensor_machine, touchpad, tpm2, usb, vmbus}
 use Rattle.hwdb_spec.specs.Forms.{Form, meets_form}
 use Rattle.hwdb_spec.specs.Patterns.{tokens}
 
@@ -126,3 +126,18 @@ ScreenRows =
     (codes "fb:pci:v00001234d00001111sv00001AF4sd00001100bc03sc00i00" ∷ codes "fb:vmbus:6f3b5b1e7a3c4d0e9f6a2d1c0b9e8f7a" ∷ codes "fb:platform:efifb" ∷ codes "fb:of:NgpuT" ∷ codes "fb:virtio:d00000010v00001AF4"
     ∷ codes "fb:acpi:ACPI0010:" ∷ codes "fb:usb:v17E9p4307" ∷ codes "fb:spi:ili9341" ∷ codes "fb:i2c:ssd1307fb" ∷ codes "fb:xen:vfb" ∷ codes "fb:serio:ty06" ∷ [])
     ≡ true ∷ true ∷ true ∷ true ∷ true ∷ true ∷ true ∷ true ∷ true ∷ true ∷ false ∷ []
+
+-- Touchpads, joysticks and the others whose form has one way: a text that has it, and one that is near it and has none.
+abbrev pub SingleRows : Type 0
+SingleRows =
+    (have touchpad (codes "touchpad:i8042:v0002p000e:name:ETPS/2 Elantech:" ∷ codes "touchpad:i8042:v0002p000E:name:ETPS/2 Elantech:" ∷ []) ≡ true ∷ false ∷ [])
+    × (have joystick (codes "joystick:usb:v054cp05c4:name:Wireless Controller:" ∷ codes "joystick:usb:v054cp05c4:Wireless Controller:" ∷ []) ≡ true ∷ false ∷ [])
+    × (have id_input (codes "id-input:modalias:input:b0003v5543p0081e0100-e0,1" ∷ codes "id-input:input:b0003v5543p0081e0100-e0,1" ∷ []) ≡ true ∷ false ∷ [])
+    × (have evdev_keyboard (codes "evdev:atkbd:" ∷ codes "evdev:atkbd:usb" ∷ []) ≡ true ∷ false ∷ [])
+    × (have battery (codes "battery:BAT0:5B10:" ∷ codes "battery:BAT0:" ∷ []) ≡ true ∷ false ∷ [])
+    × (have ieee1394_unit (codes "ieee1394:ven0000000Amo00000001sp0000A02Dver00000102" ∷ codes "ieee1394:ven0000000amo00000001sp0000A02Dver00000102" ∷ []) ≡ true ∷ false ∷ [])
+    × (have net (codes "net:naming:drvirtio_net:" ∷ codes "net:naming:drvirtio_net" ∷ []) ≡ true ∷ false ∷ [])
+    × (have sdio (codes "sdio:c00v02D0d4329" ∷ codes "sdio:c00v02d0d4329" ∷ []) ≡ true ∷ false ∷ [])
+    × (have vmbus (codes "vmbus:6f3b5b1e7a3c4d0e9f6a2d1c0b9e8f7a" ∷ codes "vmbus:6F3B5B1E7A3C4D0E9F6A2D1C0B9E8F7A" ∷ []) ≡ true ∷ false ∷ [])
+    × (have tpm2 (codes "tpm2:INTC:" ∷ codes "tpm:INTC:" ∷ []) ≡ true ∷ false ∷ [])
+    × (have block (codes "block::name:KINGSTON:fwrev:SBFKB1C2:" ∷ codes "block:name:KINGSTON:fwrev:SBFKB1C2:" ∷ []) ≡ true ∷ false ∷ [])

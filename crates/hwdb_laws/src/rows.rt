@@ -47,6 +47,7 @@ pub fn form_rows()
     ensures firewire { FormRows.FireWireRows }
     ensures oui { FormRows.OuiRows }
     ensures screen { FormRows.ScreenRows }
+    ensures single { FormRows.SingleRows }
 {}
 
 /// What `check` says.

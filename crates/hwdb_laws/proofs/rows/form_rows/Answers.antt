@@ -1,4 +1,4 @@
-use Rattle.hwdb_laws.proofs.ComputedFormRows.{acpi_rows, bluetooth_rows, bus_rows, camera_rows, dmi_rows, evdev_rows, fire_wire_rows, machine_rows, mouse_rows, name_machine_rows, name_rows, oui_rows, part_rows, pci_rows, screen_rows, sensor_machine_rows, sensor_rows, tablet_rows, usb_rows}
+use Rattle.hwdb_laws.proofs.ComputedFormRows.{acpi_rows, bluetooth_rows, bus_rows, camera_rows, dmi_rows, evdev_rows, fire_wire_rows, machine_rows, mouse_rows, name_machine_rows, name_rows, oui_rows, part_rows, pci_rows, screen_rows, sensor_machine_rows, sensor_rows, single_rows, tablet_rows, usb_rows}
 use Rattle.hwdb_laws.proofs.rows.form_rows.Goals as goal
 
 pub returns : goal.returns
@@ -22,4 +22,5 @@ returns c = record {
   firewire = fire_wire_rows;
   oui = oui_rows;
   screen = screen_rows;
+  single = single_rows;
 }
