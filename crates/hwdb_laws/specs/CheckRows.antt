@@ -18,9 +18,9 @@ use Rattle.hwdb_spec_commands.specs.declared.vocabulary.Misuse.TheVariants.{Near
 -- a kind that is allowed isn't told, and each other one is
 abbrev pub ToldRows : Type 0
 ToldRows =
-    map (is_told (codes "unread" ∷ codes "near-name" ∷ [])) (Unread ∷ Unpaired ∷ Misused NearName ∷ Misused UnknownKey ∷ CutValue ∷ [])
-    ++ map (is_told []) (Unread ∷ Misused NearName ∷ [])
-    ≡ false ∷ true ∷ false ∷ true ∷ true ∷ true ∷ true ∷ []
+    map (is_told (codes "unread" ∷ codes "near-name" ∷ [])) (Unread true ∷ Unread false ∷ Unpaired ∷ Misused NearName ∷ Misused UnknownKey ∷ CutValue ∷ [])
+    ++ map (is_told []) (Unread true ∷ Misused NearName ∷ [])
+    ≡ false ∷ true ∷ true ∷ false ∷ true ∷ true ∷ true ∷ true ∷ []
 
 -- ---- where properties are read
 
