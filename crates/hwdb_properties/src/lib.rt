@@ -30,7 +30,7 @@ mod words;
 pub use common::is_common;
 pub use cuts::{after, before, same};
 pub use laws::{
-    axes_are_told, matrices_are_told, names_are_told, numbers_are_told, pairs_are_told,
+    axes_are_told, codes_are_told, keys_are_told, matrices_are_told, names_are_told, numbers_are_told, pairs_are_told,
     prefixes_are_told, resolutions_are_told,
 };
 pub use remarks::{
