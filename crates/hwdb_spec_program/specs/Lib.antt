@@ -11,3 +11,4 @@ pub mod GivenDatabases
 pub mod ComparedDatabases
 pub mod Program
 pub mod TaskRefusals
+pub mod Rows

@@ -18,4 +18,9 @@
 //! | `ComparedDatabases` | what `diff` compares, and its errors, with their paths |
 //! | `Program` | what the program does, by the job that its words ask for |
 //! | `TaskRefusals` | which errors end a task, and what each leaves: the promise of `program` |
+//! | `Rows` | what some of these give: nobody has to believe them |
 #![tactic(auto)]
+
+mod rows;
+
+pub use rows::hiding_rows;
