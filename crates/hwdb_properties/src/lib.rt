@@ -30,10 +30,8 @@ mod words;
 pub use common::is_common;
 pub use cuts::{after, before, same};
 pub use laws::{
-    axes_are_told, codes_are_told, keys_are_told, matrices_are_told, names_are_told, numbers_are_told, pairs_are_told,
-    prefixes_are_told, resolutions_are_told,
+    axes_are_told, codes_are_told, keys_are_told, matrices_are_told, names_are_told,
+    numbers_are_told, pairs_are_told, prefixes_are_told, resolutions_are_told,
 };
-pub use remarks::{
-    is_known, misuse_of, misuse_text, push_misuse_hint, push_unknown_hint,
-};
+pub use remarks::{is_known, misuse_of, misuse_text, push_misuse_hint, push_unknown_hint};
 pub use surroundings::{companions_of, has_logged_code, is_read_below, push_elsewhere_hint};

@@ -96,8 +96,8 @@ pub use job::{Job, Task, WordsFault};
 pub use refusals::Refusal;
 pub use unread::Unread;
 pub use vocabulary::{
-    COMPANIONS, KEY_HINT, KEY_NAMES, KEY_WORDS, KNOWN_BELOW, Misuse, OLD_PROPERTIES, PROPERTIES, Sign,
-    SignRow, ValueForm,
+    COMPANIONS, KEY_HINT, KEY_NAMES, KEY_WORDS, KNOWN_BELOW, Misuse, OLD_PROPERTIES, PROPERTIES,
+    Sign, SignRow, ValueForm,
 };
 
 /// What is unusual in a line that is read.

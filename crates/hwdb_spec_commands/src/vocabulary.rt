@@ -216,8 +216,7 @@ pub const PROPERTIES: &str = "\
 
 /// The prefixes below which all names are known, with `|` between: systemd's hwdb files of these prefixes name all properties that are
 /// read, and the rows above have what libinput and X read.
-pub const KNOWN_BELOW: &str =
-    "evdev|mouse|touchpad|joystick|sensor|id-input|camera|battery";
+pub const KNOWN_BELOW: &str = "evdev|mouse|touchpad|joystick|sensor|id-input|camera|battery";
 
 /// Properties that are no longer read. A line each: its name, and after a space what came for it, and when if that is
 /// known.
