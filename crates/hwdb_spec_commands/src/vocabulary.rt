@@ -222,7 +222,7 @@ pub const KNOWN_BELOW: &str = "evdev|mouse|touchpad|joystick|sensor|id-input|cam
 /// known.
 pub const OLD_PROPERTIES: &str = "\
     POINTINGSTICK_CONST_ACCEL POINTINGSTICK_SENSITIVITY\n\
-    ID_INPUT_JOYSTICK_INTEGRATION ID_INTEGRATION, since systemd 258\n";
+    ID_INPUT_JOYSTICK_INTEGRATION ID_INTEGRATION, since systemd 260\n";
 
 /// Properties that are read with others of their record alone. A line each: its name, the others with a comma between, and
 /// where this is said, with a space between.
