@@ -1,5 +1,5 @@
 //! The parts of a text before and after a byte.
-ghost use Rattle.std.specs.Prelude.{◌≡◌, drop, take};
+ghost use Rattle.std.specs.Prelude.{◌≡◌, ◌+◌, drop, take};
 ghost use Rattle.std.specs.List.{prefix_len};
 ghost use Rattle.hwdb_spec.specs.Folders;
 ghost use Rattle.hwdb_spec.specs.Lines.{is_indent};
@@ -49,6 +49,17 @@ pub fn front(text: &[u8], size: usize) -> &[u8]
 {
     if size < text.len() {
         &text[..size]
+    } else {
+        text
+    }
+}
+
+/// The same, and one byte more.
+pub fn front_and_one(text: &[u8], size: usize) -> &[u8]
+    ensures { result.now ≡ take (size + 1) text.now }
+{
+    if size < text.len() {
+        &text[..size + 1]
     } else {
         text
     }

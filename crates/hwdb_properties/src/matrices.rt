@@ -58,15 +58,27 @@ fn turned(sign: Sign) -> Sign
     }
 }
 
+/// The sign of a product with a number that isn't known.
+fn unknown_times(sign: Sign) -> Sign
+    ensures { result ≡ Properties.unknown_times sign }
+{
+    match sign {
+        Sign::Zero => Sign::Zero,
+        Sign::Minus => Sign::Other,
+        Sign::Plus => Sign::Other,
+        Sign::Other => Sign::Other,
+    }
+}
+
 /// The sign of a product.
 fn times(one: Sign, other: Sign) -> Sign
     ensures { result ≡ Properties.times one other }
 {
-    match (one, other) {
-        (Sign::Zero, _) | (_, Sign::Zero) => Sign::Zero,
-        (Sign::Plus, _) => other,
-        (Sign::Minus, _) => turned(other),
-        (Sign::Other, _) => Sign::Other,
+    match one {
+        Sign::Minus => turned(other),
+        Sign::Zero => Sign::Zero,
+        Sign::Plus => other,
+        Sign::Other => unknown_times(other),
     }
 }
 

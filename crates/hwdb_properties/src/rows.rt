@@ -3,7 +3,7 @@ ghost use Rattle.std.specs.Prelude.{◌≡◌, Bool, List, ℕ, ◌-◌, false, 
 ghost use Rattle.hwdb_spec_commands.specs.Properties;
 ghost use Rattle.hwdb_properties.specs.Internal.{passes};
 
-use crate::cuts::{after, before, front, same};
+use crate::cuts::{after, before, front, front_and_one, same};
 use crate::names::{is_near, same_letters};
 use crate::words::has_lost_words;
 use hwdb_text::Lines;
@@ -84,14 +84,13 @@ fn is_for(row: &[u8], name: &[u8]) -> bool
     is_row_for(row, name)
 }
 
-/// Whether a name begins nearly as all names that a row is for.
+/// Whether a name begins nearly with another one.
 fn begins_nearly(own: &[u8], name: &[u8]) -> bool
-    ensures { Properties.is_family own.now ≡ true
-        → result ≡ Properties.is_near_name own.now name.now }
+    ensures { result ≡ Properties.begins_nearly own.now name.now }
 {
     is_near(own, front(name, own.len()))
         || is_near(own, front(name, own.len().saturating_sub(1)))
-        || is_near(own, front(name, own.len() + 1))
+        || is_near(own, front_and_one(name, own.len()))
 }
 
 /// Whether a name is nearly a row's.

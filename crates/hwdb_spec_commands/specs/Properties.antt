@@ -80,13 +80,15 @@ is_near [] ys = same_after_one [] ys
 is_near (x ∷ xs) [] = same_after_one (x ∷ xs) []
 is_near (x ∷ xs) (y ∷ ys) = if lower x == lower y then is_near xs ys else same_after_one (x ∷ xs) (y ∷ ys)
 
--- Whether a name is nearly a row's. If all names that begin so are meant, it begins nearly so: with as many bytes, one less or one more.
+-- whether a name begins nearly with another one: with as many bytes, one less or one more
+abbrev pub begins_nearly : (own name : List ℕ) → Bool
+begins_nearly own name =
+    if is_near own (take (length own) name) then true else
+    (if is_near own (take (length own - 1) name) then true else is_near own (take (length own + 1) name))
+
+-- whether a name is nearly a row's, or begins nearly so if all names that begin so are meant
 abbrev pub is_near_name : (own name : List ℕ) → Bool
-is_near_name own name =
-    if is_family own then
-    (if is_near own (take (length own) name) then true else
-    (if is_near own (take (length own - 1) name) then true else is_near own (take (length own + 1) name)))
-    else is_near own name
+is_near_name own name = if is_family own then begins_nearly own name else is_near own name
 
 -- the first row of a table with nearly this name
 abbrev pub near_row : (table name : List ℕ) → List ℕ
@@ -202,13 +204,17 @@ turned Plus = Minus
 turned Minus = Plus
 turned sign = sign
 
+-- the sign of a product with a number that isn't known
+abbrev pub unknown_times : Sign → Sign
+unknown_times Zero = Zero
+unknown_times sign = Other
+
 -- the sign of a product
 abbrev pub times : Sign → Sign → Sign
-times Zero sign = Zero
-times sign Zero = Zero
-times Plus sign = sign
 times Minus sign = turned sign
-times Other sign = Other
+times Zero sign = Zero
+times Plus sign = sign
+times Other sign = unknown_times sign
 
 -- a number for each sign; six signs whose numbers are 6 in all are as often 1 as -1, and none is `Other`
 abbrev pub weight : Sign → ℕ
