@@ -1,5 +1,5 @@
 //! Matrices whose determinant is 0.
-ghost use Rattle.std.specs.Prelude.{◌≡◌, ◌≤◌};
+ghost use Rattle.std.specs.Prelude.{◌≡◌, ◌≤◌, if◌then◌else◌};
 ghost use Rattle.hwdb_spec_commands.specs.Properties;
 
 use crate::cuts::{after, after_one, before, same, without};

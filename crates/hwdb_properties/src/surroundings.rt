@@ -1,5 +1,5 @@
 //! Below which prefixes a property is read, and with which others.
-ghost use Rattle.std.specs.Prelude.{◌≡◌, ◌++◌, OnOk};
+ghost use Rattle.std.specs.Prelude.{◌≡◌, ◌++◌, OnOk, codes};
 ghost use Rattle.std.specs.List.{list_all};
 ghost use Rattle.hwdb_spec.specs.Patterns.{in_span};
 ghost use Rattle.hwdb_spec_commands.specs.Properties;
@@ -137,15 +137,25 @@ fn push_logged_hint(text: &mut Vec<u8>, name: &[u8]) -> Result<(), AllocError>
     push_raised(text, past(name, 15))
 }
 
+/// Adds below which prefixes a property is read.
+fn push_prefixes_hint(text: &mut Vec<u8>, name: &[u8]) -> Result<(), AllocError>
+    ensures { OnOk result (text.new.items ≡ text.old.items
+        ++ (codes "it is read below these prefixes: "
+        ++ Surroundings.row_prefixes (Properties.property_row name.now))) }
+{
+    text.extend_from_slice(b"it is read below these prefixes: ")?;
+    text.extend_from_slice(prefixes_of(name))?;
+    Ok(())
+}
+
 /// Adds where a property is read.
 pub fn push_elsewhere_hint(text: &mut Vec<u8>, name: &[u8]) -> Result<(), AllocError>
     ensures { OnOk result
         (text.new.items ≡ text.old.items ++ Surroundings.elsewhere_hint name.now) }
 {
     if has_logged_code(name) {
-        return push_logged_hint(text, name);
+        push_logged_hint(text, name)
+    } else {
+        push_prefixes_hint(text, name)
     }
-    text.extend_from_slice(b"it is read below these prefixes: ")?;
-    text.extend_from_slice(prefixes_of(name))?;
-    Ok(())
 }
