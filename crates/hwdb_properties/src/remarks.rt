@@ -1,5 +1,5 @@
 //! What is said of a property that doesn't fit.
-ghost use Rattle.std.specs.Prelude.{◌≡◌, ◌++◌, [], OnOk, not};
+ghost use Rattle.std.specs.Prelude.{◌≡◌, ◌++◌, [], OnOk, codes, not};
 ghost use Rattle.hwdb_spec.specs.Lines;
 ghost use Rattle.hwdb_spec_commands.specs.Properties;
 ghost use Rattle.hwdb_spec_commands.specs.Surroundings;
@@ -287,18 +287,27 @@ fn push_old_hint(text: &mut Vec<u8>, name: &[u8]) -> Result<(), AllocError>
     Ok(())
 }
 
+/// Adds below which prefixes all names are known.
+fn push_known_below(text: &mut Vec<u8>) -> Result<(), AllocError>
+    ensures { OnOk result (text.new.items ≡ text.old.items
+        ++ (codes "below these prefixes all names are known: " ++ KNOWN_BELOW.now)) }
+{
+    text.extend_from_slice(b"below these prefixes all names are known: ")?;
+    text.extend_from_slice(KNOWN_BELOW.as_bytes())?;
+    Ok(())
+}
+
 /// Adds what to do about a property that nothing is known to read.
 pub fn push_unknown_hint(text: &mut Vec<u8>, name: &[u8]) -> Result<(), AllocError>
     ensures { OnOk result
         (text.new.items ≡ text.old.items ++ Surroundings.unknown_hint name.now) }
 {
     let row = lost_row(name);
-    if !row.is_empty() {
-        return push_did_you_mean(text, word(row));
+    if row.is_empty() {
+        push_known_below(text)
+    } else {
+        push_did_you_mean(text, word(row))
     }
-    text.extend_from_slice(b"below these prefixes all names are known: ")?;
-    text.extend_from_slice(KNOWN_BELOW.as_bytes())?;
-    Ok(())
 }
 
 /// Adds what a default is.

@@ -134,7 +134,8 @@ fn push_logged_hint(text: &mut Vec<u8>, name: &[u8]) -> Result<(), AllocError>
 {
     let words = "Linux logs e0 before a code: below evdev:atkbd: write KEYBOARD_KEY_";
     text.extend_from_slice(words.as_bytes())?;
-    push_raised(text, past(name, 15))
+    push_raised(text, past(name, 15))?;
+    Ok(())
 }
 
 /// Adds below which prefixes a property is read.
