@@ -28,7 +28,6 @@ RULES = [
     ("resolutions", MOUSE + " MOUSE_DPI=800dpi\n", "unfit-value"),
     ("a matrix of nine numbers", SENSOR + " ACCEL_MOUNT_MATRIX=1, 0, 0; 0, 1, 0\n", "unfit-value"),
     ("no row of zeros", SENSOR + " ACCEL_MOUNT_MATRIX=1, 0, 0; 0, 0, 0; 0, 0, 1\n", "zero-row"),
-    ("rows that aren't dependent", SENSOR + " ACCEL_MOUNT_MATRIX=0, 1, 0; -1, 0, 0; -1, 0, 0\n", "singular-matrix"),
     ("a known key", EVDEV + " KEYBOARD_KEY_70039=leftctr\n", "unknown-key"),
     ("a code in lower case", EVDEV + " KEYBOARD_KEY_7003A=leftctrl\n", "scan-code"),
     ("limits of an axis", EVDEV + " EVDEV_ABS_00=1,2\n", "unfit-value"),
