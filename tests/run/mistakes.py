@@ -4,6 +4,7 @@ from parse_hwdb.py of systemd's source, and from hwdb(7)."""
 USB = "usb:v1209p0007*\n"
 MOUSE = "mouse:usb:v1209p0007:name:*:\n"
 EVDEV = "evdev:input:b0003v1209p0007*\n"
+ATKBD = "evdev:atkbd:dmi:bvn*:bvr*:bd*:svnWorkshop*\n"
 SENSOR = "sensor:modalias:acpi:WORK0001*\n"
 
 # A rule of parse_hwdb.py, a text that breaks it, and the kind that `check` tells; None if it tells nothing, and docs/DECISIONS.md
@@ -45,6 +46,9 @@ RULES = [
     ("a property once", USB + " ID_PDA=1\n ID_PDA=0\n", "replaced"),
     ("a match once", USB + " ID_PDA=1\n\n" + USB + " ID_MAKER_TOOL=1\n", None),
     ("a known property", USB + " WORKSHOP_BENCH=1\n", None),
+    ("a known property of a mouse", MOUSE + " WORKSHOP_BENCH=1\n", "unknown-property"),
+    ("a known property of a sensor", SENSOR + " ACCEL_MATRIX=1, 0, 0; 0, 1, 0; 0, 0, 1\n", "unknown-property"),
+    ("a property that is read", EVDEV + " POINTINGSTICK_CONST_ACCEL=1.0\n", "old-name"),
     ("touchpad: has a bus, sensor: a place", "touchpad:paw:v1209p0007:*\n ID_INPUT_TOUCHPAD_INTEGRATION=internal\n", None),
     ("a value without odd bytes", USB + " ID_MODEL=(a)\n", None),
 ]
@@ -84,6 +88,20 @@ MISTAKES = [
     ("keys below a mouse", MOUSE + " KEYBOARD_KEY_90005=back\n", "unread"),
     ("a resolution that is none", MOUSE + " MOUSE_DPI=800 DPI\n", "unfit-value"),
     ("a property with a typing error", MOUSE + " MOUSE_DP=800\n", "near-name"),
+    ("a letter lost before a code", EVDEV + " KEYBORD_KEY_70039=leftctrl\n", "near-name"),
+    ("a word lost before a code", EVDEV + " KEYBOARD_70039=leftctrl\n", "unknown-property"),
+    ("a word lost", MOUSE + " MOUSE_WHEEL_ANGLE=15\n", "unknown-property"),
+    ("two letters swapped", MOUSE + " MOUSE_WHEEL_CLICK_ANGEL=15\n", "near-name"),
+    ("two letters swapped, below any prefix", USB + " ID_ATUOSUSPEND=1\n", "near-name"),
+    ("an unknown property below any prefix", USB + EVDEV + " WORKSHOP_BENCH=1\n", None),
+    ("a property that is no longer read", "joystick:usb:v1209p0007:*\n ID_INPUT_JOYSTICK_INTEGRATION=internal\n", "old-name"),
+    ("a code as Linux logs it", ATKBD + " KEYBOARD_KEY_e037=f15\n", "unread"),
+    ("the code of the driver", ATKBD + " KEYBOARD_KEY_b7=f15\n", None),
+    ("such a code of another driver", "evdev:name:Dell WMI hotkeys:dmi:*\n KEYBOARD_KEY_e037=f15\n", None),
+    ("two rows that are the same", SENSOR + " ACCEL_MOUNT_MATRIX=1, 0, 0; 0, -1, 0; 1, 0, 0\n", "singular-matrix"),
+    ("a row that is the sum of the others", SENSOR + " ACCEL_MOUNT_MATRIX=1, 0, 1; 0, 1, -1; 1, 1, 0\n", "singular-matrix"),
+    ("a matrix that is turned over", SENSOR + " ACCEL_MOUNT_MATRIX=0, 1, 0; 1, 0, 0; 0, 0, 1\n", None),
+    ("parts of 1", SENSOR + " ACCEL_MOUNT_MATRIX=0.5, 0.5, 0; 0.5, 0.5, 0; 0, 0, 1\n", None),
     ("limits with commas", EVDEV + " EVDEV_ABS_00=0,4095,40\n", "unfit-value"),
     ("a matrix of two rows", SENSOR + " ACCEL_MOUNT_MATRIX=0, 1, 0; 1, 0, 0\n", "unfit-value"),
     ("a sensitivity of 999", EVDEV + " POINTINGSTICK_SENSITIVITY=999\n", "unfit-value"),

@@ -13,7 +13,7 @@ use Rattle.hwdb_spec_commands.specs.Unmatched.{compare_hint, expected_after, jud
 use Rattle.hwdb_spec.specs.declared.Judgement.TheVariants.{Dead, Fine, UnknownPrefix}
 use Rattle.hwdb_spec_commands.specs.declared.WarningKind.TheVariants.{ByteOrderMark, CarriageReturn, CutValue, EmptyRange, LeadingTab, MayBeTooDeep, Misused, OpenBracket, RepeatedMatch, Replaced, SpacedEquals, TooLongForUdev, Unmatched, Unpaired, Unread}
 use Rattle.hwdb_spec_commands.specs.declared.WarningKind.{WarningKind}
-use Rattle.hwdb_spec_commands.specs.declared.vocabulary.Misuse.TheVariants.{NearName, ScanCode, TwoDefaults, UnfitValue, UnknownKey, ZeroRow}
+use Rattle.hwdb_spec_commands.specs.declared.vocabulary.Misuse.TheVariants.{NearName, OldName, ScanCode, SingularMatrix, TwoDefaults, UnfitValue, UnknownKey, ZeroRow}
 use Rattle.hwdb_check.specs.Laws.{KindsAreNamed, PatternsAreJudged, RunsAreAll, TooDeepRows, TooLongRows, UnmatchedRows, kind_number, kinds, run_bytes}
 
 -- ---- runs
@@ -125,7 +125,7 @@ names = kinds ++ [] ∷ []
 
 -- where a kind's name is
 abbrev IsAt : WarningKind → Type 0
-IsAt kind = (kind_number kind < 21) × (warning_name kind ≡ get_or names (kind_number kind) [])
+IsAt kind = (kind_number kind < 24) × (warning_name kind ≡ get_or names (kind_number kind) [])
 
 are_distinct : distinct names ≡ true
 unfolding distinct pieces
@@ -143,12 +143,15 @@ at CutValue = (omega arith, refl)
 at RepeatedMatch = (omega arith, refl)
 at (Replaced by) = (omega arith, refl)
 at (Misused NearName) = (omega arith, refl)
+at (Misused OldName) = (omega arith, refl)
 at (Misused ScanCode) = (omega arith, refl)
 at (Misused UnknownKey) = (omega arith, refl)
 at (Misused UnfitValue) = (omega arith, refl)
 at (Misused ZeroRow) = (omega arith, refl)
+at (Misused SingularMatrix) = (omega arith, refl)
 at (Misused TwoDefaults) = (omega arith, refl)
-at Unread = (omega arith, refl)
+at (Unread true) = (omega arith, refl)
+at (Unread false) = (omega arith, refl)
 at Unpaired = (omega arith, refl)
 at (Unmatched UnknownPrefix) = (omega arith, refl)
 at (Unmatched (Dead place)) = (omega arith, refl)
@@ -156,15 +159,15 @@ at (Unmatched Fine) = (omega arith, refl)
 at TooLongForUdev = (omega arith, refl)
 at MayBeTooDeep = (omega arith, refl)
 
-long : length names ≡ 21
+long : length names ≡ 24
 unfolding pieces
 long = refl
 
-among : (n : ℕ) (name : List ℕ) → n < 21 → name ≡ get_or names n [] → (n ≡ 20) ⊎ Contains kinds name
+among : (n : ℕ) (name : List ℕ) → n < 24 → name ≡ get_or names n [] → (n ≡ 23) ⊎ Contains kinds name
 unfolding pieces
-among n name lt is = by (n == 20) refl
+among n name lt is = by (n == 23) refl
   where
-    short : length kinds ≡ 20
+    short : length kinds ≡ 23
     short = refl
 
     in_front : (xs : List (List ℕ)) (i : ℕ) → i < length xs → get_or (xs ++ [] ∷ []) i [] ≡ get_or xs i name
@@ -172,10 +175,10 @@ among n name lt is = by (n == 20) refl
     in_front (x ∷ xs) zero h = refl
     in_front (x ∷ xs) (suc i) h = in_front xs i (omega (arith, h))
 
-    by : (c : Bool) → (n == 20) ≡ c → (n ≡ 20) ⊎ Contains kinds name
-    by true e = inl (eqb-true n 20 e)
+    by : (c : Bool) → (n == 23) ≡ c → (n ≡ 23) ⊎ Contains kinds name
+    by true e = inl (eqb-true n 23 e)
     by false e =
-        let other : n ≡ 20 → ⊥ = λ k. (let t : (n == 20) ≡ true = ap (λ (m : ℕ). m == 20) k in let both : true ≡ false = sym t ∙ e in cc) in
+        let other : n ≡ 23 → ⊥ = λ k. (let t : (n == 23) ≡ true = ap (λ (m : ℕ). m == 23) k in let both : true ≡ false = sym t ∙ e in cc) in
         let h : n < length kinds = subst (λ (m : ℕ). n < m) (sym short) (omega (arith, lt, other)) in
         inr (n, h, sym (in_front kinds n h) ∙ sym is)
 
@@ -207,8 +210,9 @@ unfolding pieces
 named_kinds = record {
   each = λ kind. among (kind_number kind) (warning_name kind) (at kind).0 (at kind).1;
   all = (
-    ByteOrderMark ∷ LeadingTab ∷ CarriageReturn ∷ OpenBracket ∷ EmptyRange ∷ SpacedEquals ∷ CutValue ∷ RepeatedMatch ∷ Replaced 0 ∷ Misused NearName ∷ Misused ScanCode
-        ∷ Misused UnknownKey ∷ Misused UnfitValue ∷ Misused ZeroRow ∷ Misused TwoDefaults ∷ Unread ∷ Unpaired ∷ Unmatched UnknownPrefix ∷ Unmatched (Dead 0) ∷ TooLongForUdev ∷ [],
+    ByteOrderMark ∷ LeadingTab ∷ CarriageReturn ∷ OpenBracket ∷ EmptyRange ∷ SpacedEquals ∷ CutValue ∷ RepeatedMatch ∷ Replaced 0 ∷ Misused NearName ∷ Misused OldName
+        ∷ Misused ScanCode ∷ Misused UnknownKey ∷ Misused UnfitValue ∷ Misused ZeroRow ∷ Misused SingularMatrix ∷ Misused TwoDefaults
+        ∷ Unread true ∷ Unread false ∷ Unpaired ∷ Unmatched UnknownPrefix ∷ Unmatched (Dead 0) ∷ TooLongForUdev ∷ [],
     refl,
   );
   own = λ one two e.

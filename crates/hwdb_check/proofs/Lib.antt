@@ -14,3 +14,4 @@ pub mod CalmLemmas
 pub mod RecordLemmas
 pub mod PlainLemmas
 pub mod MarkLemmas
+pub mod PieceLemmas

@@ -1,7 +1,7 @@
 -- Files of whose lines only the marks of comments have to be looked at.
-use Rattle.std.proofs.Common.{add-one, append-nil, ◌≡◌, ℕ, zero, suc, ◌+◌, ◌<◌, ◌≤◌, ◌==◌, Bool, true, false, not, nat_lt, List, [], ◌∷◌, ◌++◌, map, take, drop, get_or, length, refl, ap, ◌∙◌, sym, subst, cond, arith, Option, None, ◌||◌, ◌&&◌}
+use Rattle.std.proofs.Common.{add-one, append-nil, ◌≡◌, ℕ, zero, suc, ◌+◌, ◌<◌, ◌≤◌, ◌==◌, Bool, true, false, not, nat_eq, nat_lt, codes, List, [], ◌∷◌, ◌++◌, map, take, drop, get_or, length, refl, ap, ◌∙◌, sym, subst, cond, arith, Option, None, ◌||◌, ◌&&◌}
 use Rattle.std.specs.Prelude.{filter, flat_map}
-use Rattle.std.specs.List.{list_all, list_any, onto_first, position_or_len}
+use Rattle.std.specs.List.{list_all, list_any, onto_first, position_or_len, starts_with}
 use Rattle.std.specs.List.Sorted.{IsStrictlySortedBy}
 use Rattle.std.specs.Option.{is_some, unwrap_or}
 use Rattle.std.specs.BTreeMap.{is_at}
@@ -17,7 +17,7 @@ use Rattle.hwdb_spec_commands.specs.FormTable.{prefixes}
 use Rattle.hwdb_spec.specs.Lines.{Line, begins_with, byte, clean_line, has, has_equals, has_key, is, is_blank, is_dropped, is_empty, is_match, is_none, is_property, key, lines, numbered, pieces, trimmed, value}
 use Rattle.hwdb_spec_commands.specs.Properties.{before, misuse}
 use Rattle.hwdb_spec.specs.Records.{assignments, faults}
-use Rattle.hwdb_spec_commands.specs.Surroundings.{is_alone, is_elsewhere, is_given, is_unpaired, is_unread, prefix_of}
+use Rattle.hwdb_spec_commands.specs.Surroundings.{is_alone, is_elsewhere, is_given, is_read_below, is_unpaired, is_unread, prefix_of}
 use Rattle.hwdb_spec_commands.specs.Unmatched.{is_unmatched, judgement_of}
 use Rattle.hwdb_spec_commands.specs.Warnings.{all_warnings, greatest, is_cut, line_kinds, is_spaced, line_warnings, repeated_lines, replacing}
 use Rattle.hwdb_spec_commands.specs.declared.WarningKind.{WarningKind}
@@ -45,7 +45,11 @@ steady_is n [] h = tt
 steady_is n (a ∷ more) h = (h.0, h.1, steady_is a.position.line more h.2)
 
 not_elsewhere : (a : Assignment) → IsPlainAssignment a → is_elsewhere a ≡ false
-not_elsewhere a p = ap (λ (b : Bool). cond b false (list_any (same (prefix_of a.position.pattern)) prefixes)) (p.property.common.anywhere (before (byte ":") (prefix_of a.position.pattern)))
+not_elsewhere a p =
+    let below : Bool = cond (is_read_below a.position.key (before (byte ":") (prefix_of a.position.pattern))) false (list_any (same (prefix_of a.position.pattern)) prefixes) in
+    let of_driver : Bool = starts_with nat_eq a.position.pattern (codes "evdev:atkbd:") in
+    ap (λ (b : Bool). cond (cond b of_driver false) true below) p.property.common.unlogged
+    ∙ ap (λ (b : Bool). cond b false (list_any (same (prefix_of a.position.pattern)) prefixes)) (p.property.common.anywhere (before (byte ":") (prefix_of a.position.pattern)))
 
 none_unread : (t : Assignment → Bool) (n : ℕ) (all : List Assignment) → AreSteady n all → cond (is_none (filter t all)) false (list_all is_elsewhere (filter t all)) ≡ false
 none_unread t n [] h = refl

@@ -57,7 +57,7 @@ pub record IsRead (r : Read) : Type 0 where
 -- a warning whose hint is the same for each line
 abbrev pub IsPlain : WarningKind → Type 0
 IsPlain (Misused why) = ⊥
-IsPlain Unread = ⊥
+IsPlain (Unread known) = ⊥
 IsPlain Unpaired = ⊥
 IsPlain (Unmatched told) = ⊥
 IsPlain kind = Unit {0}

@@ -9,7 +9,7 @@ use Rattle.hwdb_spec_commands.specs.Warnings.{is_too_long, may_be_too_deep, warn
 use Rattle.hwdb_spec.specs.declared.Judgement.TheVariants.{Dead, Fine, UnknownPrefix}
 use Rattle.hwdb_spec_commands.specs.declared.WarningKind.TheVariants.{ByteOrderMark, CarriageReturn, CutValue, EmptyRange, LeadingTab, MayBeTooDeep, Misused, OpenBracket, RepeatedMatch, Replaced, SpacedEquals, TooLongForUdev, Unmatched, Unpaired, Unread}
 use Rattle.hwdb_spec_commands.specs.declared.WarningKind.{WarningKind}
-use Rattle.hwdb_spec_commands.specs.declared.vocabulary.Misuse.TheVariants.{NearName, ScanCode, TwoDefaults, UnfitValue, UnknownKey, ZeroRow}
+use Rattle.hwdb_spec_commands.specs.declared.vocabulary.Misuse.TheVariants.{NearName, OldName, ScanCode, SingularMatrix, TwoDefaults, UnfitValue, UnknownKey, ZeroRow}
 use Rattle.hwdb_spec_commands.specs.declared.vocabulary.Misuse.{Misuse}
 use Rattle.hwdb_check.specs.declared.kinds.TheConstants.{KINDS}
 
@@ -87,11 +87,13 @@ kinds = pieces (is (byte "\n")) KINDS.now
 -- kinds of misuses, by number
 abbrev pub misuse_number : Misuse → ℕ
 misuse_number NearName = 9
-misuse_number ScanCode = 10
-misuse_number UnknownKey = 11
-misuse_number UnfitValue = 12
-misuse_number ZeroRow = 13
-misuse_number TwoDefaults = 14
+misuse_number OldName = 10
+misuse_number ScanCode = 11
+misuse_number UnknownKey = 12
+misuse_number UnfitValue = 13
+misuse_number ZeroRow = 14
+misuse_number SingularMatrix = 15
+misuse_number TwoDefaults = 16
 
 -- kinds of warnings, by number; of `Replaced` and `Unmatched` the line and the place don't matter
 abbrev pub kind_number : WarningKind → ℕ
@@ -105,17 +107,18 @@ kind_number CutValue = 6
 kind_number RepeatedMatch = 7
 kind_number (Replaced by) = 8
 kind_number (Misused why) = misuse_number why
-kind_number Unread = 15
-kind_number Unpaired = 16
-kind_number (Unmatched UnknownPrefix) = 17
-kind_number (Unmatched (Dead place)) = 18
-kind_number TooLongForUdev = 19
-kind_number MayBeTooDeep = 19
-kind_number (Unmatched Fine) = 20
+kind_number (Unread true) = 17
+kind_number (Unread false) = 18
+kind_number Unpaired = 19
+kind_number (Unmatched UnknownPrefix) = 20
+kind_number (Unmatched (Dead place)) = 21
+kind_number TooLongForUdev = 22
+kind_number MayBeTooDeep = 22
+kind_number (Unmatched Fine) = 23
 
 -- Each kind of warning has its own name among these, and each of them is the name of one kind. Both kinds of what udev can't take count
 -- as one.
 pub record KindsAreNamed : Type 0 where
-  pub each : (kind : WarningKind) → (kind_number kind ≡ 20) ⊎ Contains kinds (warning_name kind)
+  pub each : (kind : WarningKind) → (kind_number kind ≡ 23) ⊎ Contains kinds (warning_name kind)
   pub all : (some : List WarningKind) × (map warning_name some ≡ kinds)
   pub own : (one two : WarningKind) → warning_name one ≡ warning_name two → kind_number one ≡ kind_number two

@@ -19,12 +19,15 @@ cut-value
 repeated-match
 replaced
 near-name
+old-name
 scan-code
 unknown-key
 unfit-value
 zero-row
+singular-matrix
 two-defaults
 unread
+unknown-property
 unpaired
 unknown-prefix
 dead-pattern
@@ -60,10 +63,12 @@ fn misuse_name(misuse: Misuse) -> &'static str
 {
     match misuse {
         Misuse::NearName => "near-name",
+        Misuse::OldName => "old-name",
         Misuse::ScanCode => "scan-code",
         Misuse::UnknownKey => "unknown-key",
         Misuse::UnfitValue => "unfit-value",
         Misuse::ZeroRow => "zero-row",
+        Misuse::SingularMatrix => "singular-matrix",
         Misuse::TwoDefaults => "two-defaults",
     }
 }
@@ -94,7 +99,8 @@ pub fn warning_name(kind: WarningKind) -> &'static str
         WarningKind::RepeatedMatch => "repeated-match",
         WarningKind::Replaced(_) => "replaced",
         WarningKind::Misused(misuse) => misuse_name(misuse),
-        WarningKind::Unread => "unread",
+        WarningKind::Unread(true) => "unread",
+        WarningKind::Unread(false) => "unknown-property",
         WarningKind::Unpaired => "unpaired",
         WarningKind::Unmatched(judgement) => judgement_name(judgement),
         WarningKind::TooLongForUdev | WarningKind::MayBeTooDeep => "too-long-for-udev",

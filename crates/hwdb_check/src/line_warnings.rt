@@ -10,6 +10,7 @@ ghost use Rattle.hwdb_spec_commands.specs.Warnings;
 ghost use Rattle.hwdb_spec_commands.specs.Warnings.{warns};
 ghost use Rattle.hwdb_check.specs.Internal.{clean_of, line_of, read_line, IsRead};
 
+use crate::misuses::has_known_key;
 use hwdb_pattern::{open_place, range_place};
 use hwdb_spec::Judgement;
 use hwdb_spec_commands::{Misuse, WarningKind};
@@ -293,7 +294,7 @@ pub fn is_warned(kind: WarningKind, line: &Read<'_>) -> bool
         WarningKind::RepeatedMatch => line.repeated,
         WarningKind::Replaced(_) => is_replaced(line.replaced_by),
         WarningKind::Misused(_) => line.misuse.is_some(),
-        WarningKind::Unread => line.unread,
+        WarningKind::Unread(_) => line.unread,
         WarningKind::Unpaired => line.unpaired,
         WarningKind::Unmatched(_) => is_unmatched(line.judgement),
         WarningKind::TooLongForUdev => is_too_long(line.clean),
@@ -369,7 +370,7 @@ pub fn kinds_of(line: &Read<'_>) -> [WarningKind; 15]
         WarningKind::RepeatedMatch,
         WarningKind::Replaced(line.replaced_by),
         WarningKind::Misused(line.misuse.unwrap_or(Misuse::NearName)),
-        WarningKind::Unread,
+        WarningKind::Unread(has_known_key(line.clean)),
         WarningKind::Unpaired,
         WarningKind::Unmatched(line.judgement),
         WarningKind::TooLongForUdev,

@@ -3,11 +3,14 @@ ghost use Rattle.std.specs.Prelude.{◌≡◌, ◌++◌, OnOk};
 ghost use Rattle.hwdb_spec.specs.Lines;
 ghost use Rattle.hwdb_spec_commands.specs.Properties.{misuse_hint};
 ghost use Rattle.hwdb_spec_commands.specs.Surroundings.{unpaired_hint, unread_hint};
-ghost use Rattle.hwdb_spec_commands.specs.Warnings.{misused};
+ghost use Rattle.hwdb_spec_commands.specs.Warnings.{is_known, misused};
 ghost use Rattle.hwdb_check.specs.Internal.{line_of};
 
 use crate::line_warnings::{is_property, is_spaced};
-use hwdb_properties::{after, before, companions_of, misuse_of, prefixes_of, push_misuse_hint};
+use hwdb_properties::{
+    after, before, companions_of, is_known, misuse_of, push_elsewhere_hint, push_misuse_hint,
+    push_unknown_hint,
+};
 use hwdb_spec_commands::Misuse;
 use hwdb_text::{end_of, unindented};
 use std::alloc::AllocError;
@@ -61,14 +64,23 @@ pub fn push_hint_of_misuse(
     push_misuse_hint(text, misuse, key_of(clean), value_of(clean))
 }
 
-/// Adds where the property of a clean line is read.
-pub fn push_unread_hint(text: &mut Vec<u8>, clean: &[u8]) -> Result<(), AllocError>
-    ensures { OnOk result (text.new.items
-        ≡ text.old.items ++ unread_hint (Lines.key (line_of 0 clean.now))) }
+/// Whether the property of a clean line is known.
+pub fn has_known_key(clean: &[u8]) -> bool
+    ensures { result ≡ is_known (line_of 0 clean.now) }
 {
-    text.extend_from_slice(b"it is read below these prefixes: ")?;
-    text.extend_from_slice(prefixes_of(key_of(clean)))?;
-    Ok(())
+    is_known(key_of(clean))
+}
+
+/// Adds what to do about the property of a clean line that isn't read, which is known or not.
+pub fn push_unread_hint(text: &mut Vec<u8>, known: bool, clean: &[u8]) -> Result<(), AllocError>
+    ensures { OnOk result (text.new.items
+        ≡ text.old.items ++ unread_hint known (Lines.key (line_of 0 clean.now))) }
+{
+    if known {
+        push_elsewhere_hint(text, key_of(clean))
+    } else {
+        push_unknown_hint(text, key_of(clean))
+    }
 }
 
 /// Adds what the property of a clean line is read with.

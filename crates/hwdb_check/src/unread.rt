@@ -6,7 +6,7 @@ ghost use Rattle.hwdb_check.specs.Internal.{IsPlace, IsUnreadOf, is_elsewhere_be
 
 use crate::repeats::set_of;
 use hwdb_forms::{is_asked, prefix_of};
-use hwdb_properties::{before, is_read_below};
+use hwdb_properties::{before, has_logged_code, is_read_below};
 use hwdb_text::Given;
 use std::alloc::{AllocError, Global};
 use std::collections::BTreeSet;
@@ -79,12 +79,22 @@ impl<'b> Place<'b> {
     }
 }
 
+/// Whether an assignment has a code as Linux logs it, and its pattern is of the driver that has another one.
+fn is_logged(given: &Given<'_>) -> bool
+    ensures { result ≡ Surroundings.is_logged (given_in own given.now) }
+{
+    has_logged_code(given.key) && given.pattern.starts_with(b"evdev:atkbd:")
+}
+
 /// Whether the property of an assignment isn't read below its pattern. `last` is the place of an assignment before it.
 fn is_elsewhere<'b>(last: &mut Place<'b>, given: &Given<'b>) -> bool
     requires { IsPlace last.old }
     ensures is { IsPlace last.new }
     ensures elsewhere { result ≡ Surroundings.is_elsewhere (given_in own given.now) }
 {
+    if is_logged(given) {
+        return true;
+    }
     *last = last.next(given.key, prefix_of(given.pattern));
     last.elsewhere
 }

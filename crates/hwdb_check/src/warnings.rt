@@ -42,7 +42,8 @@ fn text_of(kind: WarningKind) -> &'static str
         WarningKind::RepeatedMatch => "a match line that stands in its record already",
         WarningKind::Replaced(_) => "an assignment that line ",
         WarningKind::Misused(misuse) => misuse_text(misuse),
-        WarningKind::Unread => "a property that isn't read below its patterns",
+        WarningKind::Unread(true) => "a property that isn't read below its patterns",
+        WarningKind::Unread(false) => "a property that nothing is known to read",
         WarningKind::Unpaired => "a property that is read with others alone",
         WarningKind::Unmatched(judgement) => judgement_text(judgement),
         WarningKind::TooLongForUdev => {
@@ -87,7 +88,7 @@ fn hint_of(kind: WarningKind) -> &'static str
             "shorten it: systemd 262 refuses a depth of more than 2048, which hwdb verify tells"
         }
         WarningKind::Misused(_)
-        | WarningKind::Unread
+        | WarningKind::Unread(_)
         | WarningKind::Unpaired
         | WarningKind::Unmatched(_) => "",
     }
@@ -113,7 +114,7 @@ fn push_hint(
 {
     match kind {
         WarningKind::Misused(misuse) => push_hint_of_misuse(text, misuse, clean),
-        WarningKind::Unread => push_unread_hint(text, clean),
+        WarningKind::Unread(known) => push_unread_hint(text, known, clean),
         WarningKind::Unpaired => push_unpaired_hint(text, clean),
         WarningKind::Unmatched(judgement) => push_judgement_hint(alloc, text, judgement, clean),
         _ => push_words(text, hint_of(kind)),
@@ -148,9 +149,11 @@ fn warning_place(kind: WarningKind, line: &[u8], clean: &[u8]) -> usize
         WarningKind::SpacedEquals => end_of(b'=', line),
         WarningKind::CutValue => end_of(b'#', line),
         WarningKind::Replaced(_) => indent_of(line),
-        WarningKind::Misused(Misuse::NearName | Misuse::ScanCode) => indent_of(line),
+        WarningKind::Misused(Misuse::NearName | Misuse::OldName | Misuse::ScanCode) => {
+            indent_of(line)
+        }
         WarningKind::Misused(_) => end_of(b'=', line) + 1,
-        WarningKind::Unread | WarningKind::Unpaired => indent_of(line),
+        WarningKind::Unread(_) | WarningKind::Unpaired => indent_of(line),
         WarningKind::Unmatched(judgement) => judgement_place(judgement),
         WarningKind::TooLongForUdev => wild_place(clean),
         WarningKind::MayBeTooDeep => LONGEST_LINE,

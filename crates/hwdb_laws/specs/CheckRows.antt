@@ -18,9 +18,9 @@ use Rattle.hwdb_spec_commands.specs.declared.vocabulary.Misuse.TheVariants.{Near
 -- a kind that is allowed isn't told, and each other one is
 abbrev pub ToldRows : Type 0
 ToldRows =
-    map (is_told (codes "unread" ∷ codes "near-name" ∷ [])) (Unread ∷ Unpaired ∷ Misused NearName ∷ Misused UnknownKey ∷ CutValue ∷ [])
-    ++ map (is_told []) (Unread ∷ Misused NearName ∷ [])
-    ≡ false ∷ true ∷ false ∷ true ∷ true ∷ true ∷ true ∷ []
+    map (is_told (codes "unread" ∷ codes "near-name" ∷ [])) (Unread true ∷ Unread false ∷ Unpaired ∷ Misused NearName ∷ Misused UnknownKey ∷ CutValue ∷ [])
+    ++ map (is_told []) (Unread true ∷ Misused NearName ∷ [])
+    ≡ false ∷ true ∷ true ∷ false ∷ true ∷ true ∷ true ∷ true ∷ []
 
 -- ---- where properties are read
 
@@ -29,7 +29,8 @@ abbrev pub given : (pattern key : List ℕ) → Assignment
 given pattern key = record { position = record { priority = 1; line = 2; pattern = pattern; key = key }; value = codes "x"; path = [] }
 
 -- Keys of a keyboard are read below `evdev:` alone. A mouse's resolution is read below `mouse:` and `evdev:`. A prefix that udev doesn't
--- ask, a wildcard in the prefix and a name that isn't known tell nothing.
+-- ask and a wildcard in the prefix tell nothing. A name that isn't known is read nowhere below `mouse:`, and perhaps below `usb:`. What
+-- Linux logs as e0 37 has the code b7 at the driver atkbd, and dell-wmi has codes of its own.
 abbrev pub ElsewhereRows : Type 0
 ElsewhereRows =
     map is_elsewhere
@@ -41,8 +42,12 @@ ElsewhereRows =
     ∷ given (codes "workshop:*") (codes "KEYBOARD_KEY_70039")
     ∷ given (codes "mous?:*") (codes "KEYBOARD_KEY_70039")
     ∷ given (codes "mouse:usb:*") (codes "WORKSHOP_LIGHT")
+    ∷ given (codes "usb:v1209*") (codes "WORKSHOP_LIGHT")
+    ∷ given (codes "evdev:atkbd:dmi:*") (codes "KEYBOARD_KEY_e037")
+    ∷ given (codes "evdev:atkbd:dmi:*") (codes "KEYBOARD_KEY_b7")
+    ∷ given (codes "evdev:name:Dell WMI hotkeys:dmi:*") (codes "KEYBOARD_KEY_e037")
     ∷ [])
-    ≡ false ∷ true ∷ false ∷ false ∷ true ∷ false ∷ false ∷ false ∷ []
+    ≡ false ∷ true ∷ false ∷ false ∷ true ∷ false ∷ false ∷ true ∷ false ∷ true ∷ false ∷ false ∷ []
 
 -- A property is unread if it is so with each pattern of its record, and a match line never is.
 abbrev pub UnreadRows : Type 0
@@ -65,7 +70,9 @@ UnpairedRows =
 -- where a property is read, and what it is read with
 abbrev pub HintRows : Type 0
 HintRows =
-    (unread_hint (codes "KEYBOARD_KEY_70039") ≡ codes "it is read below these prefixes: evdev")
+    (unread_hint true (codes "KEYBOARD_KEY_70039") ≡ codes "it is read below these prefixes: evdev")
+    × (unread_hint true (codes "KEYBOARD_KEY_e037") ≡ codes "Linux logs e0 before a code: below evdev:atkbd: write KEYBOARD_KEY_b7")
+    × (unread_hint false (codes "MOUSE_WHEEL_ANGLE") ≡ codes "did you mean MOUSE_WHEEL_CLICK_ANGLE?")
     × (unpaired_hint (codes "MOUSE_WHEEL_CLICK_COUNT") ≡ codes "give its record these too: MOUSE_WHEEL_CLICK_ANGLE")
 
 -- ---- lines that are repeated or replaced

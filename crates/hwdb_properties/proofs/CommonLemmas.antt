@@ -17,6 +17,7 @@ unfolding pieces
 model = record {
   any = model_fits;
   anywhere = λ prefix. refl;
+  unlogged = refl;
   alone = refl;
 }
 
@@ -30,6 +31,7 @@ unfolding pieces
 vendor = record {
   any = vendor_fits;
   anywhere = λ prefix. refl;
+  unlogged = refl;
   alone = refl;
 }
 
@@ -43,6 +45,7 @@ unfolding pieces
 oui = record {
   any = oui_fits;
   anywhere = λ prefix. refl;
+  unlogged = refl;
   alone = refl;
 }
 

@@ -3,3 +3,4 @@ pub mod RowLemmas
 pub mod SameLemmas
 pub mod CommonLemmas
 pub mod ApartLemmas
+pub mod PieceLemmas

@@ -1,7 +1,7 @@
 -- The rows of `Rows`, computed.
 use Rattle.std.proofs.Common.{refl}
 use Rattle.hwdb_spec.specs.Lines.{pieces}
-use Rattle.hwdb_properties.specs.Rows.{AxisRows, MatrixRows, NameRows, NumberRows, PairRows, ReadRows, ResolutionRows}
+use Rattle.hwdb_properties.specs.Rows.{AxisRows, CodeRows, KeyRows, MatrixRows, NameRows, NumberRows, PairRows, ReadRows, ResolutionRows}
 
 pub resolutions : ResolutionRows
 unfolding pieces
@@ -19,6 +19,10 @@ matrices = record {
   plain = refl;
   parts = refl;
   zero = refl;
+  flat = refl;
+  sum = refl;
+  turned = refl;
+  halves = refl;
   eight = refl;
   letter = refl;
 }
@@ -50,11 +54,47 @@ numbers = record {
 }
 
 pub names : NameRows
+unfolding pieces
 names = record {
   case = refl;
   less = refl;
   other = refl;
   two = refl;
+  swapped = refl;
+  turned = refl;
+  begins = refl;
+  begins_more = refl;
+  another = refl;
+  lost = refl;
+  lost_code = refl;
+  other_word = refl;
+  no_code = refl;
+}
+
+pub code_rows : CodeRows
+code_rows = record {
+  logged = refl;
+  last = refl;
+  eight_bits = refl;
+  short = refl;
+  plain = refl;
+  axis = refl;
+  digit = refl;
+  first = refl;
+  high = refl;
+}
+
+pub key_rows : KeyRows
+unfolding pieces
+key_rows = record {
+  front = refl;
+  quotes = refl;
+  both = refl;
+  plain = refl;
+  one = refl;
+  several = refl;
+  capitals = refl;
+  near = refl;
 }
 
 pub prefixes : ReadRows
@@ -65,6 +105,9 @@ prefixes = record {
   part = refl;
   anywhere = refl;
   unknown = refl;
+  known_below = refl;
+  told_as_near = refl;
+  told_as_old = refl;
 }
 
 pub pairs : PairRows

@@ -2,9 +2,9 @@
 -- files, hwdb(7) and parse_hwdb.py.
 use Rattle.std.specs.Prelude.{true, false, [], ◌∷◌, ◌≡◌, None, Some, codes}
 use Rattle.hwdb_spec.specs.Assignment.{Assignment}
-use Rattle.hwdb_spec_commands.specs.Properties.{is_near, row_misuse}
-use Rattle.hwdb_spec_commands.specs.Surroundings.{is_alone, is_read_by_row}
-use Rattle.hwdb_spec_commands.specs.declared.vocabulary.Misuse.TheVariants.{ScanCode, TwoDefaults, UnfitValue, ZeroRow}
+use Rattle.hwdb_spec_commands.specs.Properties.{bare_hint, bare_key, has_lost_words, is_near, is_near_name, row_misuse}
+use Rattle.hwdb_spec_commands.specs.Surroundings.{has_logged_code, is_alone, is_read_by_row, may_be_read, raised}
+use Rattle.hwdb_spec_commands.specs.declared.vocabulary.Misuse.TheVariants.{ScanCode, SingularMatrix, TwoDefaults, UnfitValue, ZeroRow}
 use Prim.Native.String.{String}
 
 -- nothing is said of a property with this row, name and value
@@ -23,11 +23,16 @@ pub record ResolutionRows : Type 0 where
   pub word : IsUnfit "MOUSE_DPI resolutions mouse x" "MOUSE_DPI" "800dpi"
   pub star : IsUnfit "MOUSE_DPI resolutions mouse x" "MOUSE_DPI" "800*"
 
--- a matrix has three rows of three numbers, none of which is zero
+-- A matrix has three rows of three numbers, none of which is zero, and another determinant than 0. Numbers but 1, 0 and -1 aren't
+-- multiplied.
 pub record MatrixRows : Type 0 where
   pub plain : IsFine "ACCEL_MOUNT_MATRIX matrix sensor x" "ACCEL_MOUNT_MATRIX" "0, -1, 0; 1, 0, 0; 0, 0, 1"
   pub parts : IsFine "ACCEL_MOUNT_MATRIX matrix sensor x" "ACCEL_MOUNT_MATRIX" "0.5,.5,0;1.,0,0;0,0,+1"
   pub zero : row_misuse (codes "ACCEL_MOUNT_MATRIX matrix sensor x") (codes "ACCEL_MOUNT_MATRIX") (codes "1,0,0;0,0.0,-0;0,0,1") ≡ Some ZeroRow
+  pub flat : row_misuse (codes "ACCEL_MOUNT_MATRIX matrix sensor x") (codes "ACCEL_MOUNT_MATRIX") (codes "0, 1, 0; -1, 0, 0; -1, 0, 0") ≡ Some SingularMatrix
+  pub sum : row_misuse (codes "ACCEL_MOUNT_MATRIX matrix sensor x") (codes "ACCEL_MOUNT_MATRIX") (codes "1,0,1.0;0,+1,-1;1,1,0") ≡ Some SingularMatrix
+  pub turned : IsFine "ACCEL_MOUNT_MATRIX matrix sensor x" "ACCEL_MOUNT_MATRIX" "-1, 0, 0; 0, 0, 1; 0, 1, 0"
+  pub halves : IsFine "ACCEL_MOUNT_MATRIX matrix sensor x" "ACCEL_MOUNT_MATRIX" "0.5,0.5,0;0.5,0.5,0;0,0,1"
   pub eight : IsUnfit "ACCEL_MOUNT_MATRIX matrix sensor x" "ACCEL_MOUNT_MATRIX" "1,0,0;0,1,0;0,0"
   pub letter : IsUnfit "ACCEL_MOUNT_MATRIX matrix sensor x" "ACCEL_MOUNT_MATRIX" "x,0,0;0,1,0;0,0,1"
 
@@ -54,12 +59,21 @@ pub record NumberRows : Type 0 where
   pub other : IsUnfit "ID_INTEGRATION internal|external * x" "ID_INTEGRATION" "extern"
   pub away : IsFine "ID_INTEGRATION internal|external * x" "ID_INTEGRATION" ""
 
--- names that differ by one byte, or by case
+-- names that differ by one byte, by case, or by two bytes that are swapped; all names that begin so, and words that are lost
 pub record NameRows : Type 0 where
   pub case : is_near (codes "leftctrl") (codes "LEFTCTRL") ≡ true
   pub less : is_near (codes "leftctrl") (codes "leftctr") ≡ true
   pub other : is_near (codes "leftctrl") (codes "lefxctrl") ≡ true
   pub two : is_near (codes "leftctrl") (codes "leftc") ≡ false
+  pub swapped : is_near (codes "ANGLE") (codes "ANGEL") ≡ true
+  pub turned : is_near (codes "ANGLE") (codes "ANELG") ≡ false
+  pub begins : is_near_name (codes "KEYBOARD_KEY_") (codes "KEYBORD_KEY_70039") ≡ true
+  pub begins_more : is_near_name (codes "KEYBOARD_KEY_") (codes "KEYBOARDS_KEY_70039") ≡ true
+  pub another : is_near_name (codes "KEYBOARD_KEY_") (codes "KEYBOARD_LED_NUMLOCK") ≡ false
+  pub lost : has_lost_words (codes "MOUSE_WHEEL_CLICK_ANGLE") (codes "MOUSE_WHEEL_ANGLE") ≡ true
+  pub lost_code : has_lost_words (codes "KEYBOARD_KEY_") (codes "KEYBOARD_70039") ≡ true
+  pub other_word : has_lost_words (codes "MOUSE_WHEEL_CLICK_ANGLE") (codes "MOUSE_WHEEL_STEP") ≡ false
+  pub no_code : has_lost_words (codes "MOUSE_DPI") (codes "MOUSE_70039") ≡ false
 
 -- below which prefixes a property is read
 pub record ReadRows : Type 0 where
@@ -67,7 +81,33 @@ pub record ReadRows : Type 0 where
   pub other : is_read_by_row (codes "ACCEL_MOUNT_MATRIX matrix sensor|evdev x") (codes "mouse") ≡ false
   pub part : is_read_by_row (codes "ACCEL_MOUNT_MATRIX matrix sensor|evdev x") (codes "sens") ≡ false
   pub anywhere : is_read_by_row (codes "ID_INTEGRATION internal|external * x") (codes "mouse") ≡ true
-  pub unknown : is_read_by_row [] (codes "mouse") ≡ true
+  pub unknown : may_be_read (codes "WORKSHOP_LIGHT") (codes "usb") ≡ true
+  pub known_below : may_be_read (codes "WORKSHOP_LIGHT") (codes "mouse") ≡ false
+  pub told_as_near : may_be_read (codes "MOUSE_DP") (codes "mouse") ≡ true
+  pub told_as_old : may_be_read (codes "POINTINGSTICK_CONST_ACCEL") (codes "evdev") ≡ true
+
+-- What Linux logs as e0 37 is the code b7: 37 and the bit before it. So it is from 00 to 7f (atkbd.c).
+pub record CodeRows : Type 0 where
+  pub logged : has_logged_code (codes "KEYBOARD_KEY_e037") ≡ true
+  pub last : has_logged_code (codes "KEYBOARD_KEY_e07f") ≡ true
+  pub eight_bits : has_logged_code (codes "KEYBOARD_KEY_e0b7") ≡ false
+  pub short : has_logged_code (codes "KEYBOARD_KEY_e03") ≡ false
+  pub plain : has_logged_code (codes "KEYBOARD_KEY_b7") ≡ false
+  pub axis : has_logged_code (codes "EVDEV_ABS_e037") ≡ false
+  pub digit : raised (codes "37") ≡ codes "b7"
+  pub first : raised (codes "0f") ≡ codes "8f"
+  pub high : raised (codes "7f") ≡ codes "ff"
+
+-- what people call keys, with the front of linux/input-event-codes.h or in quotes
+pub record KeyRows : Type 0 where
+  pub front : bare_key (codes "KEY_LEFTCTRL") ≡ codes "LEFTCTRL"
+  pub quotes : bare_key (codes "!\"esc\"") ≡ codes "esc"
+  pub both : bare_key (codes "'key_escape'") ≡ codes "escape"
+  pub plain : bare_key (codes "ctrl") ≡ codes "ctrl"
+  pub one : bare_hint (codes "escape") ≡ codes "did you mean esc?"
+  pub several : bare_hint (codes "Ctrl") ≡ codes "did you mean leftctrl or rightctrl?"
+  pub capitals : bare_hint (codes "F1") ≡ codes "did you mean f1?"
+  pub near : bare_hint (codes "ecs") ≡ codes "did you mean esc?"
 
 -- a pattern that is given a key
 abbrev pub gives : (pattern key : String) → Assignment

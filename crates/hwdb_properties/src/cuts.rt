@@ -1,5 +1,5 @@
 //! The parts of a text before and after a byte.
-ghost use Rattle.std.specs.Prelude.{◌≡◌, drop};
+ghost use Rattle.std.specs.Prelude.{◌≡◌, ◌+◌, drop, take};
 ghost use Rattle.std.specs.List.{prefix_len};
 ghost use Rattle.hwdb_spec.specs.Folders;
 ghost use Rattle.hwdb_spec.specs.Lines.{is_indent};
@@ -41,6 +41,46 @@ pub fn after_one(text: &[u8]) -> &[u8]
     ensures { result.now ≡ drop 1 text.now }
 {
     if text.is_empty() { text } else { &text[1..] }
+}
+
+/// Its first bytes, as many as are given; the whole text if it has no more.
+pub fn front(text: &[u8], size: usize) -> &[u8]
+    ensures { result.now ≡ take size text.now }
+{
+    if size < text.len() {
+        &text[..size]
+    } else {
+        text
+    }
+}
+
+/// The same, and one byte more.
+pub fn front_and_one(text: &[u8], size: usize) -> &[u8]
+    ensures { result.now ≡ take (size + 1) text.now }
+{
+    if size < text.len() {
+        &text[..size + 1]
+    } else {
+        text
+    }
+}
+
+/// What is after its first bytes, as many as are given.
+pub fn past(text: &[u8], size: usize) -> &[u8]
+    ensures { result.now ≡ drop size text.now }
+{
+    if size < text.len() {
+        &text[size..]
+    } else {
+        &[]
+    }
+}
+
+/// Its first byte, if it has one.
+pub fn first_one(text: &[u8]) -> &[u8]
+    ensures { result.now ≡ take 1 text.now }
+{
+    front(text, 1)
 }
 
 /// A text without its first byte, if that is the one given.

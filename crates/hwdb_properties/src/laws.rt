@@ -1,5 +1,5 @@
 //! Laws over the definitions alone: worked rows. Each function does nothing: its contract is the law.
-ghost use Rattle.hwdb_properties.specs.Rows.{AxisRows, MatrixRows, NameRows, NumberRows, PairRows, ReadRows, ResolutionRows};
+ghost use Rattle.hwdb_properties.specs.Rows.{AxisRows, CodeRows, KeyRows, MatrixRows, NameRows, NumberRows, PairRows, ReadRows, ResolutionRows};
 
 /// Which texts are resolutions of a mouse.
 #[tactic(auto, using(crate::proofs::RowLemmas::resolutions))]
@@ -29,6 +29,18 @@ pub fn numbers_are_told()
 #[tactic(auto, using(crate::proofs::RowLemmas::names))]
 pub fn names_are_told()
     ensures { NameRows }
+{}
+
+/// Which codes Linux logs otherwise than their driver has them.
+#[tactic(auto, using(crate::proofs::RowLemmas::code_rows))]
+pub fn codes_are_told()
+    ensures { CodeRows }
+{}
+
+/// What people call keys.
+#[tactic(auto, using(crate::proofs::RowLemmas::key_rows))]
+pub fn keys_are_told()
+    ensures { KeyRows }
 {}
 
 /// Below which prefixes a property is read.

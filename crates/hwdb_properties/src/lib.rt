@@ -5,8 +5,10 @@
 //! | `common` | properties that most lines of large files have |
 //! | `cuts` | the parts of a text before and after a byte |
 //! | `names` | names that are nearly alike |
+//! | `words` | names that lost words |
 //! | `rows` | the row of a table for a name |
 //! | `numbers` | texts that are numbers |
+//! | `matrices` | matrices whose determinant is 0 |
 //! | `values` | texts that are values of a form |
 //! | `remarks` | what is said of a property that doesn't fit |
 //! | `laws` | worked rows of the definitions |
@@ -16,18 +18,20 @@
 mod common;
 mod cuts;
 mod laws;
+mod matrices;
 mod names;
 mod numbers;
 mod remarks;
 mod rows;
 mod surroundings;
 mod values;
+mod words;
 
 pub use common::is_common;
 pub use cuts::{after, before, same};
 pub use laws::{
-    axes_are_told, matrices_are_told, names_are_told, numbers_are_told, pairs_are_told,
-    prefixes_are_told, resolutions_are_told,
+    axes_are_told, codes_are_told, keys_are_told, matrices_are_told, names_are_told,
+    numbers_are_told, pairs_are_told, prefixes_are_told, resolutions_are_told,
 };
-pub use remarks::{misuse_of, misuse_text, push_misuse_hint};
-pub use surroundings::{companions_of, is_read_below, prefixes_of};
+pub use remarks::{is_known, misuse_of, misuse_text, push_misuse_hint, push_unknown_hint};
+pub use surroundings::{companions_of, has_logged_code, is_read_below, push_elsewhere_hint};

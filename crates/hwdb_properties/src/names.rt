@@ -2,7 +2,7 @@
 ghost use Rattle.std.specs.Prelude.{◌≡◌};
 ghost use Rattle.hwdb_spec_commands.specs.Properties;
 
-use crate::cuts::after_one;
+use crate::cuts::{after_one, first_one};
 
 /// A letter of ASCII in lower case, any other byte as it is.
 fn lower(byte: u8) -> u8
@@ -16,7 +16,7 @@ fn lower(byte: u8) -> u8
 }
 
 /// Whether two texts are the same but for the case of letters.
-fn same_letters(one: &[u8], other: &[u8]) -> bool
+pub fn same_letters(one: &[u8], other: &[u8]) -> bool
     ensures { result ≡ Properties.same_letters one.now other.now }
 {
     let mut at = 0;
@@ -29,16 +29,28 @@ fn same_letters(one: &[u8], other: &[u8]) -> bool
     one.len() == other.len()
 }
 
-/// Whether two texts are the same but for their first bytes, or for the first byte of one.
+/// Whether two texts are the same but for the order of their first two bytes.
+fn same_after_swap(one: &[u8], other: &[u8]) -> bool
+    ensures { result ≡ Properties.same_after_swap one.now other.now }
+{
+    let more = after_one(one);
+    let rest = after_one(other);
+    same_letters(first_one(one), first_one(rest))
+        && same_letters(first_one(more), first_one(other))
+        && same_letters(after_one(more), after_one(rest))
+}
+
+/// Whether two texts are the same but for their first bytes, for the first byte of one, or for the order of their first two.
 fn same_after_one(one: &[u8], other: &[u8]) -> bool
     ensures { result ≡ Properties.same_after_one one.now other.now }
 {
     same_letters(after_one(one), after_one(other))
         || same_letters(after_one(one), other)
         || same_letters(one, after_one(other))
+        || same_after_swap(one, other)
 }
 
-/// Whether two texts differ by one byte at most, and by the case of letters.
+/// Whether two texts differ by one byte at most, or by two that are swapped, and by the case of letters.
 pub fn is_near(one: &[u8], other: &[u8]) -> bool
     ensures { result ≡ Properties.is_near one.now other.now }
 {

@@ -1,14 +1,19 @@
 //! What is said of a property that doesn't fit.
-ghost use Rattle.std.specs.Prelude.{◌≡◌, ◌++◌, [], OnOk};
+ghost use Rattle.std.specs.Prelude.{◌≡◌, ◌++◌, [], OnOk, codes, not};
+ghost use Rattle.hwdb_spec.specs.Lines;
 ghost use Rattle.hwdb_spec_commands.specs.Properties;
-ghost use Rattle.hwdb_spec_commands.specs.declared.vocabulary.TheConstants.{KEY_HINT, KEY_NAMES, PROPERTIES};
+ghost use Rattle.hwdb_spec_commands.specs.Surroundings;
+ghost use Rattle.hwdb_spec_commands.specs.declared.vocabulary.TheConstants.{KEY_HINT, KEY_NAMES, KEY_WORDS, KNOWN_BELOW, OLD_PROPERTIES, PROPERTIES};
 
 use crate::common::is_common;
-use crate::cuts::without;
+use crate::cuts::{before, front, past, without};
+use crate::names::same_letters;
 use crate::numbers::is_lower_hex;
-use crate::rows::{Likeness, first_row, row_form, word};
+use crate::rows::{Likeness, after_word, first_row, row_form, word};
 use crate::values::{form_of, is_of_form, odd_value};
-use hwdb_spec_commands::{KEY_HINT, KEY_NAMES, Misuse, PROPERTIES, ValueForm};
+use hwdb_spec_commands::{
+    KEY_HINT, KEY_NAMES, KEY_WORDS, KNOWN_BELOW, Misuse, OLD_PROPERTIES, PROPERTIES, ValueForm,
+};
 use std::alloc::AllocError;
 
 /// The row of a property.
@@ -18,11 +23,46 @@ pub fn property_row(name: &[u8]) -> &'static [u8]
     first_row(PROPERTIES.as_bytes(), name, Likeness::Same)
 }
 
+/// Whether a property has a row.
+pub fn is_known(name: &[u8]) -> bool
+    ensures { result ≡ not (Lines.is_none (Properties.property_row name.now)) }
+{
+    !property_row(name).is_empty()
+}
+
 /// The row of a property with nearly this name.
 fn near_row(name: &[u8]) -> &'static [u8]
     ensures { result.now ≡ Properties.near_row PROPERTIES.now name.now }
 {
     first_row(PROPERTIES.as_bytes(), name, Likeness::Near)
+}
+
+/// The row of a property that is no longer read.
+fn old_row(name: &[u8]) -> &'static [u8]
+    ensures { result.now ≡ Properties.row_for OLD_PROPERTIES.now name.now }
+{
+    first_row(OLD_PROPERTIES.as_bytes(), name, Likeness::Same)
+}
+
+/// The first row of a property that has all words of a name.
+fn lost_row(name: &[u8]) -> &'static [u8]
+    ensures { result.now ≡ Properties.lost_row PROPERTIES.now name.now }
+{
+    first_row(PROPERTIES.as_bytes(), name, Likeness::Lost)
+}
+
+/// The key with this name but for the case of letters.
+fn key_in_letters(name: &[u8]) -> &'static [u8]
+    ensures { result.now ≡ Properties.letters_row KEY_NAMES.now name.now }
+{
+    first_row(KEY_NAMES.as_bytes(), name, Likeness::Letters)
+}
+
+/// The row of a key that people call so.
+fn key_word(name: &[u8]) -> &'static [u8]
+    ensures { result.now ≡ Properties.letters_row KEY_WORDS.now name.now }
+{
+    first_row(KEY_WORDS.as_bytes(), name, Likeness::Letters)
 }
 
 /// The first key with nearly this name.
@@ -79,6 +119,19 @@ fn row_misuse(row: &[u8], name: &[u8], text: &[u8]) -> Option<Misuse>
     Some(value_misuse(form))
 }
 
+/// What is said of a name that is in no row.
+pub fn name_misuse(name: &[u8]) -> Option<Misuse>
+    ensures { result ≡ Properties.name_misuse name.now }
+{
+    if !old_row(name).is_empty() {
+        return Some(Misuse::OldName);
+    }
+    if near_row(name).is_empty() {
+        return None;
+    }
+    Some(Misuse::NearName)
+}
+
 /// What is said of a property with this name and this value, if it doesn't fit what is known. It takes a look at each
 /// row of the tables at most twice.
 pub fn misuse_of(name: &[u8], text: &[u8]) -> Option<Misuse>
@@ -88,21 +141,18 @@ pub fn misuse_of(name: &[u8], text: &[u8]) -> Option<Misuse>
         return None;
     }
     let row = property_row(name);
-    if !row.is_empty() {
-        return row_misuse(row, name, text);
+    if row.is_empty() {
+        return name_misuse(name);
     }
-    if near_row(name).is_empty() {
-        return None;
-    }
-    Some(Misuse::NearName)
+    row_misuse(row, name, text)
 }
 
 /// Adds which word was likely meant. The only error, here and below, is `AllocError`.
-fn push_did_you_mean(text: &mut Vec<u8>, row: &[u8]) -> Result<(), AllocError>
-    ensures { OnOk result (text.new.items ≡ text.old.items ++ Properties.did_you_mean row.now) }
+fn push_did_you_mean(text: &mut Vec<u8>, name: &[u8]) -> Result<(), AllocError>
+    ensures { OnOk result (text.new.items ≡ text.old.items ++ Properties.did_you_mean name.now) }
 {
     text.extend_from_slice(b"did you mean ")?;
-    text.extend_from_slice(word(row))?;
+    text.extend_from_slice(name)?;
     text.push(b'?')?;
     Ok(())
 }
@@ -138,15 +188,55 @@ fn push_form_hint(text: &mut Vec<u8>, kind: ValueForm, form: &[u8]) -> Result<()
     Ok(())
 }
 
+/// A text without such a byte before it, and without all from the next one on.
+fn inside(byte: u8, text: &[u8]) -> &[u8]
+    ensures { result.now ≡ Properties.inside byte text.now }
+{
+    before(byte, without(byte, text))
+}
+
+/// A text without `key_` before it.
+fn without_key(text: &[u8]) -> &[u8]
+    ensures { result.now ≡ Properties.without_key text.now }
+{
+    if same_letters(front(text, 4), b"key_") {
+        past(text, 4)
+    } else {
+        text
+    }
+}
+
+/// What is inside the quotes of a value, without a `!` and without `key_`.
+fn bare_key(text: &[u8]) -> &[u8]
+    ensures { result.now ≡ Properties.bare_key text.now }
+{
+    without_key(inside(b'\'', inside(b'"', without(b'!', text))))
+}
+
 /// Adds which key was likely meant, or how a key is written.
+fn push_bare_hint(text: &mut Vec<u8>, name: &[u8]) -> Result<(), AllocError>
+    ensures { OnOk result (text.new.items ≡ text.old.items ++ Properties.bare_hint name.now) }
+{
+    let own = key_in_letters(name);
+    if !own.is_empty() {
+        return push_did_you_mean(text, word(own));
+    }
+    let other = key_word(name);
+    if !other.is_empty() {
+        return push_did_you_mean(text, after_word(other));
+    }
+    let near = near_key(name);
+    if !near.is_empty() {
+        return push_did_you_mean(text, word(near));
+    }
+    push_form_hint(text, ValueForm::Key, &[])
+}
+
+/// The same of a value.
 fn push_key_hint(text: &mut Vec<u8>, value: &[u8]) -> Result<(), AllocError>
     ensures { OnOk result (text.new.items ≡ text.old.items ++ Properties.key_hint value.now) }
 {
-    let row = near_key(without(b'!', value));
-    if row.is_empty() {
-        return push_form_hint(text, ValueForm::Key, &[]);
-    }
-    push_did_you_mean(text, row)
+    push_bare_hint(text, bare_key(value))
 }
 
 /// Adds what is a value of a property with this name.
@@ -177,6 +267,49 @@ fn push_matrix_hint(text: &mut Vec<u8>) -> Result<(), AllocError>
     Ok(())
 }
 
+/// Adds what a matrix of three axes is.
+fn push_axes_hint(text: &mut Vec<u8>) -> Result<(), AllocError>
+    ensures { OnOk result
+        (text.new.items ≡ text.old.items ++ Properties.misuse_hint Misuse.SingularMatrix [] []) }
+{
+    let hint = "write three axes that don't lie in one plane, as 1, 0, 0; 0, 1, 0; 0, 0, 1";
+    text.extend_from_slice(hint.as_bytes())?;
+    Ok(())
+}
+
+/// Adds what came for a property that is no longer read.
+fn push_old_hint(text: &mut Vec<u8>, name: &[u8]) -> Result<(), AllocError>
+    ensures { OnOk result
+        (text.new.items ≡ text.old.items ++ Properties.misuse_hint Misuse.OldName name.now []) }
+{
+    text.extend_from_slice(b"this came for it: ")?;
+    text.extend_from_slice(after_word(old_row(name)))?;
+    Ok(())
+}
+
+/// Adds below which prefixes all names are known.
+fn push_known_below(text: &mut Vec<u8>) -> Result<(), AllocError>
+    ensures { OnOk result (text.new.items ≡ text.old.items
+        ++ (codes "below these prefixes all names are known: " ++ KNOWN_BELOW.now)) }
+{
+    text.extend_from_slice(b"below these prefixes all names are known: ")?;
+    text.extend_from_slice(KNOWN_BELOW.as_bytes())?;
+    Ok(())
+}
+
+/// Adds what to do about a property that nothing is known to read.
+pub fn push_unknown_hint(text: &mut Vec<u8>, name: &[u8]) -> Result<(), AllocError>
+    ensures { OnOk result
+        (text.new.items ≡ text.old.items ++ Surroundings.unknown_hint name.now) }
+{
+    let row = lost_row(name);
+    if row.is_empty() {
+        push_known_below(text)
+    } else {
+        push_did_you_mean(text, word(row))
+    }
+}
+
 /// Adds what a default is.
 fn push_default_hint(text: &mut Vec<u8>) -> Result<(), AllocError>
     ensures { OnOk result
@@ -198,11 +331,13 @@ pub fn push_misuse_hint(
         ≡ text.old.items ++ Properties.misuse_hint misuse name.now value.now) }
 {
     match misuse {
-        Misuse::NearName => push_did_you_mean(text, near_row(name)),
+        Misuse::NearName => push_did_you_mean(text, word(near_row(name))),
+        Misuse::OldName => push_old_hint(text, name),
         Misuse::ScanCode => push_code_hint(text),
         Misuse::UnknownKey => push_key_hint(text, value),
         Misuse::UnfitValue => push_value_hint(text, name),
         Misuse::ZeroRow => push_matrix_hint(text),
+        Misuse::SingularMatrix => push_axes_hint(text),
         Misuse::TwoDefaults => push_default_hint(text),
     }
 }
@@ -213,10 +348,12 @@ pub fn misuse_text(misuse: Misuse) -> &'static str
 {
     match misuse {
         Misuse::NearName => "a property that nothing is known to read",
+        Misuse::OldName => "a property that is no longer read",
         Misuse::ScanCode => "a code that isn't lower-case hexadecimal",
         Misuse::UnknownKey => "a key that isn't known",
         Misuse::UnfitValue => "a value that its property doesn't take",
         Misuse::ZeroRow => "a row of the matrix has zeros alone",
+        Misuse::SingularMatrix => "the determinant of the matrix is 0",
         Misuse::TwoDefaults => "more than one resolution is the default",
     }
 }

@@ -3,8 +3,9 @@ ghost use Rattle.std.specs.Prelude.{◌≡◌, Bool, List, ℕ, ◌-◌, false, 
 ghost use Rattle.hwdb_spec_commands.specs.Properties;
 ghost use Rattle.hwdb_properties.specs.Internal.{passes};
 
-use crate::cuts::{after, before, same};
-use crate::names::is_near;
+use crate::cuts::{after, before, front, front_and_one, same};
+use crate::names::{is_near, same_letters};
+use crate::words::has_lost_words;
 use hwdb_text::Lines;
 
 /// How the name of a row is like one that is given.
@@ -12,8 +13,12 @@ use hwdb_text::Lines;
 pub enum Likeness {
     /// The row is for the name.
     Same,
+    /// It is the name but for the case of letters.
+    Letters,
     /// It is nearly the name.
     Near,
+    /// It has all words of the name.
+    Lost,
 }
 
 /// A text up to its first space.
@@ -38,7 +43,7 @@ pub fn row_form(row: &[u8]) -> &[u8]
 }
 
 /// Whether a row's name is for all names that begin with it.
-fn is_family(own: &[u8]) -> bool
+pub fn is_family(own: &[u8]) -> bool
     ensures { result ≡ Properties.is_family own.now }
 {
     let last = own.len().saturating_sub(1);
@@ -79,26 +84,24 @@ fn is_for(row: &[u8], name: &[u8]) -> bool
     is_row_for(row, name)
 }
 
-/// What of a name a row's name is compared with.
-fn compared_part<'n>(own: &[u8], name: &'n [u8]) -> &'n [u8]
-    ensures { result.now ≡ Properties.compared_part own.now name.now }
+/// Whether a name begins nearly with another one.
+fn begins_nearly(own: &[u8], name: &[u8]) -> bool
+    ensures { result ≡ Properties.begins_nearly own.now name.now }
 {
-    if !is_family(own) {
-        return name;
-    }
-    if own.len() < name.len() {
-        &name[..own.len()]
-    } else {
-        name
-    }
+    is_near(own, front(name, own.len()))
+        || is_near(own, front(name, own.len().saturating_sub(1)))
+        || is_near(own, front_and_one(name, own.len()))
 }
 
-/// Whether a row's name is nearly one that is given.
-fn is_nearly(row: &[u8], name: &[u8]) -> bool
-    ensures { result ≡ passes Likeness.Near name.now row.now }
+/// Whether a name is nearly a row's.
+fn is_near_name(own: &[u8], name: &[u8]) -> bool
+    ensures { result ≡ Properties.is_near_name own.now name.now }
 {
-    let own = word(row);
-    is_near(own, compared_part(own, name))
+    if is_family(own) {
+        begins_nearly(own, name)
+    } else {
+        is_near(own, name)
+    }
 }
 
 /// Whether a row's name is like one that is given.
@@ -107,7 +110,9 @@ fn passes(row: &[u8], name: &[u8], likeness: Likeness) -> bool
 {
     match likeness {
         Likeness::Same => is_for(row, name),
-        Likeness::Near => is_nearly(row, name),
+        Likeness::Letters => same_letters(word(row), name),
+        Likeness::Near => is_near_name(word(row), name),
+        Likeness::Lost => has_lost_words(word(row), name),
     }
 }
 

@@ -6,6 +6,7 @@ ghost use Rattle.hwdb_spec.specs.Patterns.{in_span};
 ghost use Rattle.hwdb_spec_commands.specs.Properties;
 
 use crate::cuts::{after, before, same, without};
+use crate::matrices::is_singular;
 use crate::numbers::{is_byte, is_count, is_decimal, is_integer, is_number};
 use crate::rows::{Likeness, first_row};
 use hwdb_spec_commands::{KEY_NAMES, Misuse, ValueForm};
@@ -39,7 +40,7 @@ fn has_digit(text: &[u8]) -> bool
 }
 
 /// Whether a row of a matrix has no digit but 0.
-fn is_zero_row(text: &[u8]) -> bool
+pub fn is_zero_row(text: &[u8]) -> bool
     ensures { result ≡ Properties.is_zero_row text.now }
 {
     !has_digit(text)
@@ -223,12 +224,25 @@ pub fn is_of_form(kind: ValueForm, form: &[u8], text: &[u8]) -> bool
     }
 }
 
+/// What is said of a matrix.
+fn odd_matrix(text: &[u8]) -> Option<Misuse>
+    ensures { result ≡ Properties.odd_value ValueForm.Matrix text.now }
+{
+    if has_zero_row(text) {
+        return Some(Misuse::ZeroRow);
+    }
+    if is_singular(text) {
+        return Some(Misuse::SingularMatrix);
+    }
+    None
+}
+
 /// What is said of a text that is of a form.
 pub fn odd_value(kind: ValueForm, text: &[u8]) -> Option<Misuse>
     ensures { result ≡ Properties.odd_value kind text.now }
 {
     match kind {
-        ValueForm::Matrix if has_zero_row(text) => Some(Misuse::ZeroRow),
+        ValueForm::Matrix => odd_matrix(text),
         ValueForm::Resolutions if has_two_defaults(text) => Some(Misuse::TwoDefaults),
         _ => None,
     }

@@ -1,5 +1,5 @@
 -- The names of faults and warnings, by which `check --json` tells them and `check --allow` leaves warnings out. Our choice.
-use Rattle.std.specs.Prelude.{Bool, ℕ, List, [], codes, not}
+use Rattle.std.specs.Prelude.{Bool, true, false, ℕ, List, [], codes, not}
 use Rattle.std.specs.List.{list_any}
 use Rattle.hwdb_spec.specs.Folders.{same}
 use Rattle.hwdb_spec.specs.declared.FaultKind.{FaultKind}
@@ -9,7 +9,7 @@ use Rattle.hwdb_spec.specs.declared.Judgement.TheVariants.{Dead, Fine, UnknownPr
 use Rattle.hwdb_spec_commands.specs.declared.WarningKind.{WarningKind}
 use Rattle.hwdb_spec_commands.specs.declared.WarningKind.TheVariants.{ByteOrderMark, CarriageReturn, CutValue, EmptyRange, LeadingTab, MayBeTooDeep, Misused, OpenBracket, RepeatedMatch, Replaced, SpacedEquals, TooLongForUdev, Unmatched, Unpaired, Unread}
 use Rattle.hwdb_spec_commands.specs.declared.vocabulary.Misuse.{Misuse}
-use Rattle.hwdb_spec_commands.specs.declared.vocabulary.Misuse.TheVariants.{NearName, ScanCode, TwoDefaults, UnfitValue, UnknownKey, ZeroRow}
+use Rattle.hwdb_spec_commands.specs.declared.vocabulary.Misuse.TheVariants.{NearName, OldName, ScanCode, SingularMatrix, TwoDefaults, UnfitValue, UnknownKey, ZeroRow}
 
 -- the name of a kind of fault
 abbrev pub fault_name : FaultKind → List ℕ
@@ -24,10 +24,12 @@ fault_name LongMatch = codes "long-match"
 -- the name of a misuse of a property
 abbrev pub misuse_name : Misuse → List ℕ
 misuse_name NearName = codes "near-name"
+misuse_name OldName = codes "old-name"
 misuse_name ScanCode = codes "scan-code"
 misuse_name UnknownKey = codes "unknown-key"
 misuse_name UnfitValue = codes "unfit-value"
 misuse_name ZeroRow = codes "zero-row"
+misuse_name SingularMatrix = codes "singular-matrix"
 misuse_name TwoDefaults = codes "two-defaults"
 
 -- the name of what is said of a pattern; a fine one has none
@@ -48,7 +50,8 @@ warning_name CutValue = codes "cut-value"
 warning_name RepeatedMatch = codes "repeated-match"
 warning_name (Replaced by) = codes "replaced"
 warning_name (Misused why) = misuse_name why
-warning_name Unread = codes "unread"
+warning_name (Unread true) = codes "unread"
+warning_name (Unread false) = codes "unknown-property"
 warning_name Unpaired = codes "unpaired"
 warning_name (Unmatched told) = judgement_name told
 warning_name TooLongForUdev = codes "too-long-for-udev"

@@ -1,6 +1,7 @@
 -- What is known of properties: which names they have, which texts are their values, and which prefixes they are read below. And
 -- what is said of a property that doesn't fit. Which forms a value has is from the heads of systemd's hwdb files, and from what
--- libinput and udev read. The rest is our choice.
+-- libinput and udev read. By which other names people call keys is from X's keysyms and from what keys have on them. The rest is
+-- our choice.
 use Rattle.std.specs.Prelude.{Bool, true, false, ℕ, List, [], ◌∷◌, ◌++◌, ◌+◌, ◌-◌, ◌==◌, Option, None, Some, if◌then◌else◌, codes, drop, length, nat_eq, nat_lt, not, take}
 use Rattle.std.specs.List.{after_first, before_first, find, list_all, list_any, prefix_len, starts_with}
 use Rattle.std.specs.Option.{unwrap_or}
@@ -10,8 +11,11 @@ use Rattle.hwdb_spec.specs.Folders.{same}
 use Rattle.hwdb_spec.specs.Lines.{begins_with, byte, has, is, is_indent, is_none, pieces}
 use Rattle.hwdb_spec.specs.Patterns.{in_span}
 use Rattle.hwdb_spec_commands.specs.declared.vocabulary.Misuse.{Misuse}
-use Rattle.hwdb_spec_commands.specs.declared.vocabulary.Misuse.TheVariants.{NearName, ScanCode, TwoDefaults, UnfitValue, UnknownKey, ZeroRow}
-use Rattle.hwdb_spec_commands.specs.declared.vocabulary.TheConstants.{KEY_HINT, KEY_NAMES, PROPERTIES}
+use Rattle.hwdb_spec_commands.specs.declared.vocabulary.Misuse.TheVariants.{NearName, OldName, ScanCode, SingularMatrix, TwoDefaults, UnfitValue, UnknownKey, ZeroRow}
+use Rattle.hwdb_spec_commands.specs.declared.vocabulary.Sign.{Sign}
+use Rattle.hwdb_spec_commands.specs.declared.vocabulary.Sign.TheVariants.{Minus, Other, Plus, Zero}
+use Rattle.hwdb_spec_commands.specs.declared.vocabulary.SignRow.{SignRow}
+use Rattle.hwdb_spec_commands.specs.declared.vocabulary.TheConstants.{KEY_HINT, KEY_NAMES, KEY_WORDS, OLD_PROPERTIES, PROPERTIES}
 use Rattle.hwdb_spec_commands.specs.declared.vocabulary.ValueForm.{ValueForm}
 use Rattle.hwdb_spec_commands.specs.declared.vocabulary.ValueForm.TheVariants.{Any, Axis, Byte, Choice, Count, Decimal, Integer, Key, Limits, Matrix, Resolutions}
 
@@ -54,25 +58,45 @@ same_letters [] (y ∷ ys) = false
 same_letters (x ∷ xs) [] = false
 same_letters (x ∷ xs) (y ∷ ys) = if lower x == lower y then same_letters xs ys else false
 
--- whether two texts are the same but for their first bytes, or for the first byte of one
+-- whether two texts are the same but for the order of their first two bytes
+abbrev pub same_after_swap : List ℕ → List ℕ → Bool
+same_after_swap xs ys =
+    let more = drop 1 xs in
+    let rest = drop 1 ys in
+    if same_letters (take 1 xs) (take 1 rest) then
+    (if same_letters (take 1 more) (take 1 ys) then same_letters (drop 1 more) (drop 1 rest) else false) else false
+
+-- whether two texts are the same but for their first bytes, for the first byte of one, or for the order of their first two
 abbrev pub same_after_one : List ℕ → List ℕ → Bool
 same_after_one xs ys =
-    if same_letters (drop 1 xs) (drop 1 ys) then true else (if same_letters (drop 1 xs) ys then true else same_letters xs (drop 1 ys))
+    if same_letters (drop 1 xs) (drop 1 ys) then true else
+    (if same_letters (drop 1 xs) ys then true else
+    (if same_letters xs (drop 1 ys) then true else same_after_swap xs ys))
 
 -- Whether two texts differ by the case of letters and one byte at most. One text has that byte more than the other, or in place of
--- the other's.
+-- the other's. Or two bytes, one after the other, are swapped.
 abbrev pub is_near : List ℕ → List ℕ → Bool
 is_near [] ys = same_after_one [] ys
 is_near (x ∷ xs) [] = same_after_one (x ∷ xs) []
 is_near (x ∷ xs) (y ∷ ys) = if lower x == lower y then is_near xs ys else same_after_one (x ∷ xs) (y ∷ ys)
 
--- what of a name is compared with a row's name: as many bytes as that has, if all names that begin so are meant
-abbrev pub compared_part : (own name : List ℕ) → List ℕ
-compared_part own name = if is_family own then take (length own) name else name
+-- whether a name begins nearly with another one: with as many bytes, one less or one more
+abbrev pub begins_nearly : (own name : List ℕ) → Bool
+begins_nearly own name =
+    if is_near own (take (length own) name) then true else
+    (if is_near own (take (length own - 1) name) then true else is_near own (take (length own + 1) name))
+
+-- whether a name is nearly a row's, or begins nearly so if all names that begin so are meant
+abbrev pub is_near_name : (own name : List ℕ) → Bool
+is_near_name own name = if is_family own then begins_nearly own name else is_near own name
 
 -- the first row of a table with nearly this name
 abbrev pub near_row : (table name : List ℕ) → List ℕ
-near_row table name = first_row (λ row. is_near (word row) (compared_part (word row) name)) table
+near_row table name = first_row (λ row. is_near_name (word row) name) table
+
+-- the first row of a table with this name but for the case of letters
+abbrev pub letters_row : (table name : List ℕ) → List ℕ
+letters_row table name = first_row (λ row. same_letters (word row) name) table
 
 -- ---- Values
 
@@ -154,6 +178,67 @@ is_zero_row text = not (list_any (λ b. in_span b (49, 57)) text)
 -- whether one of the rows of a matrix is zero
 abbrev pub has_zero_row : List ℕ → Bool
 has_zero_row text = list_any is_zero_row (pieces (is (byte ";")) text)
+
+-- whether a number without a sign is 1
+abbrev pub is_one : List ℕ → Bool
+is_one text = if same (before (byte ".") text) (codes "1") then is_zero_row (after (byte ".") text) else false
+
+-- the sign of a number of a matrix that is 1, 0 or -1; any other number is `Other`
+abbrev pub sign_of : List ℕ → Sign
+sign_of text =
+    if is_zero_row text then Zero else
+    (if begins_with (byte "-") text then (if is_one (drop 1 text) then Minus else Other)
+    else (if is_one (without (byte "+") text) then Plus else Other))
+
+-- the signs of the three numbers of a row
+abbrev pub row_signs : List ℕ → SignRow
+row_signs text = record {
+  x = sign_of (unindented (before (byte ",") text));
+  y = sign_of (unindented (before (byte ",") (after (byte ",") text)));
+  z = sign_of (unindented (after (byte ",") (after (byte ",") text)));
+}
+
+-- the sign of a number with the other sign
+abbrev pub turned : Sign → Sign
+turned Plus = Minus
+turned Minus = Plus
+turned sign = sign
+
+-- the sign of a product with a number that isn't known
+abbrev pub unknown_times : Sign → Sign
+unknown_times Zero = Zero
+unknown_times sign = Other
+
+-- the sign of a product
+abbrev pub times : Sign → Sign → Sign
+times Minus sign = turned sign
+times Zero sign = Zero
+times Plus sign = sign
+times Other sign = unknown_times sign
+
+-- a number for each sign; six signs whose numbers are 6 in all are as often 1 as -1, and none is `Other`
+abbrev pub weight : Sign → ℕ
+weight Minus = 0
+weight Zero = 1
+weight Plus = 2
+weight Other = 7
+
+-- the number for the product of three signs
+abbrev pub weight_of : Sign → Sign → Sign → ℕ
+weight_of a b c = weight (times a (times b c))
+
+-- whether three rows have the determinant 0, by its six products (the rule of Sarrus)
+abbrev pub is_flat : (a b c : SignRow) → Bool
+is_flat a b c =
+    weight_of a.x b.y c.z + weight_of a.y b.z c.x + weight_of a.z b.x c.y
+    + weight_of (turned a.z) b.y c.x + weight_of (turned a.y) b.x c.z + weight_of (turned a.x) b.z c.y == 6
+
+-- Whether the determinant of a matrix is 0: it maps the three axes onto a plane. This is told of numbers that are 1, 0 or -1, as nearly
+-- all are; products with a zero count, whatever their other numbers are.
+abbrev pub is_singular : List ℕ → Bool
+is_singular text =
+    is_flat (row_signs (before (byte ";") text)) (row_signs (before (byte ";") (after (byte ";") text)))
+    (row_signs (after (byte ";") (after (byte ";") text)))
 
 -- digits, after a `*` or not, with `@` and digits after them or without; or nothing
 abbrev pub is_resolution : List ℕ → Bool
@@ -246,6 +331,24 @@ is_of_form Limits form text = is_limits text
 is_of_form Key form text = if is_none (without (byte "!") text) then true else is_key (without (byte "!") text)
 is_of_form Choice form text = is_choice form text
 
+-- ---- Names that lost words
+
+-- whether a text is one of the words of a name, which have `_` between, but for the case of letters
+abbrev pub is_word_of : (own text : List ℕ) → Bool
+is_word_of own text = list_any (same_letters text) (pieces (is (byte "_")) own)
+
+-- whether a text is a word of a row's name, or a code if all names that begin so are meant
+abbrev pub is_known_word : (own text : List ℕ) → Bool
+is_known_word own text = if is_word_of own text then true else (if is_family own then is_made_of is_lower_hex_digit text else false)
+
+-- whether a name has no words but those of a row's name
+abbrev pub has_lost_words : (own name : List ℕ) → Bool
+has_lost_words own name = list_all (is_known_word own) (pieces (is (byte "_")) name)
+
+-- the first row of a table with all words of this name
+abbrev pub lost_row : (table name : List ℕ) → List ℕ
+lost_row table name = first_row (λ row. has_lost_words (word row) name) table
+
 -- ---- Properties
 
 -- the row of a property
@@ -277,7 +380,7 @@ value_misuse form = UnfitValue
 
 -- what is said of a value that is of its form
 abbrev pub odd_value : ValueForm → List ℕ → Option Misuse
-odd_value Matrix text = if has_zero_row text then Some ZeroRow else None
+odd_value Matrix text = if has_zero_row text then Some ZeroRow else (if is_singular text then Some SingularMatrix else None)
 odd_value Resolutions text = if has_two_defaults text then Some TwoDefaults else None
 odd_value form text = None
 
@@ -287,17 +390,21 @@ row_misuse row name text =
     if (if has_code (form_of (row_form row)) then not (is_code row name) else false) then Some ScanCode
     else (if is_value row text then odd_value (form_of (row_form row)) text else Some (value_misuse (form_of (row_form row))))
 
+-- what is said of a name that is in no row: it was read once, or it is nearly one that is read
+abbrev pub name_misuse : List ℕ → Option Misuse
+name_misuse name =
+    if is_none (row_for OLD_PROPERTIES.now name) then (if is_none (near_row PROPERTIES.now name) then None else Some NearName)
+    else Some OldName
+
 -- what is said of a property with this name and this value
 abbrev pub misuse : (name text : List ℕ) → Option Misuse
-misuse name text =
-    if is_none (property_row name) then (if is_none (near_row PROPERTIES.now name) then None else Some NearName)
-    else row_misuse (property_row name) name text
+misuse name text = if is_none (property_row name) then name_misuse name else row_misuse (property_row name) name text
 
 -- ---- What to do
 
--- the word of the row that is nearly this name
+-- a name that was likely meant
 abbrev pub did_you_mean : List ℕ → List ℕ
-did_you_mean row = codes "did you mean " ++ (word row ++ byte "?" ∷ [])
+did_you_mean name = codes "did you mean " ++ (name ++ byte "?" ∷ [])
 
 -- what is a value of a form
 abbrev pub form_hint : ValueForm → (form : List ℕ) → List ℕ
@@ -313,11 +420,28 @@ form_hint Limits form = codes "write two numbers with a comma between, as 75,80;
 form_hint Key form = KEY_HINT.now
 form_hint Choice form = codes "write one of these: " ++ form
 
--- what to do about a key that isn't known: the first one with nearly its name, if there is one
+-- a text without such a byte before it, and without all from the next one on
+abbrev pub inside : ℕ → List ℕ → List ℕ
+inside own text = before own (without own text)
+
+-- a text without `key_` before it, in capitals or not
+abbrev pub without_key : List ℕ → List ℕ
+without_key text = if same_letters (take 4 text) (codes "key_") then drop 4 text else text
+
+-- what is inside the quotes of a value, without a `!` and without `key_`
+abbrev pub bare_key : List ℕ → List ℕ
+bare_key text = without_key (inside (byte "'") (inside (byte "\"") (without (byte "!") text)))
+
+-- What to do about a key that isn't known. It is one but for the case of letters, people call one or several so, or it is nearly one.
+abbrev pub bare_hint : List ℕ → List ℕ
+bare_hint name =
+    if not (is_none (letters_row KEY_NAMES.now name)) then did_you_mean (word (letters_row KEY_NAMES.now name)) else
+    (if not (is_none (letters_row KEY_WORDS.now name)) then did_you_mean (after_word (letters_row KEY_WORDS.now name)) else
+    (if not (is_none (near_row KEY_NAMES.now name)) then did_you_mean (word (near_row KEY_NAMES.now name)) else form_hint Key []))
+
+-- the same of a value
 abbrev pub key_hint : List ℕ → List ℕ
-key_hint text =
-    if is_none (near_row KEY_NAMES.now (without (byte "!") text)) then form_hint Key []
-    else did_you_mean (near_row KEY_NAMES.now (without (byte "!") text))
+key_hint text = bare_hint (bare_key text)
 
 -- what to do about a value that isn't of its form
 abbrev pub value_hint : (name : List ℕ) → List ℕ
@@ -326,17 +450,21 @@ value_hint name = form_hint (form_of (row_form (property_row name))) (row_form (
 -- what is printed of a misuse
 abbrev pub misuse_text : Misuse → List ℕ
 misuse_text NearName = codes "a property that nothing is known to read"
+misuse_text OldName = codes "a property that is no longer read"
 misuse_text ScanCode = codes "a code that isn't lower-case hexadecimal"
 misuse_text UnknownKey = codes "a key that isn't known"
 misuse_text UnfitValue = codes "a value that its property doesn't take"
 misuse_text ZeroRow = codes "a row of the matrix has zeros alone"
+misuse_text SingularMatrix = codes "the determinant of the matrix is 0"
 misuse_text TwoDefaults = codes "more than one resolution is the default"
 
 -- what to do about it
 abbrev pub misuse_hint : Misuse → (name text : List ℕ) → List ℕ
-misuse_hint NearName name text = did_you_mean (near_row PROPERTIES.now name)
+misuse_hint NearName name text = did_you_mean (word (near_row PROPERTIES.now name))
+misuse_hint OldName name text = codes "this came for it: " ++ after_word (row_for OLD_PROPERTIES.now name)
 misuse_hint ScanCode name text = codes "write the code in the digits 0 to 9 and a to f alone, without 0x"
 misuse_hint UnknownKey name text = key_hint text
 misuse_hint UnfitValue name text = value_hint name
 misuse_hint ZeroRow name text = codes "write in each row where an axis points, as 1, 0, 0; 0, 1, 0; 0, 0, 1"
+misuse_hint SingularMatrix name text = codes "write three axes that don't lie in one plane, as 1, 0, 0; 0, 1, 0; 0, 0, 1"
 misuse_hint TwoDefaults name text = codes "put a * before one of them alone"

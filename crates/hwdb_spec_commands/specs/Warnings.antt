@@ -12,14 +12,14 @@ use Rattle.hwdb_spec.specs.Forms.{is_wild}
 use Rattle.hwdb_spec.specs.Patterns.{is_reversed, range_place, tokens}
 use Rattle.hwdb_spec.specs.Tree.{closed_part, is_open}
 use Rattle.hwdb_spec.specs.Texts.{place_text}
-use Rattle.hwdb_spec_commands.specs.Properties.{misuse, misuse_hint, misuse_text}
+use Rattle.hwdb_spec_commands.specs.Properties.{misuse, misuse_hint, misuse_text, property_row}
 use Rattle.hwdb_spec_commands.specs.Kinds.{is_told}
 use Rattle.hwdb_spec_commands.specs.Reports.{hint_line, mark_line, shown_line}
 use Rattle.hwdb_spec_commands.specs.Surroundings.{is_unpaired, is_unread, unpaired_hint, unread_hint}
 use Rattle.hwdb_spec_commands.specs.Unmatched.{is_unmatched, judgement_hint, judgement_of, judgement_place, judgement_text}
 use Rattle.hwdb_spec_commands.specs.declared.WarningKind.{WarningKind}
 use Rattle.hwdb_spec_commands.specs.declared.vocabulary.Misuse.{Misuse}
-use Rattle.hwdb_spec_commands.specs.declared.vocabulary.Misuse.TheVariants.{NearName, ScanCode, TwoDefaults, UnfitValue, UnknownKey, ZeroRow}
+use Rattle.hwdb_spec_commands.specs.declared.vocabulary.Misuse.TheVariants.{NearName, OldName, ScanCode, SingularMatrix, TwoDefaults, UnfitValue, UnknownKey, ZeroRow}
 use Rattle.hwdb_spec_commands.specs.declared.WarningKind.TheVariants.{ByteOrderMark, CarriageReturn, CutValue, EmptyRange, LeadingTab, MayBeTooDeep, Misused, OpenBracket, RepeatedMatch, Replaced, SpacedEquals, TooLongForUdev, Unmatched, Unpaired, Unread}
 
 -- whether the key of a property ends with a space or a tab, or its value begins with one
@@ -104,6 +104,10 @@ misused l =
     if is_property l then (if has_equals l then (if has_key l then (if is_spaced l then None else misuse (key l) (value l)) else None) else None)
     else None
 
+-- whether a property has a row, by the key of its clean line
+abbrev pub is_known : Line → Bool
+is_known l = not (is_none (property_row (key l)))
+
 -- Whether a line of a file, of which this is the clean line, gets a warning. Its clean text begins with the three bytes of a UTF-8
 -- byte order mark, or with a tab, and so is a match line. Or a carriage return is in it, which isn't among its trailing blanks. Of
 -- a match line: a `[` of it begins no closed bracket; before the first such `[` a range has no members. Of a property that has a
@@ -123,18 +127,18 @@ warns file CutValue line l = if is_property l then (if has_equals l then is_cut 
 warns file RepeatedMatch line l = list_any (is l.number) (repeated_lines file)
 warns file (Replaced by) line l = not (is_none (replacing file l.number))
 warns file (Misused why) line l = is_some (misused l)
-warns file Unread line l = is_unread file l.number
+warns file (Unread known) line l = is_unread file l.number
 warns file Unpaired line l = is_unpaired file l.number
 warns file (Unmatched told) line l = is_unmatched (judgement_of l.text)
 warns file TooLongForUdev line l = is_too_long l
 warns file MayBeTooDeep line l = may_be_too_deep l
 
 -- The kinds of warnings that a line may get. That of a replaced one names the last line that replaces. That of a misused one says
--- how, and that of a pattern what is said of it.
+-- how, that of an unread one whether it is known, and that of a pattern what is said of it.
 abbrev pub line_kinds : (file : List ℕ) → (clean : Line) → List WarningKind
 line_kinds file clean =
     ByteOrderMark ∷ LeadingTab ∷ CarriageReturn ∷ OpenBracket ∷ EmptyRange ∷ SpacedEquals ∷ CutValue ∷ RepeatedMatch
-    ∷ Replaced (greatest (replacing file clean.number)) ∷ Misused (unwrap_or (misused clean) NearName) ∷ Unread ∷ Unpaired
+    ∷ Replaced (greatest (replacing file clean.number)) ∷ Misused (unwrap_or (misused clean) NearName) ∷ Unread (is_known clean) ∷ Unpaired
     ∷ Unmatched (judgement_of clean.text) ∷ TooLongForUdev ∷ MayBeTooDeep ∷ []
 
 -- whether a line gets a warning that is told
@@ -165,7 +169,8 @@ warning_text CutValue = codes "a # without a blank before it cuts the value"
 warning_text RepeatedMatch = codes "a match line that stands in its record already"
 warning_text (Replaced by) = codes "an assignment that line " ++ (decimal by ++ codes " replaces")
 warning_text (Misused why) = misuse_text why
-warning_text Unread = codes "a property that isn't read below its patterns"
+warning_text (Unread true) = codes "a property that isn't read below its patterns"
+warning_text (Unread false) = codes "a property that nothing is known to read"
 warning_text Unpaired = codes "a property that is read with others alone"
 warning_text (Unmatched told) = judgement_text told
 warning_text TooLongForUdev = codes "udev takes at most 2046 bytes from the first *, ? or [ on"
@@ -183,12 +188,14 @@ warning_place CutValue text clean = position_or_len (is (byte "#")) text
 warning_place RepeatedMatch text clean = 0
 warning_place (Replaced by) text clean = prefix_len is_indent text
 warning_place (Misused NearName) text clean = prefix_len is_indent text
+warning_place (Misused OldName) text clean = prefix_len is_indent text
 warning_place (Misused ScanCode) text clean = prefix_len is_indent text
 warning_place (Misused UnknownKey) text clean = position_or_len (is (byte "=")) text + 1
 warning_place (Misused UnfitValue) text clean = position_or_len (is (byte "=")) text + 1
 warning_place (Misused ZeroRow) text clean = position_or_len (is (byte "=")) text + 1
+warning_place (Misused SingularMatrix) text clean = position_or_len (is (byte "=")) text + 1
 warning_place (Misused TwoDefaults) text clean = position_or_len (is (byte "=")) text + 1
-warning_place Unread text clean = prefix_len is_indent text
+warning_place (Unread known) text clean = prefix_len is_indent text
 warning_place Unpaired text clean = prefix_len is_indent text
 warning_place (Unmatched told) text clean = judgement_place told
 warning_place TooLongForUdev text clean = position_or_len is_wild clean
@@ -206,7 +213,7 @@ warning_hint CutValue clean = codes "put a blank before a comment; a value can't
 warning_hint RepeatedMatch clean = codes "take one of the two away"
 warning_hint (Replaced by) clean = codes "take one of the two away"
 warning_hint (Misused why) clean = misuse_hint why (key clean) (value clean)
-warning_hint Unread clean = unread_hint (key clean)
+warning_hint (Unread known) clean = unread_hint known (key clean)
 warning_hint Unpaired clean = unpaired_hint (key clean)
 warning_hint (Unmatched told) clean = judgement_hint told clean.text
 warning_hint TooLongForUdev clean = codes "shorten it: systemd 252 and 257 crash at it, and 262 finds nothing"

@@ -95,7 +95,10 @@ use hwdb_spec::Judgement;
 pub use job::{Job, Task, WordsFault};
 pub use refusals::Refusal;
 pub use unread::Unread;
-pub use vocabulary::{COMPANIONS, KEY_HINT, KEY_NAMES, Misuse, PROPERTIES, ValueForm};
+pub use vocabulary::{
+    COMPANIONS, KEY_HINT, KEY_NAMES, KEY_WORDS, KNOWN_BELOW, Misuse, OLD_PROPERTIES, PROPERTIES,
+    Sign, SignRow, ValueForm,
+};
 
 /// What is unusual in a line that is read.
 #[derive(Clone, Copy, Debug, PartialEq, Eq)]
@@ -120,8 +123,8 @@ pub enum WarningKind {
     Replaced(u64),
     /// Its property doesn't fit what is known of properties.
     Misused(Misuse),
-    /// Its property isn't read below any of its patterns.
-    Unread,
+    /// Its property isn't read below any of its patterns. Whether it is read elsewhere.
+    Unread(bool),
     /// Its property is read with others alone, which one of its patterns isn't given.
     Unpaired,
     /// It is a pattern that matches no text that udev asks.

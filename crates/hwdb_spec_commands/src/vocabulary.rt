@@ -72,6 +72,30 @@ pub const KEY_NAMES: &str = "\
     voicemail\nvolumedown\nvolumeup\nw\nwakeup\nwimax\nwlan\nwordprocessor\nwps_button\nwwan\nwww\nx\nxfer\ny\n\
     yellow\nyen\nz\nzenkakuhankaku\nzoom\nzoomin\nzoomout\nzoomreset\n";
 
+/// What people call keys that have other names. A line each: what they say, and after a space the key, or several with `or` between.
+/// These are names of X's keysyms, and what keys have on them.
+pub const KEY_WORDS: &str = "\
+    alt leftalt or rightalt\nalt_l leftalt\nalt_r rightalt\naltgr rightalt\napplication compose\n\
+    apps compose\naudiolowervolume volumedown\naudiomicmute micmute\naudiomute mute\naudionext nextsong\n\
+    audioplay playpause\naudioprev previoussong\naudioraisevolume volumeup\naudiostop stopcd\n\
+    backquote grave\nbacktick grave\nbksp backspace\nbracketleft leftbrace\nbracketright rightbrace\n\
+    browser www\ncalculator calc\ncaps capslock\ncmd leftmeta or rightmeta\ncommand leftmeta or rightmeta\n\
+    control leftctrl or rightctrl\ncontrol_l leftctrl\ncontrol_r rightctrl\nctrl leftctrl or rightctrl\n\
+    ctrl_l leftctrl\nctrl_r rightctrl\ndash minus\ndel delete\ndisabled reserved\nescape esc\nexplorer file\n\
+    hyphen minus\nignore reserved\nins insert\niso_level3_shift rightalt\nkp_enter kpenter\nlalt leftalt\n\
+    lctrl leftctrl\nleftbracket leftbrace\nleftclick btn_left\nleftcontrol leftctrl\nleftsuper leftmeta\n\
+    leftwin leftmeta\nlock screenlock\nlshift leftshift\nlwin leftmeta\nmeta leftmeta or rightmeta\n\
+    meta_l leftmeta\nmeta_r rightmeta\nmic micmute\nmicrophone micmute\nmiddleclick btn_middle\n\
+    monbrightnessdown brightnessdown\nmonbrightnessup brightnessup\nmulti_key compose\nmycomputer computer\n\
+    none reserved\nnull reserved\nnumlk numlock\npage_down pagedown\npage_up pageup\nperiod dot\n\
+    pgdn pagedown\npgdown pagedown\npgup pageup\npipe backslash\nprint_screen sysrq\nprintscreen sysrq\n\
+    printscrn sysrq\nprior pageup\nprtsc sysrq\nprtscn sysrq\nprtscr sysrq\nquote apostrophe\nralt rightalt\n\
+    rctrl rightctrl\nreturn enter\nrightbracket rightbrace\nrightclick btn_right\nrightcontrol rightctrl\n\
+    rightsuper rightmeta\nrightwin rightmeta\nrshift rightshift\nrwin rightmeta\nscrlk scrolllock\n\
+    scroll scrolllock\nshift leftshift or rightshift\nshift_l leftshift\nshift_r rightshift\nspacebar space\n\
+    super leftmeta or rightmeta\nsuper_l leftmeta\nsuper_r rightmeta\ntilde grave\nvoldown volumedown\n\
+    volup volumeup\nwifi wlan\nwin leftmeta or rightmeta\nwindows leftmeta or rightmeta\n";
+
 /// The properties that udev's rules, systemd and libinput read, a line each. It has a name, the form of the value, the
 /// prefixes of the patterns below which it is read, and where this is said. A space is between them. A name that ends
 /// with `_` is for all that begin with it. `*` is for any prefix. A form is one of those of `ValueForm`, in lower case, or
@@ -112,9 +136,10 @@ pub const PROPERTIES: &str = "\
     ID_INPUT_TABLET_PAD 0|1 id-input|evdev|mouse|touchpad|libwacom|usb|input|joystick 60-input-id.hwdb\n\
     ID_INPUT_TOUCHPAD 0|1 id-input|evdev|mouse|touchpad|libwacom|usb|input|joystick 60-input-id.hwdb\n\
     ID_INPUT_TOUCHSCREEN 0|1 id-input|evdev|mouse|touchpad|libwacom|usb|input|joystick 60-input-id.hwdb\n\
+    ID_INPUT_WIDTH_MM count id-input|evdev|mouse|touchpad|libwacom|usb|input|joystick libinput\n\
+    ID_INPUT_HEIGHT_MM count id-input|evdev|mouse|touchpad|libwacom|usb|input|joystick libinput\n\
     ID_INPUT_TRACKBALL 0|1 id-input|evdev|mouse|touchpad|libwacom|usb|input|joystick 70-mouse.hwdb\n\
     ID_INPUT_3D_MOUSE 0|1 id-input|evdev|mouse|touchpad|libwacom|usb|input|joystick 70-mouse.hwdb\n\
-    ID_INPUT_JOYSTICK_INTEGRATION internal|external joystick|evdev|id-input 70-joystick.hwdb\n\
     ID_INPUT_TOUCHPAD_INTEGRATION internal|external touchpad|evdev|id-input 70-touchpad.hwdb\n\
     ID_INTEGRATION internal|external * 60-keyboard.hwdb\n\
     ID_AUTOSUSPEND 0|1 * 60-autosuspend-fingerprint-reader.hwdb\n\
@@ -141,7 +166,6 @@ pub const PROPERTIES: &str = "\
     ID_CHASSIS desktop|laptop|convertible|server|tablet|handset|watch|embedded|vm|container * 20-dmi-id.hwdb\n\
     ID_SYSFS_ATTRIBUTE_MODEL product_name|product_version * 20-dmi-id.hwdb\n\
     POINTINGSTICK_SENSITIVITY byte evdev 70-pointingstick.hwdb\n\
-    POINTINGSTICK_CONST_ACCEL decimal evdev|id-input 70-pointingstick.hwdb\n\
     XKB_FIXED_LAYOUT any evdev|id-input 60-keyboard.hwdb\n\
     XKB_FIXED_VARIANT any evdev|id-input 60-keyboard.hwdb\n\
     XKB_FIXED_MODEL any evdev|id-input 60-keyboard.hwdb\n\
@@ -156,7 +180,49 @@ pub const PROPERTIES: &str = "\
     SOUND_FORM_FACTOR internal|webcam|speaker|headphone|headset|handset|microphone|controller * 70-sound-card.hwdb\n\
     TPM2_BROKEN_NVPCR 0|1 tpm2 60-tpm2.hwdb\n\
     VSOCK_ACCEPT_VMADDR_CID_ANY 0|1 * systemd\n\
-    CHARGE_LIMIT limits battery 60-upower-battery.hwdb\n";
+    CHARGE_LIMIT limits battery 60-upower-battery.hwdb\n\
+    ID_DEBUG_APPLIANCE any * 70-debug-appliance.hwdb\n\
+    IMDS_ADDRESS_IPV4 any dmi 40-imds.hwdb\n\
+    IMDS_ADDRESS_IPV6 any dmi 40-imds.hwdb\n\
+    IMDS_DATA_URL any dmi 40-imds.hwdb\n\
+    IMDS_DATA_URL_SUFFIX any dmi 40-imds.hwdb\n\
+    IMDS_EXTRA_HEADER any dmi 40-imds.hwdb\n\
+    IMDS_KEY_HOSTNAME any dmi 40-imds.hwdb\n\
+    IMDS_KEY_IPV4_PUBLIC any dmi 40-imds.hwdb\n\
+    IMDS_KEY_IPV6_PUBLIC any dmi 40-imds.hwdb\n\
+    IMDS_KEY_REGION any dmi 40-imds.hwdb\n\
+    IMDS_KEY_SSH_KEY any dmi 40-imds.hwdb\n\
+    IMDS_KEY_USERDATA any dmi 40-imds.hwdb\n\
+    IMDS_KEY_USERDATA_BASE any dmi 40-imds.hwdb\n\
+    IMDS_KEY_USERDATA_BASE64 any dmi 40-imds.hwdb\n\
+    IMDS_KEY_ZONE any dmi 40-imds.hwdb\n\
+    IMDS_REFRESH_HEADER_NAME any dmi 40-imds.hwdb\n\
+    IMDS_TOKEN_HEADER_NAME any dmi 40-imds.hwdb\n\
+    IMDS_TOKEN_URL any dmi 40-imds.hwdb\n\
+    IMDS_VENDOR any dmi 40-imds.hwdb\n\
+    LIBINPUT_CALIBRATION_MATRIX any * libinput\n\
+    LIBINPUT_DEVICE_GROUP any * libinput\n\
+    LIBINPUT_IGNORE_DEVICE any * libinput\n\
+    LIBINPUT_ATTR_ any * libinput\n\
+    LIBINPUT_MODEL_ any * libinput\n\
+    ID_SEAT any * sd-login\n\
+    WL_SEAT any * weston\n\
+    WL_OUTPUT any * weston\n\
+    XKBLAYOUT any * xserver\n\
+    XKBMODEL any * xserver\n\
+    XKBOPTIONS any * xserver\n\
+    XKBRULES any * xserver\n\
+    XKBVARIANT any * xserver\n";
+
+/// The prefixes below which all names are known, with `|` between: systemd's hwdb files of these prefixes name all properties that are
+/// read, and the rows above have what libinput and X read.
+pub const KNOWN_BELOW: &str = "evdev|mouse|touchpad|joystick|sensor|id-input|camera|battery";
+
+/// Properties that are no longer read. A line each: its name, and after a space what came for it, and when if that is
+/// known.
+pub const OLD_PROPERTIES: &str = "\
+    POINTINGSTICK_CONST_ACCEL POINTINGSTICK_SENSITIVITY\n\
+    ID_INPUT_JOYSTICK_INTEGRATION ID_INTEGRATION, since systemd 260\n";
 
 /// Properties that are read with others of their record alone. A line each: its name, the others with a comma between, and
 /// where this is said, with a space between.
@@ -192,11 +258,37 @@ pub enum ValueForm {
     Choice,
 }
 
+/// What is known of a number of a matrix.
+#[derive(Clone, Copy, Debug, PartialEq, Eq)]
+pub enum Sign {
+    /// It is -1.
+    Minus,
+    /// It is 0.
+    Zero,
+    /// It is 1.
+    Plus,
+    /// It is another one.
+    Other,
+}
+
+/// That of the three numbers of a row.
+#[derive(Clone, Copy, Debug, PartialEq, Eq)]
+pub struct SignRow {
+    /// The first.
+    pub x: Sign,
+    /// The second.
+    pub y: Sign,
+    /// The third.
+    pub z: Sign,
+}
+
 /// Why a property doesn't fit what is known of properties.
 #[derive(Clone, Copy, Debug, PartialEq, Eq)]
 pub enum Misuse {
     /// Nothing is known of its name, which is nearly one that is known.
     NearName,
+    /// It is no longer read.
+    OldName,
     /// The code in its name isn't lower-case hexadecimal.
     ScanCode,
     /// Its value isn't a key.
@@ -205,6 +297,8 @@ pub enum Misuse {
     UnfitValue,
     /// A row of its matrix is zero.
     ZeroRow,
+    /// The determinant of its matrix is 0.
+    SingularMatrix,
     /// More than one of its resolutions is the default.
     TwoDefaults,
 }

@@ -1,4 +1,4 @@
-use Rattle.std.proofs.Common.{◌∙◌, ◌∷◌, ◌++◌, [], ap}
+use Rattle.std.proofs.Common.{◌∷◌, []}
 use Rattle.std.specs.Prelude.{codes}
 use Rattle.hwdb_properties.proofs.remarks.push_did_you_mean.Goals as goal
 use Rattle.hwdb_spec.specs.Lemmas.Lists.{three_pieces}
@@ -6,4 +6,4 @@ use Rattle.hwdb_spec.specs.Lemmas.Lists.{three_pieces}
 pub returns : goal.returns
 returns c =
     three_pieces c.args.text.now.items _ _ _ (codes "did you mean ") _ (63 ∷ []) c.in_ok-extend_from_slice.ensures.items
-    (c.in_ok-extend_from_slice-2.ensures.items ∙ ap (λ l. c.extend_from_slice.new.self.items ++ l) c.word.ensures) c.in_ok-push.ensures.items
+    c.in_ok-extend_from_slice-2.ensures.items c.in_ok-push.ensures.items

@@ -1,0 +1,28 @@
+-- A text that is added in four pieces, and hints, which don't depend on a line's number.
+use Rattle.std.proofs.Common.{◌≡◌, ◌∙◌, ◌++◌, ℕ, List, ap, append_assoc, refl}
+use Rattle.hwdb_spec_commands.specs.Warnings.{warning_hint}
+use Rattle.hwdb_spec_commands.specs.declared.WarningKind.{WarningKind}
+use Rattle.hwdb_spec_commands.specs.declared.WarningKind.TheVariants.{ByteOrderMark, CarriageReturn, CutValue, EmptyRange, LeadingTab, MayBeTooDeep, Misused, OpenBracket, RepeatedMatch, Replaced, SpacedEquals, TooLongForUdev, Unmatched, Unpaired, Unread}
+use Rattle.hwdb_check.specs.Internal.{line_of}
+
+pub four_pieces : (a b c d one two three four : List ℕ) → b ≡ a ++ one → c ≡ b ++ two → d ≡ c ++ three → d ++ four ≡ a ++ (one ++ (two ++ (three ++ four)))
+four_pieces a b c d one two three four e f g =
+    ap (λ (l : List ℕ). l ++ four) (g ∙ ap (λ (l : List ℕ). l ++ three) (f ∙ ap (λ (l : List ℕ). l ++ two) e))
+    ∙ append_assoc ((a ++ one) ++ two) three four ∙ append_assoc (a ++ one) two (three ++ four) ∙ append_assoc a one (two ++ (three ++ four))
+
+pub same_hint : (kind : WarningKind) (n m : ℕ) (t : List ℕ) → warning_hint kind (line_of n t) ≡ warning_hint kind (line_of m t)
+same_hint ByteOrderMark n m t = refl
+same_hint LeadingTab n m t = refl
+same_hint CarriageReturn n m t = refl
+same_hint OpenBracket n m t = refl
+same_hint EmptyRange n m t = refl
+same_hint SpacedEquals n m t = refl
+same_hint CutValue n m t = refl
+same_hint RepeatedMatch n m t = refl
+same_hint (Replaced by) n m t = refl
+same_hint (Misused why) n m t = refl
+same_hint (Unread known) n m t = refl
+same_hint Unpaired n m t = refl
+same_hint (Unmatched told) n m t = refl
+same_hint TooLongForUdev n m t = refl
+same_hint MayBeTooDeep n m t = refl

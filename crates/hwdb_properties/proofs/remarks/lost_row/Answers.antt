@@ -1,0 +1,6 @@
+use Rattle.std.proofs.Common.{◌∙◌, ap}
+use Rattle.hwdb_spec_commands.specs.Properties.{first_row, has_lost_words, word}
+use Rattle.hwdb_properties.proofs.remarks.lost_row.Goals as goal
+
+pub returns : goal.returns
+returns c = c.first_row.ensures ∙ ap (first_row (λ row. has_lost_words (word row) c.args.name.now)) c.as_bytes.ensures.value
