@@ -6,7 +6,7 @@ use Rattle.std.proofs.lemmas.List.{take_all, take-append-drop}
 use Rattle.std.proofs.Math.Nat.{le-max_left, le-max_right, max-eq_left, max-eq_right}
 use Rattle.std.proofs.Math.Seq.{take-take}
 use Rattle.hwdb_spec.specs.Patterns.{Token, star}
-use Rattle.hwdb_spec.specs.Forms.{Form, can_begin, front_length, meets_form}
+use Rattle.hwdb_spec.specs.Forms.{Form, can_begin, can_match, front_length, meets_form}
 use Rattle.hwdb_forms.specs.Internal.{Every, IsFar, IsFront}
 use Rattle.hwdb_forms.proofs.AnswerLemmas.{match_both}
 use Rattle.hwdb_forms.proofs.FrontLemmas.{front_is}
@@ -85,6 +85,14 @@ far_front form ts n f = record {
 -- ---- the loop over all forms
 pub front_none : (ts : List Token) → IsFront [] ts 0
 front_none ts = record { within = omega arith; met = λ h. absurd (omega arith); none = λ more h k. refl }
+
+pub front_begun : (A : Type 0) (f : A → Form) (l : List A) (ts : List Token) → IsFront (map f (take 0 l)) ts 0
+front_begun A f [] ts = front_none ts
+front_begun A f (x ∷ l) ts = front_none ts
+
+pub match_begun : (A : Type 0) (f : A → Form) (l : List A) (ts : List Token) → can_match (map f (drop 0 l)) ts ≡ can_match (map f l) ts
+match_begun A f [] ts = refl
+match_begun A f (x ∷ l) ts = refl
 
 pub every_at : (A B : Type 0) (f : A → B) (Told : B → Type 0) (l : List A) (i : ℕ) (d : A) → i < length l → Every B Told (map f l) → Told (f (get_or l i d))
 every_at A B f Told [] i d h e = absurd (omega arith)

@@ -1,19 +1,23 @@
 -- Walks through the steps of a form: what marked places tell before a token and after it.
-use Rattle.std.proofs.Common.{◌≡◌, ℕ, ◌+◌, ◌<◌, ◌≤◌, ◌||◌, Bool, true, false, List, [], ◌∷◌, ◌++◌, refl, sym, ap, subst, ◌∙◌, inl, inr, Bor, length, drop, take, get_or, suc, zero, append_assoc, arith, nat_lt}
+use Rattle.std.proofs.Common.{◌≡◌, ℕ, ◌+◌, ◌<◌, ◌≤◌, ◌||◌, Bool, true, false, List, [], ◌∷◌, ◌++◌, refl, sym, ap, ◌∙◌, inl, inr, map, Bor, length, drop, take, get_or, suc, zero, append_assoc, arith, nat_lt}
 use Rattle.std.proofs.Math.ListN.{replicate, set}
-use Rattle.std.proofs.Math.Seq.{drop-cons, get_or-take, take-length, take-set-lt, take-suc}
-use Rattle.std.proofs.lemmas.List.{append-nil, drop_all, length-set, length-take, take-append-drop, take_all}
+use Rattle.std.proofs.Math.Seq.{drop-cons, get_or-take, take-length, take-set-lt, take-suc, take-take}
+use Rattle.std.proofs.lemmas.List.{append-nil, drop_all, length-replicate, length-set, length-take, take-append-drop, take_all}
 use Rattle.std.proofs.lemmas.Bool.{cases_lt, lt-ltb, ltb-false, ltb-true}
 use Rattle.std.specs.Prelude.{if◌then◌else◌}
 use Rattle.hwdb_spec.specs.declared.ByteSet.{ByteSet}
 use Rattle.hwdb_spec.specs.declared.ByteSet.TheVariants.{Only}
 use Rattle.hwdb_spec.specs.Patterns.{Token, bracket, literal, one, star, token_at}
-use Rattle.hwdb_spec.specs.Forms.{Form, can_begin, head, end_row, is_in, is_star, meets, meets_form}
+use Rattle.hwdb_spec.specs.Forms.{Piece, byte_cell, end_row, fields_row, fixed_row, head, is_in, is_star, many_cell, meets}
+use Rattle.hwdb_forms.specs.declared.leads.Lead.{Lead}
+use Rattle.hwdb_forms.specs.declared.leads.Passed.{Passed}
+use Rattle.hwdb_forms.specs.declared.leads.Passed.TheVariants.{No, Yes}
+use Rattle.hwdb_forms.specs.declared.pieces.Piece as Rust
 use Rattle.hwdb_forms.specs.declared.steps.Step.{Step}
 use Rattle.hwdb_forms.specs.declared.steps.Step.TheVariants.{Byte, Either, End, Many, One}
-use Rattle.hwdb_forms.specs.Internal.{AreLive, IsFar, IsFront, IsPlace, any_met, is_end, led, left, many_met, marked, met_at, never, one_met, places, step_met, takes_byte, views}
-use Rattle.hwdb_forms.proofs.StepLemmas.{many_star, one_star, place_told, places_long}
-use Rattle.hwdb_forms.proofs.ViewLemmas.{below, none, split, view_at, views_length}
+use Rattle.hwdb_forms.specs.Internal.{AreLive, IsFar, IsPlace, Leads, any_met, fields_of, is_end, led, left, many_met, marked, met_at, never, one_met, passed_fixed, piece_of, step_met, takes_byte, views}
+use Rattle.hwdb_forms.proofs.LeadLemmas.{fixed_stays, form_no, form_yes, long_views, rest_more, single_field, views_drop, way_dead}
+use Rattle.hwdb_forms.proofs.ViewLemmas.{below, none, view_at, views_length}
 
 -- ---- truth values
 or_none : (b : Bool) → (if b then true else false) ≡ b
@@ -202,7 +206,7 @@ module _ (ls : List (List Token → Bool)) (t : Token) (us : List Token) (at : �
   unfolding one_met
   no_star s set after = by (is_star t) s
     where
-      by : (b : Bool) → b ≡ false → Rattle.hwdb_spec.specs.Forms.byte_cell b (meets t set) (after (t ∷ us)) (after us) (one_met set after us) ≡ (if meets t set then after us else false)
+      by : (b : Bool) → b ≡ false → byte_cell b (meets t set) (after (t ∷ us)) (after us) (one_met set after us) ≡ (if meets t set then after us else false)
       by false e = refl
       by true e = cc
 
@@ -238,7 +242,7 @@ module _ (ls : List (List Token → Bool)) (t : Token) (us : List Token) (at : �
   unfolding many_met
   no_star_many s set after = by (is_star t) s
     where
-      by : (b : Bool) → b ≡ false → Rattle.hwdb_spec.specs.Forms.many_cell b (meets t set) (after (t ∷ us)) (many_met set after us) ≡ (if after (t ∷ us) then true else (if meets t set then many_met set after us else false))
+      by : (b : Bool) → b ≡ false → many_cell b (meets t set) (after (t ∷ us)) (many_met set after us) ≡ (if after (t ∷ us) then true else (if meets t set then many_met set after us else false))
       by false e = refl
       by true e = cc
 
@@ -328,9 +332,12 @@ pub all_passed : (now next : List Bool) (ls : List (List Token → Bool)) (n : �
 all_passed now next ls n t us whole e before = sym (ap (λ (b : Bool). if b then true else any_met next ls us) (none_left now ls n (t ∷ us) e)) ∙ before
 
 -- ---- the first place, and none
-pub begun_met : (made new : List Bool) (ls : List (List Token → Bool)) (n entry : ℕ) (us : List Token) → made ≡ replicate n false → entry < length made → new ≡ set made entry true → any_met new ls us ≡ met_at ls entry us
+pub begun_met : (made new : List Bool) (ls : List (List Token → Bool)) (n entry : ℕ) (us : List Token) → made ≡ replicate n false → entry < n → new ≡ set made entry true → any_met new ls us ≡ met_at ls entry us
 begun_met made new ls n entry us e h s =
-    ap (λ (m : List Bool). any_met m ls us) s ∙ any_set made ls entry us h ∙ ap (λ (b : Bool). if b then true else met_at ls entry us) (made_none made n ls us e)
+    ap (λ (m : List Bool). any_met m ls us) s ∙ any_set made ls entry us (omega (arith, ap length e ∙ length-replicate n false, h)) ∙ ap (λ (b : Bool). if b then true else met_at ls entry us) (made_none made n ls us e)
+
+pub made_long : (made : List Bool) (n : ℕ) → made ≡ replicate n false → length made ≡ n
+made_long made n e = ap length e ∙ length-replicate n false
 
 any_at : (marks : List Bool) (ls : List (List Token → Bool)) (n : ℕ) (us : List Token) (d : Bool) → n < length marks → get_or marks n d ≡ true → met_at ls n us ≡ true → any_met marks ls us ≡ true
 any_at [] ls n us d h m e = absurd (omega arith)
@@ -399,12 +406,12 @@ module _ (told : List Token → Bool) (texts : List (Bor (List ℕ))) (ls : List
 
   pub stopped_met : (now new : List Bool) (at : ℕ) (d : Bor (List ℕ)) → at < length texts → ((us : List Token) → any_met new ls us ≡ any_met now ls (token_at (get_or texts at d).now ∷ us))
       → ((us : List Token) → any_met now ls us ≡ told (take at (views texts) ++ us)) → ((us : List Token) → any_met new ls us ≡ false) → (us : List Token) → any_met new ls us ≡ told (views texts ++ us)
-  stopped_met now new at d h step before no us =
-      no us ∙ sym (no (drop (suc at) (views texts) ++ us)) ∙ walk_more now new at (suc at) d refl h step before (drop (suc at) (views texts) ++ us) ∙ ap told (whole (suc at) us)
+  stopped_met now new at d h step before gone us =
+      gone us ∙ sym (gone (drop (suc at) (views texts) ++ us)) ∙ walk_more now new at (suc at) d refl h step before (drop (suc at) (views texts) ++ us) ∙ ap told (whole (suc at) us)
 
   pub stopped_far : (now new : List Bool) (at : ℕ) (d : Bor (List ℕ)) → at < length texts → ((us : List Token) → any_met new ls us ≡ any_met now ls (token_at (get_or texts at d).now ∷ us))
       → ((us : List Token) → any_met now ls us ≡ told (take at (views texts) ++ us)) → (0 < at → any_met now ls (star ∷ []) ≡ true) → ((us : List Token) → any_met new ls us ≡ false) → IsFar told (views texts) at
-  stopped_far now new at d h step before some no = record {
+  stopped_far now new at d h step before some gone = record {
     within = omega (arith, views_length texts);
     met = λ k. sym (before (star ∷ [])) ∙ some k;
     none = λ more k l.
@@ -413,11 +420,11 @@ module _ (told : List Token → Bool) (texts : List (Bor (List ℕ))) (ls : List
             ap (λ (r : List Token). r ++ (drop (suc at) few ++ star ∷ [])) (sym (fewer (views texts) (suc at) more (omega (arith, k))))
             ∙ sym (append_assoc (take (suc at) few) (drop (suc at) few) (star ∷ []))
             ∙ ap (λ (r : List Token). r ++ star ∷ []) (take-append-drop (suc at) few) in
-        ap told (sym same) ∙ sym (walk_more now new at (suc at) d refl h step before (drop (suc at) few ++ star ∷ [])) ∙ no (drop (suc at) few ++ star ∷ []);
+        ap told (sym same) ∙ sym (walk_more now new at (suc at) d refl h step before (drop (suc at) few ++ star ∷ [])) ∙ gone (drop (suc at) few ++ star ∷ []);
   }
     where
       fewer : (l : List Token) (n m : ℕ) → n ≤ m → take n (take m l) ≡ take n l
-      fewer l n m w = Rattle.std.proofs.Math.Seq.take-take n m l w
+      fewer l n m w = take-take n m l w
 
   pub all_met : (now : List Bool) (at : ℕ) → length texts ≤ at → ((us : List Token) → any_met now ls us ≡ told (take at (views texts) ++ us)) → (us : List Token) → any_met now ls us ≡ told (views texts ++ us)
   all_met now at h before us = before us ∙ ap (λ (l : List Token). told (l ++ us)) (take_all at (views texts) (omega (arith, h, views_length texts)))
@@ -430,7 +437,7 @@ module _ (told : List Token → Bool) (texts : List (Bor (List ℕ))) (ls : List
   }
 
 -- ---- what places lead to without a byte
-led_met : Step → List (List Token → Bool) → List Token → Bool
+abbrev led_met : Step → List (List Token → Bool) → List Token → Bool
 led_met End ls us = false
 led_met (Byte own to) ls us = false
 led_met (One set to) ls us = false
@@ -440,8 +447,8 @@ led_met (Either way other) ls us = if met_at ls way us then true else met_at ls 
 now_led : (s : Step) (marks : List Bool) (ls : List (List Token → Bool)) (at : ℕ) (us : List Token) → at ≤ length marks → any_met (take at (led s at marks)) ls us ≡ (if any_met (take at marks) ls us then true else led_met s (take at ls) us)
 now_led End marks ls at us h = sym (or_none (any_met (take at marks) ls us))
 now_led (Byte own to) marks ls at us h = sym (or_none (any_met (take at marks) ls us))
-now_led (One set to) marks ls at us h = sym (or_none (any_met (take at marks) ls us))
-now_led (Many set to) marks ls at us h = now_marked marks ls to at us h
+now_led (One own to) marks ls at us h = sym (or_none (any_met (take at marks) ls us))
+now_led (Many own to) marks ls at us h = now_marked marks ls to at us h
 now_led (Either way other) marks ls at us h =
     now_marked (marked marks way at) ls other at us (omega (arith, marked_long marks way at))
     ∙ ap (λ (b : Bool). if b then true else met_at (take at ls) other us) (now_marked marks ls way at us h)
@@ -452,8 +459,8 @@ end_of : (s : Step) (ls : List (List Token → Bool)) → is_end s ≡ false →
 unfolding one_met many_met
 end_of End ls e = cc
 end_of (Byte own to) ls e = refl
-end_of (One set to) ls e = refl
-end_of (Many set to) ls e = refl
+end_of (One own to) ls e = refl
+end_of (Many own to) ls e = refl
 end_of (Either way other) ls e = refl
 
 end_is : (s : Step) (ls : List (List Token → Bool)) → is_end s ≡ true → step_met s ls [] ≡ true
@@ -500,9 +507,13 @@ one_byte set after b e = ap (λ (x : Bool). if is_in set b then x else false) e 
     same true = refl
     same false = refl
 
+many_first : (set : ByteSet) (after : List Token → Bool) (b : ℕ) → many_met set after (literal b ∷ star ∷ []) ≡ (if after (literal b ∷ star ∷ []) then true else (if is_in set b then many_met set after (star ∷ []) else false))
+unfolding many_met
+many_first set after b = refl
+
 many_byte : (set : ByteSet) (after : List Token → Bool) (b : ℕ) → many_met set after (star ∷ []) ≡ true → many_met set after (literal b ∷ star ∷ []) ≡ (if is_in set b then true else after (literal b ∷ star ∷ []))
 many_byte set after b e =
-    split_off
+    many_first set after b
     ∙ ap (λ (x : Bool). if after (literal b ∷ star ∷ []) then true else (if is_in set b then x else false)) e
     ∙ ap (λ (x : Bool). if after (literal b ∷ star ∷ []) then true else x) (same (is_in set b))
     ∙ or_swapped (after (literal b ∷ star ∷ [])) (is_in set b)
@@ -511,16 +522,12 @@ many_byte set after b e =
     same true = refl
     same false = refl
 
-    split_off : many_met set after (literal b ∷ star ∷ []) ≡ (if after (literal b ∷ star ∷ []) then true else (if is_in set b then many_met set after (star ∷ []) else false))
-    unfolding many_met
-    split_off = refl
-
 byte_of : (s : Step) (ls : List (List Token → Bool)) (b : ℕ) → step_met s ls (star ∷ []) ≡ true → step_met s ls (literal b ∷ star ∷ []) ≡ (if takes_byte s b then true else led_met s ls (literal b ∷ star ∷ []))
 unfolding end_row
 byte_of End ls b e = refl
 byte_of (Byte own to) ls b e = one_byte (Only own) (met_at ls to) b e ∙ sym (or_none (is_in (Only own) b))
-byte_of (One set to) ls b e = one_byte set (met_at ls to) b e ∙ sym (or_none (is_in set b))
-byte_of (Many set to) ls b e = many_byte set (met_at ls to) b e
+byte_of (One own to) ls b e = one_byte own (met_at ls to) b e ∙ sym (or_none (is_in own b))
+byte_of (Many own to) ls b e = many_byte own (met_at ls to) b e
 byte_of (Either way other) ls b e = refl
 
 four : (a b x y : Bool) → (if (if a then true else x) then true else (if b then true else y)) ≡ (if a then true else (if b then true else (if x then true else y)))
@@ -556,3 +563,32 @@ bytes_begun marks ls n us had e h = ap (λ (x : Bool). if x then true else any_m
 
 pub bytes_done : (marks : List Bool) (ls : List (List Token → Bool)) (n : ℕ) (us : List Token) (had whole : Bool) → n ≡ 0 → (if had then true else any_met (take n marks) ls us) ≡ whole → had ≡ whole
 bytes_done marks ls n us had whole e before = sym (ap (λ (x : Bool). if had then true else x) (none_left marks ls n us e) ∙ or_none had) ∙ before
+
+-- ---- what is seen at once
+pub dead_prefix : (bytes : List ℕ) (fields : List (List (List Piece))) (ts more : List Token) (told : Passed) → told ≡ passed_fixed bytes ts → told ≡ No → head (fixed_row bytes (ts ++ more) (fields_row fields (ts ++ more))) ≡ false
+dead_prefix bytes fields ts more told e n = sym (form_no bytes fields (ts ++ more) told (fixed_stays bytes ts more told No e n (λ u. cc)) n)
+
+pub dead_rest : (bytes : List ℕ) (fields : List (List (List Piece))) (texts rest : List (Bor (List ℕ))) (more : List Token) (told : Passed) → told ≡ passed_fixed bytes (views texts) → told ≡ Yes → rest ≡ drop (length bytes) texts → length bytes ≤ length texts
+    → head (fields_row fields (views rest ++ more)) ≡ false → head (fixed_row bytes (views texts ++ more) (fields_row fields (views texts ++ more))) ≡ false
+dead_rest bytes fields texts rest more told e y r within dead =
+    sym (form_yes bytes fields (views texts ++ more) (views rest ++ more) told false (fixed_stays bytes (views texts) more told Yes e y (λ n. cc)) y
+    (rest_more (views texts) (views rest) more (length bytes) (ap views r ∙ views_drop texts (length bytes)) (long_views texts (length bytes) within)) (sym dead))
+
+pub dead_way : (fs : List (Bor (List (Bor (List Rust.Piece))))) (d : Bor (List (Bor (List Rust.Piece)))) (e : Bor (List Rust.Piece)) (ts more : List Token) (lead : Lead) → 0 < length fs → length (get_or fs 0 d).now ≡ 1
+    → Leads (map piece_of (get_or (get_or fs 0 d).now 0 e).now) (ts ++ more) lead → lead.is_dead ≡ true → head (fields_row (fields_of fs) (ts ++ more)) ≡ false
+dead_way fs d e ts more lead some alone l dead =
+    sym (single_field fs (drop 1 fs) d e (ts ++ more) false some alone refl (way_dead (map piece_of (get_or (get_or fs 0 d).now 0 e).now) (fields_of (drop 1 fs)) (ts ++ more) lead l dead))
+
+-- ---- the same in other words
+pub left_as : (at : ℕ) (now next new after : List Bool) (ls : List (List Token → Bool)) (t : Token) (us : List Token) → new ≡ now → after ≡ next → left at new after ls t us ≡ left at now next ls t us
+left_as at now next new after ls t us e k = ap (λ (l : List Bool). left at l after ls t us) e ∙ ap (λ (l : List Bool). left at now l ls t us) k
+
+pub marked_twice : (now first second : List Bool) (way other at : ℕ) → first ≡ marked now way at → second ≡ marked first other at → second ≡ marked (marked now way at) other at
+marked_twice now first second way other at e k = k ∙ ap (λ (l : List Bool). marked l other at) e
+
+pub far_as : (told other : List Token → Bool) (ts : List Token) (n : ℕ) → ((us : List Token) → told us ≡ other us) → IsFar told ts n → IsFar other ts n
+far_as told other ts n same f = record {
+  within = f.within;
+  met = λ h. sym (same (take n ts ++ star ∷ [])) ∙ f.met h;
+  none = λ more h k. sym (same (take more ts ++ star ∷ [])) ∙ f.none more h k;
+}

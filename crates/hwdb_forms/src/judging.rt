@@ -1,5 +1,5 @@
 //! What is said of a pattern.
-ghost use Rattle.std.specs.Prelude.{◌≡◌, ◌↔◌, ◌≤◌, ◌++◌, ◌∷◌, List, [], false, length, map, IfOk};
+ghost use Rattle.std.specs.Prelude.{◌≡◌, ◌↔◌, ◌<◌, ◌≤◌, ◌+◌, ◌++◌, ◌∷◌, List, [], false, length, map, IfOk};
 ghost use Rattle.hwdb_spec.specs.Patterns.{tokens as tokens_of};
 ghost use Rattle.hwdb_spec.specs.Forms.{CanMatch, judged};
 ghost use Rattle.hwdb_spec.specs.Forms;
@@ -14,6 +14,16 @@ use crate::walks::{Far, far_along, is_dead_at_once};
 use hwdb_pattern::{front_size, token_texts};
 use hwdb_spec::Judgement;
 use std::alloc::{AllocError, Global};
+
+/// One more, up to a count.
+fn one_more(low: usize, count: usize) -> usize
+    requires { low ≤ count }
+    ensures less { low < count → result ≡ low + 1 }
+    ensures all { count ≤ low → result ≡ low }
+    ensures within { result ≤ count }
+{
+    if low < count { low + 1 } else { low }
+}
 
 /// How far the tokens go along the form and those before it. `low` is how many of them, at most, a text of those begins with.
 fn reach_with(
@@ -30,7 +40,7 @@ fn reach_with(
         → IsFront forms (views tokens.now) low
         → IsFront (forms ++ form_of form ∷ []) (views tokens.now) far.front) }
 {
-    let some = if low < tokens.len() { low + 1 } else { low };
+    let some = one_more(low, tokens.len());
     if is_dead_at_once(form, &tokens[..some]) {
         return Ok(Far {
             front: low,

@@ -11,9 +11,8 @@ ghost use Rattle.hwdb_forms.specs.Internal;
 use crate::bytes::{Bytes, bytes_of, joined, no_bytes};
 use crate::leads::{Passed, lead_of, pass_fixed};
 use crate::pieces::{FormRow, Piece};
-use crate::plain::is_wild;
 use crate::sets::{has, meets};
-use crate::steps::{Step, form_steps};
+use crate::steps::{Step, Steps, form_steps};
 use hwdb_pattern::begins_star;
 use hwdb_spec::ByteSet;
 use std::alloc::{AllocError, Global};
@@ -37,11 +36,20 @@ struct Walked {
     front: usize,
 }
 
+/// Where a walk came.
+#[derive(Drop)]
+struct Gone {
+    /// The places after all tokens.
+    now: Vec<bool>,
+    /// How many tokens, at most, a text begins with.
+    front: usize,
+}
+
 /// Marks a place, if it is before an end.
 #[inline(always)]
-fn mark(marks: &mut [bool], place: usize, end: usize)
-    requires { end ≤ length marks.old }
-    ensures { marks.new ≡ Internal.marked marks.old place end }
+fn mark(marks: &mut Vec<bool>, place: usize, end: usize)
+    requires { end ≤ length marks.old.items }
+    ensures { marks.new.items ≡ Internal.marked marks.old.items place end }
 {
     if place < end {
         marks[place] = true;
@@ -51,14 +59,14 @@ fn mark(marks: &mut [bool], place: usize, end: usize)
 /// Looks at a place before a star. `at` is the step's place, `now` has the places before the star that are still to be looked at, and
 /// `next` those after it.
 #[inline(always)]
-fn pass_star(step: Step, at: usize, now: &mut [bool], next: &mut [bool])
-    requires now { at < length now.old }
-    requires next { length next.old ≡ length now.old }
-    ensures now { length now.new ≡ length now.old }
-    ensures next { length next.new ≡ length next.old }
+fn pass_star(step: Step, at: usize, now: &mut Vec<bool>, next: &mut Vec<bool>)
+    requires now { at < length now.old.items }
+    requires next { length next.old.items ≡ length now.old.items }
+    ensures now { length now.new.items ≡ length now.old.items }
+    ensures next { length next.new.items ≡ length next.old.items }
     ensures left { (ls : List (List Token → Bool)) (us : List Token) → IsPlace ls at step
-        → left at now.new next.new ls star us
-        ≡ (if left at now.old next.old ls star us then true else met_at ls at (star ∷ us)) }
+        → left at now.new.items next.new.items ls star us
+        ≡ (if left at now.old.items next.old.items ls star us then true else met_at ls at (star ∷ us)) }
 {
     match step {
         Step::End => mark(next, at, at + 1),
@@ -88,11 +96,11 @@ fn own_byte(text: &[u8]) -> Option<u8>
     if text.is_empty() {
         return None;
     }
-    let own = text[0];
-    if is_wild(own) {
+    let first = text[0];
+    if first == b'*' || first == b'?' || first == b'[' {
         return None;
     }
-    Some(own)
+    Some(first)
 }
 
 /// As `meets`. The byte that the token stands for is known.
@@ -115,18 +123,18 @@ fn pass_byte(
     at: usize,
     text: &[u8],
     own: Option<u8>,
-    now: &mut [bool],
-    next: &mut [bool],
+    now: &mut Vec<bool>,
+    next: &mut Vec<bool>,
 )
-    requires now { at < length now.old }
-    requires next { length next.old ≡ length now.old }
+    requires now { at < length now.old.items }
+    requires next { length next.old.items ≡ length now.old.items }
     requires star { Forms.is_star (token_at text.now) ≡ false }
     requires own { IfSome own (λ byte. token_at text.now ≡ literal byte) }
-    ensures now { length now.new ≡ length now.old }
-    ensures next { length next.new ≡ length next.old }
+    ensures now { length now.new.items ≡ length now.old.items }
+    ensures next { length next.new.items ≡ length next.old.items }
     ensures left { (ls : List (List Token → Bool)) (us : List Token) → IsPlace ls at step
-        → left at now.new next.new ls (token_at text.now) us
-        ≡ (if left at now.old next.old ls (token_at text.now) us then true
+        → left at now.new.items next.new.items ls (token_at text.now) us
+        ≡ (if left at now.old.items next.old.items ls (token_at text.now) us then true
         else met_at ls at (token_at text.now ∷ us)) }
 {
     match step {
@@ -248,7 +256,30 @@ fn is_none(marks: &[bool]) -> bool
     true
 }
 
-/// A walk through the steps of a form. It ends at the first token after which there is no place.
+/// Goes through steps from a place on. It ends at the first token after which there is no place.
+fn go(alloc: Global, steps: &[Step], entry: usize, tokens: &[&[u8]]) -> Result<Gone, AllocError>
+    requires entry { entry < length steps.now }
+    requires live { AreLive (places steps.now) }
+    ensures long { IfOk result (λ gone. length gone.now.items ≡ length steps.now) }
+    ensures met { IfOk result (λ gone. (us : List Token)
+        → any_met gone.now.items (places steps.now) us
+        ≡ met_at (places steps.now) entry (views tokens.now ++ us)) }
+    ensures far { IfOk result (λ gone. IsFar (met_at (places steps.now) entry)
+        (views tokens.now) gone.front) }
+{
+    let mut now = begun(alloc, steps, entry)?;
+    let mut at = 0;
+    while at < tokens.len() {
+        now = past(alloc, steps, tokens[at], now)?;
+        if is_none(&now) {
+            return Ok(Gone { now, front: at });
+        }
+        at += 1;
+    }
+    Ok(Gone { now, front: at })
+}
+
+/// A walk through the steps of a form.
 fn walk(alloc: Global, form: FormRow, tokens: &[&[u8]]) -> Result<Walked, AllocError>
     requires { HasWays (form_of form) }
     ensures long { IfOk result (λ w. length w.now.items ≡ length w.steps.items) }
@@ -259,33 +290,17 @@ fn walk(alloc: Global, form: FormRow, tokens: &[&[u8]]) -> Result<Walked, AllocE
     ensures far { IfOk result (λ w. IsFar (λ us. Forms.meets_form us (form_of form))
         (views tokens.now) w.front) }
 {
-    let way = form_steps(alloc, form)?;
-    let mut now = begun(alloc, &way.steps, way.entry)?;
-    let mut at = 0;
-    while at < tokens.len() {
-        now = past(alloc, &way.steps, tokens[at], now)?;
-        if is_none(&now) {
-            return Ok(Walked {
-                steps: way.steps,
-                now,
-                front: at,
-            });
-        }
-        at += 1;
-    }
-    Ok(Walked {
-        steps: way.steps,
-        now,
-        front: at,
-    })
+    let Steps { steps, entry } = form_steps(alloc, form)?;
+    let Gone { now, front } = go(alloc, &steps, entry, tokens)?;
+    Ok(Walked { steps, now, front })
 }
 
 /// Marks the places that the step at a place leads to without a byte.
 #[inline(always)]
-fn lead(step: Step, at: usize, now: &mut [bool])
-    requires { at < length now.old }
-    ensures long { length now.new ≡ length now.old }
-    ensures led { now.new ≡ Internal.led step at now.old }
+fn lead(step: Step, at: usize, now: &mut Vec<bool>)
+    requires { at < length now.old.items }
+    ensures long { length now.new.items ≡ length now.old.items }
+    ensures led { now.new.items ≡ Internal.led step at now.old.items }
 {
     match step {
         Step::End => (),
