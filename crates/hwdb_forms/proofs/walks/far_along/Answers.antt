@@ -10,9 +10,9 @@ use Rattle.hwdb_forms.proofs.walks.far_along.Goals as goal
 pub returns-clause-met : goal.returns-clause-met
 returns-clause-met c =
     c.ends-is_met.ensures
-    ∙ ap (λ (l : List Step). any_met c.in_ok-steps.now.items (places l) []) c.deref.ensures.value
+    ∙ ap (λ (l : List Step). any_met c.in_ok-steps.field-0.now.items (places l) []) c.deref.ensures.value
     ∙ c.in_ok-steps.ensures.met []
     ∙ ap (λ (r : List Token). meets_form r (form_of c.args.form)) (append-nil (views c.args.tokens.now))
 
 pub returns-clause-front : goal.returns-clause-front
-returns-clause-front c = far_front (form_of c.args.form) (views c.args.tokens.now) c.in_ok-steps.front c.in_ok-steps.ensures.far
+returns-clause-front c = far_front (form_of c.args.form) (views c.args.tokens.now) c.in_ok-steps.field-0.front c.in_ok-steps.ensures.far
