@@ -282,14 +282,16 @@ ways_put : (old middle far : List Step) (next place way : ℕ) (f g : (List Toke
 ways_put old middle far next place way f g h a b =
     let at_place : place < length far = omega (arith, a.within, ap length b.grown.1 ∙ length-append middle b.grown.0) in
     let kept : (rows : List Token → List Bool) → IsFamily rows → HasRows old next rows → HasRows far place (f rows) =
-        λ rows family r. subst (λ (l : List Step). HasRows l place (f rows)) (sym b.grown.1) (rows_kept middle b.grown.0 place (f rows) a.within (a.told rows family r)) in
+    λ rows family r. subst (λ (l : List Step). HasRows l place (f rows)) (sym b.grown.1) (rows_kept middle b.grown.0 place (f rows) a.within (a.told rows family r)) in
     let led : (rows : List Token → List Bool) → IsFamily rows → HasRows old next rows → HasRows far way (g rows) =
-        λ rows family r. b.told rows family (subst (λ (l : List Step). HasRows l next rows) (sym a.grown.1) (rows_kept old a.grown.0 next rows h r)) in
+    λ rows family r. b.told rows family (subst (λ (l : List Step). HasRows l next rows) (sym a.grown.1) (rows_kept old a.grown.0 next rows h r)) in
     record {
-      grown = (a.grown.0 ++ (b.grown.0 ++ Either way place ∷ []),
-          ap (λ (l : List Step). l ++ Either way place ∷ []) (b.grown.1 ∙ ap (λ (l : List Step). l ++ b.grown.0) a.grown.1)
-          ∙ append_assoc (old ++ a.grown.0) b.grown.0 (Either way place ∷ [])
-          ∙ append_assoc old a.grown.0 (b.grown.0 ++ Either way place ∷ []));
+      grown = (
+        a.grown.0 ++ (b.grown.0 ++ Either way place ∷ []),
+        ap (λ (l : List Step). l ++ Either way place ∷ []) (b.grown.1 ∙ ap (λ (l : List Step). l ++ b.grown.0) a.grown.1)
+            ∙ append_assoc (old ++ a.grown.0) b.grown.0 (Either way place ∷ [])
+            ∙ append_assoc old a.grown.0 (b.grown.0 ++ Either way place ∷ []),
+      );
       within = omega (arith, length-append far (Either way place ∷ []));
       live = λ l. live_put far (Either way place) (b.live (a.live l))
           (if_first (met_at (places far) way (star ∷ [])) (met_at (places far) place (star ∷ [])) (b.live (a.live l) way (subst (λ (k : ℕ). way < k) (sym (places_long far)) b.within)));
@@ -328,7 +330,7 @@ laid_end old new place fields o e p =
     let only : new ≡ End ∷ [] = e ∙ ap (λ (l : List Step). l ++ End ∷ []) o in
     let first : place ≡ 0 = p ∙ ap length o in
     let whole : (us : List Token) → met_at (places new) place us ≡ head (end_row us) =
-        λ us. ap (λ (l : List Step). met_at (places l) place us) only ∙ ap (λ (n : ℕ). met_at (places (End ∷ [])) n us) first ∙ ap (λ (f : List Token → Bool). f us) (place_put [] End) in
+    λ us. ap (λ (l : List Step). met_at (places l) place us) only ∙ ap (λ (n : ℕ). met_at (places (End ∷ [])) n us) first ∙ ap (λ (f : List Token → Bool). f us) (place_put [] End) in
     record {
       within = omega (arith, ap length only, first);
       live = subst (λ (l : List Step). AreLive (places l)) (sym only) (live_put [] End (λ n h. absurd (omega (arith, h, places_long []))) refl);

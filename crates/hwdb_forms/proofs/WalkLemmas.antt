@@ -417,9 +417,9 @@ module _ (told : List Token → Bool) (texts : List (Bor (List ℕ))) (ls : List
     none = λ more k l.
         let few : List Token = take more (views texts) in
         let same : take (suc at) (views texts) ++ (drop (suc at) few ++ star ∷ []) ≡ few ++ star ∷ [] =
-            ap (λ (r : List Token). r ++ (drop (suc at) few ++ star ∷ [])) (sym (fewer (views texts) (suc at) more (omega (arith, k))))
-            ∙ sym (append_assoc (take (suc at) few) (drop (suc at) few) (star ∷ []))
-            ∙ ap (λ (r : List Token). r ++ star ∷ []) (take-append-drop (suc at) few) in
+        ap (λ (r : List Token). r ++ (drop (suc at) few ++ star ∷ [])) (sym (fewer (views texts) (suc at) more (omega (arith, k))))
+        ∙ sym (append_assoc (take (suc at) few) (drop (suc at) few) (star ∷ []))
+        ∙ ap (λ (r : List Token). r ++ star ∷ []) (take-append-drop (suc at) few) in
         ap told (sym same) ∙ sym (walk_more now new at (suc at) d refl h step before (drop (suc at) few ++ star ∷ [])) ∙ gone (drop (suc at) few ++ star ∷ []);
   }
     where

@@ -26,12 +26,7 @@ fn one_more(low: usize, count: usize) -> usize
 }
 
 /// How far the tokens go along the form and those before it. `low` is how many of them, at most, a text of those begins with.
-fn reach_with(
-    alloc: Global,
-    form: FormRow,
-    tokens: &[&[u8]],
-    low: usize,
-) -> Result<Far, AllocError>
+fn reach_with(alloc: Global, form: FormRow, tokens: &[&[u8]], low: usize) -> Result<Far, AllocError>
     requires low { low ≤ length tokens.now }
     requires ways { HasWays (form_of form) }
     ensures met { IfOk result (λ far. far.is_met

@@ -210,12 +210,7 @@ fn past_byte(
 }
 
 /// The places after a token.
-fn past(
-    alloc: Global,
-    steps: &[Step],
-    text: &[u8],
-    now: Vec<bool>,
-) -> Result<Vec<bool>, AllocError>
+fn past(alloc: Global, steps: &[Step], text: &[u8], now: Vec<bool>) -> Result<Vec<bool>, AllocError>
     requires { length now.items ≡ length steps.now }
     ensures long { IfOk result (λ next. length next.items ≡ length steps.now) }
     ensures met { IfOk result (λ next. (us : List Token)
@@ -412,7 +407,11 @@ pub(crate) fn far_along(alloc: Global, form: FormRow, tokens: &[&[u8]]) -> Resul
 }
 
 /// Which bytes may come after all tokens in a text of the form.
-pub(crate) fn bytes_along(alloc: Global, form: FormRow, tokens: &[&[u8]]) -> Result<Bytes, AllocError>
+pub(crate) fn bytes_along(
+    alloc: Global,
+    form: FormRow,
+    tokens: &[&[u8]],
+) -> Result<Bytes, AllocError>
     requires { HasWays (form_of form) }
     ensures { IfOk result (λ bytes. (byte : ℕ) → byte < 256 → has_byte bytes byte
         ≡ Forms.meets_form (followed (views tokens.now) byte) (form_of form)) }
