@@ -66,7 +66,8 @@ fn pass_star(step: Step, at: usize, now: &mut Vec<bool>, next: &mut Vec<bool>)
     ensures next { length next.new.items ≡ length next.old.items }
     ensures left { (ls : List (List Token → Bool)) (us : List Token) → IsPlace ls at step
         → left at now.new.items next.new.items ls star us
-        ≡ (if left at now.old.items next.old.items ls star us then true else met_at ls at (star ∷ us)) }
+        ≡ (if left at now.old.items next.old.items ls star us
+        then true else met_at ls at (star ∷ us)) }
 {
     match step {
         Step::End => mark(next, at, at + 1),
