@@ -6,16 +6,13 @@ ghost use Rattle.hwdb_spec.specs.Forms.{all_bytes_from, is_expected};
 ghost use Rattle.hwdb_spec_commands.specs.Unmatched;
 
 use crate::runs::{push_runs, runs_of};
-use hwdb_forms::{expected_below, expected_from, judge, likely_prefix};
+use hwdb_forms::{expected, judge, likely_prefix};
 use hwdb_spec::Judgement;
 use hwdb_text::{LONGEST_MATCH, begins_with};
 use std::alloc::{AllocError, Global};
 
 /// A front of more bytes isn't looked at for what could come after it (our choice).
 const LONGEST_FRONT: usize = 256;
-
-/// The bytes below this are looked at first. If any byte may be there, these are of more runs than are named.
-const FIRST: u8 = 128;
 
 /// What is said of a clean text, if it is a pattern. The only error, here and below, is `AllocError`.
 #[tactic(auto, unfolding(hwdb_spec_commands::specs::Unmatched::judgement_of))]
@@ -70,35 +67,13 @@ fn front_of(text: &[u8], size: usize) -> &[u8]
     }
 }
 
-/// Those of the bytes that could be after a front which are looked at first.
-fn first_expected(alloc: Global, front: &[u8]) -> Result<Vec<u8>, AllocError>
-    ensures { IfOk result (λ bytes. bytes.items
-        ≡ filter (is_expected asked front.now) (all_bytes_from 128 0)) }
-{
-    expected_below(alloc, front, FIRST)
-}
-
-/// The other ones.
-fn other_expected(alloc: Global, front: &[u8]) -> Result<Vec<u8>, AllocError>
-    ensures { IfOk result (λ bytes. bytes.items
-        ≡ filter (is_expected asked front.now) (all_bytes_from 128 128)) }
-{
-    expected_from(alloc, front, FIRST)
-}
-
-/// Adds what to do about a pattern that goes wrong after this front, which isn't too long. If the first bytes are of too many runs to
-/// be named, so are all.
+/// Adds what to do about a pattern that goes wrong after this front, which isn't too long.
+#[tactic(auto, unfolding(hwdb_spec_commands::specs::Unmatched::expected_after))]
 fn push_expected(alloc: Global, text: &mut Vec<u8>, front: &[u8]) -> Result<(), AllocError>
     ensures { OnOk result (text.new.items ≡ text.old.items
         ++ Unmatched.runs_hint (Unmatched.runs (Unmatched.expected_after front.now))) }
 {
-    let mut bytes = first_expected(alloc, front)?;
-    let first = runs_of(alloc, &bytes)?;
-    if first.len() > 3 {
-        return push_runs(text, &first);
-    }
-    let others = other_expected(alloc, front)?;
-    bytes.extend_from_slice(&others)?;
+    let bytes = expected(alloc, front)?;
     let runs = runs_of(alloc, &bytes)?;
     push_runs(text, &runs)
 }

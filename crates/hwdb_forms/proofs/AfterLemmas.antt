@@ -1,7 +1,8 @@
--- Which bytes may come after all tokens.
-use Rattle.std.proofs.Common.{◌≡◌, ℕ, ◌+◌, ◌<◌, ◌≤◌, ◌==◌, ◌||◌, ◌⊎◌, ◌*◌, ◌%◌, ◌^◌, Bool, true, false, List, [], ◌∷◌, ◌++◌, refl, sym, ap, subst, ◌∙◌, inl, inr, append_assoc, arith, cond, drop, eq-eqb, eqb-true, get_or, length, map, suc, zero, Bor}
+-- Bytes as bits, and which may come after all tokens.
+use Rattle.std.proofs.Common.{◌≡◌, ℕ, ◌+◌, ◌<◌, ◌≤◌, ◌-◌, ◌==◌, ◌||◌, ◌⊎◌, ◌*◌, ◌%◌, ◌^◌, Bool, true, false, List, [], ◌∷◌, ◌++◌, refl, sym, ap, subst, ◌∙◌, inl, inr, append_assoc, arith, cond, drop, eq-eqb, eqb-true, get_or, length, map, nat_lt, suc, zero}
 use Rattle.std.specs.Prelude.{if◌then◌else◌, max}
 use Rattle.std.proofs.Math.Seq.{drop-cons}
+use Rattle.std.proofs.lemmas.Bool.{ltb-false, ltb-true}
 use Rattle.std.proofs.lemmas.List.{drop_all}
 use Rattle.std.specs.Int.{bit_at}
 use Rattle.std.specs.Int.Bits.{bit_or}
@@ -13,16 +14,10 @@ use Rattle.hwdb_spec.specs.Patterns.{Token, literal, one, star, token_at, tokens
 use Rattle.hwdb_spec.specs.Forms.{Form, Piece, can_begin, can_match, fields_row, head, is_in, is_wild, meets_form}
 use Rattle.hwdb_pattern.specs.Laws.{StaysClosed, TokensAreThePattern}
 use Rattle.hwdb_spec_commands.specs.FormTable.{asked, free, free_prefixes, known}
-use Rattle.hwdb_forms.specs.declared.cells.Kind.TheVariants.{After}
-use Rattle.hwdb_forms.specs.declared.leads.Lead.{Lead}
-use Rattle.hwdb_forms.specs.declared.leads.Passed.TheVariants.{No, Yes}
-use Rattle.hwdb_forms.specs.declared.leads.Passed.{Passed}
-use Rattle.hwdb_forms.specs.declared.pieces.Piece as Rust
-use Rattle.hwdb_forms.specs.Internal.{Every, HasWays, HaveWays, Leads, Stays, bytes_of, fields_numbers, fields_of, first_cell, followed, form_number, has_bit, passed_fixed, piece_of, pieces_numbers, way_met}
+use Rattle.hwdb_forms.specs.declared.bytes.Bytes.{Bytes}
+use Rattle.hwdb_forms.specs.Internal.{AreAfter, Every, HasWays, Stays, bytes_of, followed, has_bit, has_byte}
 use Rattle.hwdb_forms.proofs.MeetLemmas.{own_in, own_span}
-use Rattle.hwdb_forms.proofs.CellLemmas.{Asks, IsQuestion, fields_told, form_told, way_told}
 use Rattle.hwdb_forms.proofs.KeptLemmas.{kept_front}
-use Rattle.hwdb_forms.proofs.LeadLemmas.{fields_family, fixed_stays, form_no, form_yes, if_alive, rest_more, way_dead}
 
 -- ---- bits
 or_bit : (x y : ℕ) → x < 2 → y < 2 → (max x y == 1) ≡ (if x == 1 then true else y == 1)
@@ -112,87 +107,51 @@ bits_told set first (suc n) i h = by (i == n) (λ other. bits_told set first n i
         ∙ or_never (is_in set (first + n)) (has_bit (bytes_of set first n) i)
         ∙ before other
 
--- ---- what a cell says of a byte
-question : (first i : ℕ) → IsQuestion (After first) (λ c. has_bit c i)
-question first i = record { none = no_bit i; both = λ a b. either_bit a b i }
-
-asks_after : (first i : ℕ) (ts : List Token) → i < 128 → Asks (After first) ts (ts ++ literal (first + i) ∷ star ∷ []) (λ c. has_bit c i)
-asks_after first i [] h = (first + i, refl, question first i, λ set. bits_told set first 128 i h)
-asks_after first i (t ∷ ts) h = (ts ++ literal (first + i) ∷ star ∷ [], (λ c. has_bit c i), refl, question first i, (λ c. refl), inl (asks_after first i ts h))
-
-pub cell_after : (form : Form) (ts : List Token) (first i cell : ℕ) → i < 128 → HasWays form → cell ≡ form_number (After first) ts form → has_bit cell i ≡ meets_form (followed ts (first + i)) form
-cell_after form ts first i cell h w e =
-    ap (λ (n : ℕ). has_bit n i) e ∙ form_told (After first) form ts (followed ts (first + i)) (λ c. has_bit c i) w (asks_after first i ts h)
-
--- a way
-pub way_bits : (ps qs : List Piece) (fields : List (List (List Piece))) (ts us : List Token) (lead : Lead) (first i cell : ℕ) (row behind : List ℕ) → ((more : List Token) → Leads ps (ts ++ more) lead) → lead.is_dead ≡ false
-    → qs ≡ drop lead.pieces ps → us ≡ drop lead.tokens ts → lead.tokens ≤ length ts → HaveWays fields → i < 128
-    → behind ≡ fields_numbers (After first) fields us → row ≡ pieces_numbers (After first) qs us behind → cell ≡ first_cell row → has_bit cell i ≡ way_met ps fields (followed ts (first + i))
-way_bits ps qs fields ts us lead first i cell row behind l e q u within h lt b r k =
-    let last : List Token = literal (first + i) ∷ star ∷ [] in
-    let number : cell ≡ first_cell (pieces_numbers (After first) qs us (fields_numbers (After first) fields us)) = k ∙ ap first_cell (r ∙ ap (pieces_numbers (After first) qs us) b) in
-    let rest : us ++ last ≡ drop lead.tokens (ts ++ last) = rest_more ts us last lead.tokens u within in
-    ap (λ (n : ℕ). has_bit n i) number
-    ∙ way_told (After first) qs fields us (us ++ last) (λ c. has_bit c i) h (asks_after first i us lt)
-    ∙ ap (λ (vs : List Piece). way_met vs fields (us ++ last)) q
-    ∙ ap (λ (vs : List Token). way_met (drop lead.pieces ps) fields vs) rest
-    ∙ sym (l last (fields_row fields) (fields_family fields)
-    ∙ if_alive lead.is_dead (way_met (drop lead.pieces ps) fields (drop lead.tokens (ts ++ last))) e)
-
-pub no_way_bits : (ps : List Piece) (fields : List (List (List Piece))) (ts : List Token) (lead : Lead) (first i : ℕ) → ((more : List Token) → Leads ps (ts ++ more) lead) → lead.is_dead ≡ true
-    → has_bit 0 i ≡ way_met ps fields (followed ts (first + i))
-no_way_bits ps fields ts lead first i l e = no_bit i ∙ way_dead ps fields (followed ts (first + i)) lead (l (literal (first + i) ∷ star ∷ [])) e
-
--- fields
-pub fields_bits : (fields : List (List (List Piece))) (ts : List Token) (first i cell : ℕ) (row : List ℕ) → HaveWays fields → i < 128 → row ≡ fields_numbers (After first) fields ts → cell ≡ first_cell row
-    → has_bit cell i ≡ head (fields_row fields (followed ts (first + i)))
-fields_bits fields ts first i cell row h lt r k =
-    ap (λ (n : ℕ). has_bit n i) (k ∙ ap first_cell r) ∙ fields_told (After first) fields ts (followed ts (first + i)) (λ c. has_bit c i) h (asks_after first i ts lt)
-
-pub rest_ways : (fs rest : List (Bor (List (Bor (List Rust.Piece))))) → rest ≡ drop 1 fs → HaveWays (fields_of fs) → HaveWays (fields_of rest)
-rest_ways [] rest e h = subst (λ (l : List (Bor (List (Bor (List Rust.Piece))))). HaveWays (fields_of l)) (sym e) h
-rest_ways (f ∷ more) rest e h =
-    subst (λ (l : List (Bor (List (Bor (List Rust.Piece))))). HaveWays (fields_of l)) (sym (e ∙ none more)) (later f.now h)
+-- ---- both halves
+pub no_byte : (byte : ℕ) → (if nat_lt byte 128 then has_bit 0 byte else has_bit 0 (byte - 128)) ≡ false
+no_byte byte = by (nat_lt byte 128)
   where
-    none : (l : List (Bor (List (Bor (List Rust.Piece))))) → drop 0 l ≡ l
-    none [] = refl
-    none (x ∷ l) = refl
+    by : (c : Bool) → (if c then has_bit 0 byte else has_bit 0 (byte - 128)) ≡ false
+    by true = no_bit byte
+    by false = no_bit (byte - 128)
 
-    later : (ways : List (Bor (List Rust.Piece))) → HaveWays (map (λ way. map piece_of way.now) ways ∷ fields_of more) → HaveWays (fields_of more)
-    later [] k = absurd k
-    later (way ∷ ways) k = k
+pub halves : (set : ByteSet) (bytes : Bytes) (byte : ℕ) → bytes.low ≡ bytes_of set 0 128 → bytes.high ≡ bytes_of set 128 128 → byte < 256 → has_byte bytes byte ≡ is_in set byte
+halves set bytes byte l h w = by (nat_lt byte 128) refl
+  where
+    by : (c : Bool) → nat_lt byte 128 ≡ c → (if c then has_bit bytes.low byte else has_bit bytes.high (byte - 128)) ≡ is_in set byte
+    by true e = ap (λ (n : ℕ). has_bit n byte) l ∙ bits_told set 0 128 byte (ltb-true byte 128 e) ∙ ap (is_in set) (omega arith)
+    by false e =
+        let more : 128 ≤ byte = ltb-false byte 128 e in
+        ap (λ (n : ℕ). has_bit n (byte - 128)) h ∙ bits_told set 128 128 (byte - 128) (omega (arith, more, w)) ∙ ap (is_in set) (omega (arith, more))
 
--- a form
-pub no_form_bits : (form : Form) (ts : List Token) (told : Passed) (first i : ℕ) → told ≡ passed_fixed form.prefix ts → told ≡ No → has_bit 0 i ≡ meets_form (followed ts (first + i)) form
-no_form_bits form ts told first i e n =
-    no_bit i ∙ form_no form.prefix form.fields (followed ts (first + i)) told (fixed_stays form.prefix ts (literal (first + i) ∷ star ∷ []) told No e n (λ u. cc)) n
-
-pub form_bits : (form : Form) (ts us : List Token) (told : Passed) (first i bits : ℕ) → told ≡ passed_fixed form.prefix ts → told ≡ Yes → us ≡ drop (length form.prefix) ts → length form.prefix ≤ length ts
-    → has_bit bits i ≡ head (fields_row form.fields (followed us (first + i))) → has_bit bits i ≡ meets_form (followed ts (first + i)) form
-form_bits form ts us told first i bits e y u within k =
-    let last : List Token = literal (first + i) ∷ star ∷ [] in
-    form_yes form.prefix form.fields (ts ++ last) (us ++ last) told (has_bit bits i) (fixed_stays form.prefix ts last told Yes e y (λ n. cc)) y (rest_more ts us last (length form.prefix) u within) k
+pub either_byte : (some others new : Bytes) (byte : ℕ) → new.low ≡ bit_or some.low others.low → new.high ≡ bit_or some.high others.high → has_byte new byte ≡ (if has_byte some byte then true else has_byte others byte)
+either_byte some others new byte l h = by (nat_lt byte 128)
+  where
+    by : (c : Bool) → (if c then has_bit new.low byte else has_bit new.high (byte - 128))
+        ≡ (if (if c then has_bit some.low byte else has_bit some.high (byte - 128)) then true else (if c then has_bit others.low byte else has_bit others.high (byte - 128)))
+    by true = ap (λ (n : ℕ). has_bit n byte) l ∙ either_bit some.low others.low byte
+    by false = ap (λ (n : ℕ). has_bit n (byte - 128)) h ∙ either_bit some.high others.high (byte - 128)
 
 -- several forms
-pub bits_start : (A : Type 0) (f : A → Form) (l : List A) (us : List Token) (i : ℕ) → (if has_bit 0 i then true else can_match (map f (drop 0 l)) us) ≡ can_match (map f l) us
-bits_start A f l us i = ap (λ (b : Bool). if b then true else can_match (map f (drop 0 l)) us) (no_bit i) ∙ ap (λ (r : List A). can_match (map f r) us) (none l)
+pub among_start : (A : Type 0) (f : A → Form) (l : List A) (us : List Token) (had : Bool) → had ≡ false → (if had then true else can_match (map f (drop 0 l)) us) ≡ can_match (map f l) us
+among_start A f l us had e = ap (λ (b : Bool). if b then true else can_match (map f (drop 0 l)) us) e ∙ ap (λ (r : List A). can_match (map f r) us) (none l)
   where
     none : (r : List A) → drop 0 r ≡ r
     none [] = refl
     none (x ∷ r) = refl
 
-pub bits_kept : (A : Type 0) (f : A → Form) (l : List A) (k n : ℕ) (d : A) (us : List Token) (i old own new : ℕ) (whole : Bool) → k < length l → n ≡ suc k → has_bit own i ≡ meets_form us (f (get_or l k d)) → new ≡ bit_or old own
-    → (if has_bit old i then true else can_match (map f (drop k l)) us) ≡ whole → (if has_bit new i then true else can_match (map f (drop n l)) us) ≡ whole
-bits_kept A f l k n d us i old own new whole h e o r before =
-    ap (λ (j : ℕ). if has_bit new i then true else can_match (map f (drop j l)) us) e
-    ∙ ap (λ (b : Bool). if b then true else can_match (map f (drop (suc k) l)) us) (ap (λ (x : ℕ). has_bit x i) r ∙ either_bit old own i ∙ ap (λ (b : Bool). if has_bit old i then true else b) o)
-    ∙ or_again (has_bit old i) (meets_form us (f (get_or l k d))) (can_match (map f (drop (suc k) l)) us)
-    ∙ sym (ap (λ (r : List A). if has_bit old i then true else can_match (map f r) us) (drop-cons l k d h))
+pub among_kept : (A : Type 0) (f : A → Form) (l : List A) (k n : ℕ) (d : A) (us : List Token) (had own has whole : Bool) → k < length l → n ≡ suc k → own ≡ meets_form us (f (get_or l k d)) → has ≡ (if had then true else own)
+    → (if had then true else can_match (map f (drop k l)) us) ≡ whole → (if has then true else can_match (map f (drop n l)) us) ≡ whole
+among_kept A f l k n d us had own has whole h e o r before =
+    ap (λ (j : ℕ). if has then true else can_match (map f (drop j l)) us) e
+    ∙ ap (λ (b : Bool). if b then true else can_match (map f (drop (suc k) l)) us) (r ∙ ap (λ (b : Bool). if had then true else b) o)
+    ∙ or_again had (meets_form us (f (get_or l k d))) (can_match (map f (drop (suc k) l)) us)
+    ∙ sym (ap (λ (r : List A). if had then true else can_match (map f r) us) (drop-cons l k d h))
     ∙ before
 
-pub bits_all : (A : Type 0) (f : A → Form) (l : List A) (k : ℕ) (us : List Token) (i bits : ℕ) (whole : Bool) → length l ≤ k → (if has_bit bits i then true else can_match (map f (drop k l)) us) ≡ whole → has_bit bits i ≡ whole
-bits_all A f l k us i bits whole h before =
-    or_none (has_bit bits i) ∙ sym (ap (λ (r : List A). if has_bit bits i then true else can_match (map f r) us) (drop_all k l h)) ∙ before
+pub among_all : (A : Type 0) (f : A → Form) (l : List A) (k : ℕ) (us : List Token) (has whole : Bool) → length l ≤ k → (if has then true else can_match (map f (drop k l)) us) ≡ whole → has ≡ whole
+among_all A f l k us has whole h before =
+    or_none has ∙ sym (ap (λ (r : List A). if has then true else can_match (map f r) us) (drop_all k l h)) ∙ before
 
 -- ---- after a front
 plain_by : (s o t : Bool) (b : ℕ) (x : Token) → cond s true (cond o true t) ≡ false → cond s star (cond o one (cond t x (literal b))) ≡ literal b
@@ -210,13 +169,12 @@ begun_by front ts b kept w =
     ap (can_begin asked) (kept ∙ ap (λ (t : Token). ts ++ t ∷ []) (plain_token b w))
     ∙ ap (can_match asked) (append_assoc ts (literal b ∷ []) (star ∷ []))
 
-pub word_told : StaysClosed → TokensAreThePattern → (forms : List Form) (front : List ℕ) (ts : List Token) (first bits : ℕ) → forms ≡ asked → ts ≡ tokens front
-    → ((i : ℕ) → i < 128 → has_bit bits i ≡ can_match forms (followed ts (first + i)))
-    → (i : ℕ) → i < 128 → is_wild (first + i) ≡ false → Stays front (first + i) → has_bit bits i ≡ can_begin asked (tokens (front ++ (first + i) ∷ []))
-word_told stays cut forms front ts first bits e same told i h w k =
-    told i h
-    ∙ ap (λ (fs : List Form). can_match fs (followed ts (first + i))) e
-    ∙ sym (begun_by front ts (first + i) (kept_front stays cut front ts (first + i) same k) w)
+pub bytes_told : StaysClosed → TokensAreThePattern → (forms : List Form) (front : List ℕ) (ts : List Token) (bytes : Bytes) → forms ≡ asked → ts ≡ tokens front
+    → ((b : ℕ) → b < 256 → has_byte bytes b ≡ can_match forms (followed ts b)) → AreAfter front bytes
+bytes_told stays cut forms front ts bytes e same told = λ b h w k.
+    told b h
+    ∙ ap (λ (fs : List Form). can_match fs (followed ts b)) e
+    ∙ sym (begun_by front ts b (kept_front stays cut front ts b same k) w)
 
 -- ---- each form has ways
 every_joined : (A : Type 0) (Told : A → Type 0) (a b : List A) → Every A Told a → Every A Told b → Every A Told (a ++ b)
@@ -234,15 +192,7 @@ known_ways = (tt, (tt, (tt, (tt, (tt, (tt, (tt, (tt, (tt, (tt, (tt, (tt, (tt, (t
 pub asked_ways : Every Form HasWays asked
 asked_ways = every_joined Form HasWays (map (λ k. k.form) known) (map free free_prefixes) known_ways (free_ways free_prefixes)
 
--- ---- the loop over 64 bytes
-pub bytes_none : (set : ByteSet) (first : ℕ) → 0 ≡ bytes_of set first 0
-unfolding bytes_of
-bytes_none set first = refl
-
-pub bytes_next : (set : ByteSet) (first at n old new own : ℕ) (m : Bool) → n ≡ suc at → m ≡ is_in set (first + at) → own ≡ 2 ^ at → new ≡ (if m then bit_or old own else old) → old ≡ bytes_of set first at → new ≡ bytes_of set first n
-unfolding bytes_of
-bytes_next set first at n old new own m e s o k before = k ∙ rw (o, before, s, e) refl
-
+-- ---- one bit
 pub one_bit : (k : ℕ) → k < 128 → 1 * 2 ^ k % 340282366920938463463374607431768211456 ≡ 2 ^ k
 one_bit k h = one_shl k 128 h
 

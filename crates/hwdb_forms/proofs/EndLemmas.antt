@@ -10,7 +10,6 @@ use Rattle.hwdb_forms.specs.declared.leads.Passed.TheVariants.{No, Yes}
 use Rattle.hwdb_forms.specs.declared.leads.Lead.{Lead}
 use Rattle.hwdb_forms.specs.declared.pieces.Piece as Rust
 use Rattle.hwdb_forms.specs.Internal.{HaveWays, IsFamily, Leads, StarEnds, fields_of, passed_counted, piece_of, views, way_met}
-use Rattle.hwdb_forms.proofs.LoopLemmas.{none, views_length}
 use Rattle.hwdb_forms.proofs.LeadLemmas.{cases, counted_family, counted_tells, fields_family, if_alive, pieces_family, token_of}
 
 pub if_either : (b x : Bool) → x ≡ true → (if b then true else x) ≡ true
@@ -92,67 +91,3 @@ pub many_next : (set : ByteSet) (t : Token) (ts : List Token) (rows : List Token
 unfolding many_row
 many_next set t ts rows f s m h =
     many_true (is_star t) (meets t set) (head (rows (t ∷ ts))) (head (many_row set ts (tail (rows (t ∷ ts))))) s m (ap (λ (r : List Bool). head (many_row set ts r)) (f t ts) ∙ h)
-
-pub many_ended : (set : ByteSet) (m : ℕ) (ts : List Token) → passed_counted set m ts ≡ Yes → drop m ts ≡ star ∷ [] → StarEnds (repeated set) ts
-many_ended set zero [] e d = cc
-many_ended set zero (t ∷ ts) e d = λ rows f h. subst (λ (us : List Token). head (many_row set us (rows us)) ≡ true) (sym d) (star_many set (rows (star ∷ [])) h)
-many_ended set (suc m) [] e d = cc
-many_ended set (suc m) (t ∷ ts) e d = λ rows f h.
-    let c : (is_star t ≡ false) × ((meets t set ≡ false → Yes ≡ No) × (meets t set ≡ true → passed_counted set m ts ≡ Yes)) =
-    cases (is_star t) (meets t set) (passed_counted set m ts) Yes e (λ u. cc) in
-    let met : meets t set ≡ true = by (meets t set) refl c.1.0 in
-    many_next set t ts rows f c.0 met (many_ended set m ts (c.1.1 met) d rows f h)
-  where
-    by : (b : Bool) → meets t set ≡ b → (meets t set ≡ false → Yes ≡ No) → meets t set ≡ true
-    by true k n = k
-    by false k n = absurd (let x : Yes ≡ No = n k in cc)
-
-pub many_seen : (set : ByteSet) (ts : List Token) (found : Option ℕ) (b : Bool) → b ≡ is_some found → b ≡ true → IfSome found (λ n. passed_counted set n ts ≡ Yes) → IfSome found (λ n. drop n ts ≡ star ∷ []) → StarEnds (repeated set) ts
-many_seen set ts None b is some passed last = absurd (let no : true ≡ false = sym some ∙ is in cc)
-many_seen set ts (Some n) b is some passed last = many_ended set n ts passed last
-
-starred : (t : Token) → is_star t ≡ true → t ≡ star
-starred star e = refl
-starred one e = cc
-starred (literal b) e = cc
-starred (bracket b) e = cc
-
--- the last of some texts
-pub last_star : (texts : List (Bor (List ℕ))) (at : ℕ) (b : Bool) → at < length texts → length texts ≤ suc at → b ≡ is_star (token_at (get_or texts at none).now) → b ≡ true → drop at (views texts) ≡ star ∷ []
-last_star texts at b h k e t =
-    token_of texts at h
-    ∙ ap (λ (u : Token). u ∷ drop (suc at) (views texts)) (starred (token_at (get_or texts at none).now) (sym e ∙ t))
-    ∙ ap (λ (us : List Token). star ∷ us) (drop_all (suc at) (views texts) (subst (λ (n : ℕ). n ≤ suc at) (sym (views_length texts)) k))
-
--- ---- fields
-pub way_there : (fields : List (Bor (List (Bor (List Rust.Piece))))) (i n : ℕ) (d : Bor (List (Bor (List Rust.Piece)))) → i < length fields → n ≡ suc i → (length (get_or fields i d).now ≡ 0 → ⊥)
-    → (HaveWays (fields_of (drop i fields)) → HaveWays (fields_of fields)) → HaveWays (fields_of (drop n fields)) → HaveWays (fields_of fields)
-way_there fields i n d h k some before have =
-    let next : i + 1 ≡ n = omega (arith, k) in
-    before (subst (λ (fs : List (Bor (List (Bor (List Rust.Piece))))). HaveWays (fields_of fs)) (sym (drop_more fields i d h ∙ ap (λ (j : ℕ). get_or fields i d ∷ drop j fields) next))
-    (one_more (get_or fields i d).now some))
-  where
-    one_more : (ways : List (Bor (List Rust.Piece))) → (length ways ≡ 0 → ⊥) → HaveWays (map (λ way. map piece_of way.now) ways ∷ fields_of (drop n fields))
-    one_more [] none = absurd (none refl)
-    one_more (way ∷ ways) none = have
-
-pub all_ways : (fields : List (Bor (List (Bor (List Rust.Piece))))) (i : ℕ) → length fields ≤ i → (HaveWays (fields_of (drop i fields)) → HaveWays (fields_of fields)) → HaveWays (fields_of fields)
-all_ways fields i h before = before (subst (λ (fs : List (Bor (List (Bor (List Rust.Piece))))). HaveWays (fields_of fs)) (sym (drop_all i fields h)) tt)
-
--- ---- what is seen
-pub seen : (pieces : List Rust.Piece) (d : Rust.Piece) (fields : List (List (List Piece))) (ts : List Token) → 0 < length pieces → StarEnds (piece_of (get_or pieces 0 d)) ts → HaveWays fields → way_met (map piece_of pieces) fields ts ≡ true
-unfolding pieces_row
-seen [] d fields ts h ends have = absurd (omega arith)
-seen (p ∷ more) d fields ts h ends have =
-    ends (λ us. pieces_row (map piece_of more) us (fields_row fields us)) (pieces_family (map piece_of more) (fields_row fields) (fields_family fields))
-    (star_pieces (map piece_of more) (fields_row fields (star ∷ [])) (star_fields fields have))
-
-pub seen_at_once : (ps : List Piece) (fields : List (List (List Piece))) (ts : List Token) → ts ≡ star ∷ [] → HaveWays fields → way_met ps fields ts ≡ true
-seen_at_once ps fields ts e have =
-    subst (λ (us : List Token). way_met ps fields us ≡ true) (sym e) (star_pieces ps (fields_row fields (star ∷ [])) (star_fields fields have))
-
-pub way_seen : (ps qs : List Piece) (fields : List (List (List Piece))) (ts us : List Token) (lead : Lead) → Leads ps ts lead → lead.is_dead ≡ false → qs ≡ drop lead.pieces ps → us ≡ drop lead.tokens ts → way_met qs fields us ≡ true → true ≡ way_met ps fields ts
-way_seen ps qs fields ts us lead l e q u h =
-    sym (l (fields_row fields) (fields_family fields)
-    ∙ if_alive lead.is_dead (head (pieces_row (drop lead.pieces ps) (drop lead.tokens ts) (fields_row fields (drop lead.tokens ts)))) e
-    ∙ rw (sym q, sym u) h)

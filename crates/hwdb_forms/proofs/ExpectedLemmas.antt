@@ -27,10 +27,6 @@ pub last_done : (p : ℕ → Bool) (n b : ℕ) (old new whole : List ℕ) → n 
 unfolding all_bytes_from
 last_done p n b old new whole e h w = append_none new ∙ byte_done p n b 0 (suc b) old new whole e refl h w
 
-pub all_done : (p : ℕ → Bool) (n b : ℕ) (new whole : List ℕ) → n ≡ 0 → new ++ filter p (all_bytes_from n b) ≡ whole → new ≡ whole
-unfolding all_bytes_from
-all_done p n b new whole e w = append_none new ∙ ap (λ (k : ℕ). new ++ filter p (all_bytes_from k b)) (sym e) ∙ w
-
 -- a byte that is asked, or that is a wildcard
 pub wild_passed : (forms : List Form) (front : List ℕ) (b : ℕ) (old : List ℕ) → is_wild b ≡ true → old ≡ old ++ filter (is_expected forms front) (b ∷ [])
 wild_passed forms front b old e = append_none old ∙ ap (λ (l : List ℕ). old ++ l) (by (is_wild b) _ e)

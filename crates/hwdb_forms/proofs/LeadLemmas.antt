@@ -12,7 +12,7 @@ use Rattle.hwdb_forms.specs.declared.leads.Passed.{Passed}
 use Rattle.hwdb_forms.specs.declared.leads.Lead.{Lead}
 use Rattle.hwdb_forms.specs.declared.pieces.Piece as Rust
 use Rattle.hwdb_forms.specs.Internal.{IsFamily, Leads, fields_of, is_no, passed, passed_counted, passed_fixed, piece_of, piece_size, views, way_met}
-use Rattle.hwdb_forms.proofs.LoopLemmas.{below, none, split, view_at, views_length}
+use Rattle.hwdb_forms.proofs.ViewLemmas.{below, none, split, view_at, views_length}
 
 -- the loops
 long_drop : (A : Type 0) (l : List A) (n : ℕ) → length l ≤ n → drop n l ≡ []
@@ -397,7 +397,7 @@ or_none : (b : Bool) → (if b then true else false) ≡ b
 or_none true = refl
 or_none false = refl
 
-either_none : (ts : List Token) (left : List Bool) → head (either_row ts left (none_row ts)) ≡ head left
+pub either_none : (ts : List Token) (left : List Bool) → head (either_row ts left (none_row ts)) ≡ head left
 unfolding either_row none_row
 either_none [] left = or_none (head left)
 either_none (t ∷ ts) left = or_none (head left)

@@ -1,7 +1,7 @@
 pub mod MeetLemmas
 pub mod RowLemmas
 pub mod ReadLemmas
-pub mod LoopLemmas
+pub mod ViewLemmas
 pub mod LeadLemmas
 pub mod EndLemmas
 pub mod PlainLemmas
@@ -12,9 +12,9 @@ pub mod FrontLemmas
 pub mod ExpectedLemmas
 pub mod LikeLemmas
 pub mod GuessLemmas
-pub mod CellLemmas
+pub mod StepLemmas
 pub mod OpenLemmas
 pub mod KeptLemmas
-pub mod CellLoopLemmas
+pub mod WalkLemmas
 pub mod AfterLemmas
 pub mod LongestLemmas

@@ -1,5 +1,5 @@
 -- What the proofs of this crate speak of: forms and languages as they are computed, from the left to the right.
-use Rattle.std.specs.Prelude.{ℕ, Bool, false, true, List, [], ◌∷◌, ◌++◌, IsTrue, ◌≡◌, ◌≤◌, ◌<◌, ◌⊎◌, ◌==◌, ◌+◌, ◌^◌, if◌then◌else◌, drop, length, map, max, nat_lt, suc, take, zero}
+use Rattle.std.specs.Prelude.{ℕ, Bool, false, true, List, [], ◌∷◌, ◌++◌, IsTrue, ◌≡◌, ◌≤◌, ◌<◌, ◌⊎◌, ◌==◌, ◌+◌, ◌-◌, ◌^◌, if◌then◌else◌, drop, get_or, length, map, nat_lt, set, suc, take, zero}
 use Rattle.std.proofs.Common.{Bor}
 use Rattle.std.specs.List.{list_any}
 use Rattle.std.specs.Int.{bit_at}
@@ -17,9 +17,9 @@ use Rattle.hwdb_forms.specs.declared.pieces.FormRow
 use Rattle.hwdb_forms.specs.declared.leads.Passed.TheVariants.{No, Unknown, Yes}
 use Rattle.hwdb_forms.specs.declared.leads.Passed.{Passed}
 use Rattle.hwdb_forms.specs.declared.leads.Lead.{Lead}
-use Rattle.hwdb_forms.specs.declared.cells.Kind.{Kind}
-use Rattle.hwdb_forms.specs.declared.cells.Kind.TheVariants.{After, Longest}
-use Rattle.hwdb_forms.specs.declared.expecting.Word.{Word}
+use Rattle.hwdb_forms.specs.declared.steps.Step.{Step}
+use Rattle.hwdb_forms.specs.declared.steps.Step.TheVariants.{Byte, Either, End, Many, One}
+use Rattle.hwdb_forms.specs.declared.bytes.Bytes.{Bytes}
 use Rattle.hwdb_forms.specs.declared.expecting.Following.{Following}
 
 -- what a piece of Rust's means, and a form
@@ -215,10 +215,13 @@ IsAsked form = (ts : List Token) → Forms.meets_form ts form ≡ true → Forms
 abbrev pub has_bit : ℕ → ℕ → Bool
 has_bit n i = bit_at n i == 1
 
--- What is told of 128 bytes, from the first one on: whether each that means itself may be written after a front.
-pub record IsWordAfter (front : List ℕ) (w : Word) : Type 0 where
-  pub within : w.first ≤ 128
-  pub told : (i : ℕ) → i < 128 → Forms.is_wild (w.first + i) ≡ false → Stays front (w.first + i) → has_bit w.bits i ≡ Forms.can_begin asked (tokens (front ++ (w.first + i) ∷ []))
+-- whether some bytes have one
+abbrev pub has_byte : Bytes → ℕ → Bool
+has_byte bytes b = if nat_lt b 128 then has_bit bytes.low b else has_bit bytes.high (b - 128)
+
+-- Bytes are those that may be written after a front, as far as they mean themselves and close no bracket.
+abbrev pub AreAfter : (front : List ℕ) → Bytes → Type 0
+AreAfter front bytes = (b : ℕ) → b < 256 → Forms.is_wild b ≡ false → Stays front b → has_byte bytes b ≡ Forms.can_begin asked (tokens (front ++ b ∷ []))
 
 -- Pieces are led through by the first tokens to a place among both.
 abbrev pub LedTo : List Forms.Piece → List Token → ℕ → ℕ → Type 0
@@ -259,102 +262,116 @@ AreFirstWays ([] ∷ fields) templates = ⊥
 AreFirstWays ((way ∷ ways) ∷ fields) [] = ⊥
 AreFirstWays ((way ∷ ways) ∷ fields) (template ∷ more) = (units template ≡ all_parts way) × AreFirstWays fields more
 
--- ---- rows of numbers
--- the first bytes of 128 that are asked for at once
-abbrev pub IsKind : Kind → Type 0
-IsKind Longest = Unit {0}
-IsKind (After first) = first ≤ 128
-
--- what holds if one cell or the other does
-abbrev pub either : Kind → (left other : ℕ) → ℕ
-either Longest left other = max left other
-either (After first) left other = bit_or left other
-
--- what a cell says one token earlier, if that is matched
-abbrev pub earlier : Kind → ℕ → ℕ
-earlier Longest cell = if nat_lt cell 18446744073709551615 then cell + 1 else cell
-earlier (After first) cell = cell
-
+-- ---- bytes of a set
 -- which bytes of a set are among so many, from the first one on: a bit for each
 unfoldable pub bytes_of : ByteSet → ℕ → ℕ → ℕ
 bytes_of set first zero = 0
 bytes_of set first (suc n) = if is_in set (first + n) then bit_or (bytes_of set first n) (2 ^ n) else bytes_of set first n
 
--- the last cell, before a byte of a set
-abbrev pub last_cell : Kind → ByteSet → ℕ
-last_cell Longest set = 0
-last_cell (After first) set = bytes_of set first 128
+-- ---- forms as steps
+-- whether tokens match one byte of a set and what comes after it; any number of them
+unfoldable pub one_met : ByteSet → (List Token → Bool) → List Token → Bool
+one_met set After [] = false
+one_met set After (t ∷ us) = Forms.byte_cell (is_star t) (Forms.meets t set) (After (t ∷ us)) (After us) (one_met set After us)
 
--- the first cell of a row, and the others
-abbrev pub first_cell : List ℕ → ℕ
-first_cell [] = 0
-first_cell (cell ∷ more) = cell
+unfoldable pub many_met : ByteSet → (List Token → Bool) → List Token → Bool
+many_met set After [] = After []
+many_met set After (t ∷ us) = Forms.many_cell (is_star t) (Forms.meets t set) (After (t ∷ us)) (many_met set After us)
 
-abbrev pub more_cells : List ℕ → List ℕ
-more_cells [] = []
-more_cells (cell ∷ more) = more
+-- nothing matches
+abbrev pub never : List Token → Bool
+never us = false
 
--- the cells and rows of `Forms`, of numbers
-abbrev pub byte_number : Kind → (star met : Bool) → (here after next : ℕ) → ℕ
-byte_number kind true met here after next = either kind (earlier kind next) here
-byte_number kind false met here after next = if met then earlier kind after else 0
+-- whether tokens match a text from a place on; each place of some tells that
+abbrev pub met_at : List (List Token → Bool) → ℕ → List Token → Bool
+met_at ls n = get_or ls n never
 
-unfoldable pub byte_numbers : Kind → ByteSet → List Token → List ℕ → List ℕ
-byte_numbers kind set [] row = last_cell kind set ∷ []
-byte_numbers kind set (token ∷ more) row =
-    byte_number kind (is_star token) (Forms.meets token set) (first_cell row) (first_cell (more_cells row)) (first_cell (byte_numbers kind set more (more_cells row)))
-    ∷ byte_numbers kind set more (more_cells row)
+-- the same of a step, by the places before it
+abbrev pub step_met : Step → List (List Token → Bool) → List Token → Bool
+step_met End ls us = Forms.head (Forms.end_row us)
+step_met (Byte own n) ls us = one_met (Only own) (met_at ls n) us
+step_met (One set n) ls us = one_met set (met_at ls n) us
+step_met (Many set n) ls us = many_met set (met_at ls n) us
+step_met (Either n m) ls us = if met_at ls n us then true else met_at ls m us
 
-abbrev pub many_number : Kind → (star met : Bool) → (here next : ℕ) → ℕ
-many_number kind true met here next = either kind here (earlier kind next)
-many_number kind false met here next = either kind here (if met then earlier kind next else 0)
+-- the places of some steps, after others
+unfoldable pub places_after : List (List Token → Bool) → List Step → List (List Token → Bool)
+places_after ls [] = ls
+places_after ls (s ∷ more) = places_after (ls ++ step_met s ls ∷ []) more
 
-unfoldable pub many_numbers : Kind → ByteSet → List Token → List ℕ → List ℕ
-many_numbers kind set [] row = either kind (first_cell row) (last_cell kind set) ∷ []
-many_numbers kind set (token ∷ more) row =
-    many_number kind (is_star token) (Forms.meets token set) (first_cell row) (first_cell (many_numbers kind set more (more_cells row)))
-    ∷ many_numbers kind set more (more_cells row)
+abbrev pub places : List Step → List (List Token → Bool)
+places steps = places_after [] steps
 
-unfoldable pub fixed_numbers : Kind → List ℕ → List Token → List ℕ → List ℕ
-fixed_numbers kind [] ts row = row
-fixed_numbers kind (own ∷ more) ts row = byte_numbers kind (Only own) ts (fixed_numbers kind more ts row)
+-- a star alone matches a text from each place on
+abbrev pub AreLive : List (List Token → Bool) → Type 0
+AreLive ls = (n : ℕ) → n < length ls → met_at ls n (star ∷ []) ≡ true
 
-unfoldable pub counted_numbers : Kind → ByteSet → ℕ → List Token → List ℕ → List ℕ
-counted_numbers kind set zero ts row = row
-counted_numbers kind set (suc n) ts row = byte_numbers kind set ts (counted_numbers kind set n ts row)
+-- a place has these rows
+abbrev pub HasRows : List Step → ℕ → (List Token → List Bool) → Type 0
+HasRows steps place rows = (us : List Token) → met_at (places steps) place us ≡ Forms.head (rows us)
 
-abbrev pub piece_numbers : Kind → Forms.Piece → List Token → List ℕ → List ℕ
-piece_numbers kind (fixed bytes) ts row = fixed_numbers kind bytes ts row
-piece_numbers kind (counted set n) ts row = counted_numbers kind set n ts row
-piece_numbers kind (repeated set) ts row = many_numbers kind set ts row
+-- Steps were put after others, and their place has other rows than the one after them.
+pub record IsPut (old new : List Step) (next place : ℕ) (row_of : (List Token → List Bool) → List Token → List Bool) : Type 0 where
+  pub grown : (more : List Step) × (new ≡ old ++ more)
+  pub within : place < length new
+  pub live : AreLive (places old) → AreLive (places new)
+  pub told : (rows : List Token → List Bool) → IsFamily rows → HasRows old next rows → HasRows new place (row_of rows)
 
-unfoldable pub pieces_numbers : Kind → List Forms.Piece → List Token → List ℕ → List ℕ
-pieces_numbers kind [] ts row = row
-pieces_numbers kind (piece ∷ more) ts row = piece_numbers kind piece ts (pieces_numbers kind more ts row)
+-- Steps are those of a form or of its end: from the entry on tokens match what the rows tell.
+pub record IsLaid (steps : List Step) (entry : ℕ) (rows : List Token → List Bool) : Type 0 where
+  pub within : entry < length steps
+  pub live : AreLive (places steps)
+  pub told : HasRows steps entry rows
 
-unfoldable pub either_numbers : Kind → List Token → List ℕ → List ℕ → List ℕ
-either_numbers kind [] left other = either kind (first_cell left) (first_cell other) ∷ []
-either_numbers kind (token ∷ more) left other = either kind (first_cell left) (first_cell other) ∷ either_numbers kind more (more_cells left) (more_cells other)
+-- ---- walks
+-- marks, and one more if it is before an end
+abbrev pub marked : List Bool → (place end : ℕ) → List Bool
+marked marks place end = if nat_lt place end then set marks place true else marks
 
-unfoldable pub none_numbers : List Token → List ℕ
-none_numbers [] = 0 ∷ []
-none_numbers (token ∷ more) = 0 ∷ none_numbers more
+-- whether tokens match a text from a marked place on
+abbrev pub any_met : List Bool → List (List Token → Bool) → List Token → Bool
+any_met [] ls us = false
+any_met (mark ∷ marks) [] us = false
+any_met (true ∷ marks) (place ∷ ls) us = if place us then true else any_met marks ls us
+any_met (false ∷ marks) (place ∷ ls) us = any_met marks ls us
 
-unfoldable pub end_numbers : Kind → List Token → List ℕ
-end_numbers kind [] = 0 ∷ []
-end_numbers kind (token ∷ more) = (if is_star token then earlier kind (first_cell (end_numbers kind more)) else 0) ∷ end_numbers kind more
+-- the same of the marks below a place before a token, and of those after it
+abbrev pub left : ℕ → (now next : List Bool) → List (List Token → Bool) → Token → List Token → Bool
+left n now next ls t us = if any_met (take n now) ls (t ∷ us) then true else any_met next ls us
 
-unfoldable pub field_numbers : Kind → List (List Forms.Piece) → List Token → List ℕ → List ℕ
-field_numbers kind [] ts row = none_numbers ts
-field_numbers kind (way ∷ more) ts row = either_numbers kind ts (pieces_numbers kind way ts row) (field_numbers kind more ts row)
+-- a place tells what its step does
+abbrev pub IsPlace : List (List Token → Bool) → ℕ → Step → Type 0
+IsPlace ls n step = (us : List Token) → met_at ls n us ≡ step_met step (take n ls) us
 
-unfoldable pub fields_numbers : Kind → List (List (List Forms.Piece)) → List Token → List ℕ
-fields_numbers kind [] ts = end_numbers kind ts
-fields_numbers kind (field ∷ more) ts = field_numbers kind field ts (fields_numbers kind more ts)
+-- the marks after those that a step leads to without a byte
+abbrev pub led : Step → ℕ → List Bool → List Bool
+led End n marks = marks
+led (Byte own to) n marks = marks
+led (One set to) n marks = marks
+led (Many set to) n marks = marked marks to n
+led (Either way other) n marks = marked (marked marks way n) other n
 
--- the first cell of a form's row
-abbrev pub form_number : Kind → List Token → Forms.Form → ℕ
-form_number kind ts form = first_cell (fixed_numbers kind form.prefix ts (fields_numbers kind form.fields ts))
+-- whether a step is the text's end
+abbrev pub is_end : Step → Bool
+is_end End = true
+is_end (Byte own to) = false
+is_end (One set to) = false
+is_end (Many set to) = false
+is_end (Either way other) = false
+
+-- whether a step takes a byte
+abbrev pub takes_byte : Step → ℕ → Bool
+takes_byte End b = false
+takes_byte (Byte own to) b = is_in (Only own) b
+takes_byte (One set to) b = is_in set b
+takes_byte (Many set to) b = is_in set b
+takes_byte (Either way other) b = false
+
+-- So many of the tokens, at most, with a star after them, are matched.
+pub record IsFar (told : List Token → Bool) (ts : List Token) (n : ℕ) : Type 0 where
+  pub within : n ≤ length ts
+  pub met : 0 < n → told (take n ts ++ star ∷ []) ≡ true
+  pub none : (more : ℕ) → n < more → more ≤ length ts → told (take more ts ++ star ∷ []) ≡ false
 
 -- tokens, then a byte that means itself, and then any
 abbrev pub followed : List Token → ℕ → List Token

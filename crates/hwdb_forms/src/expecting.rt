@@ -1,22 +1,20 @@
 //! What can be written at a place of a pattern.
-ghost use Rattle.std.specs.Prelude.{◌≡◌, ℕ, ◌+◌, ◌-◌, ◌<◌, ◌≤◌, ◌++◌, ◌∷◌, [], false, filter, map, IfOk};
+ghost use Rattle.std.specs.Prelude.{◌≡◌, ℕ, ◌<◌, ◌++◌, ◌∷◌, [], false, filter, map, IfOk};
 ghost use Rattle.hwdb_spec.specs.Patterns.{tokens};
 ghost use Rattle.hwdb_spec.specs.Forms;
 ghost use Rattle.hwdb_spec_commands.specs.FormTable;
 ghost use Rattle.hwdb_spec_commands.specs.FormTable.{asked};
-ghost use Rattle.hwdb_forms.specs.Internal.{Every, HasWays, IsAfter, IsWordAfter, followed, form_of, has_bit, views};
+ghost use Rattle.hwdb_forms.specs.Internal.{AreAfter, Every, HasWays, IsAfter, followed, form_of, has_byte, views};
 
 use crate::beginnings::{free, free_prefixes};
-use crate::cells::form_bits;
+use crate::bytes::{Bytes, are_with, joined, no_bytes};
 use crate::judging::can_begin;
 use crate::pieces::FormRow;
 use crate::plain::is_wild;
 use crate::table::known;
+use crate::walks::bytes_along;
 use hwdb_pattern::{closed_bracket_stays, open_place, token_texts, tokens_are_the_pattern};
 use std::alloc::{AllocError, Global};
-
-/// How many tokens there is room for at first. Most patterns have fewer.
-pub(crate) const ROOM: usize = 64;
 
 /// What is known of the beginning of a pattern: it is the same for each byte after it.
 #[derive(Drop)]
@@ -71,76 +69,45 @@ fn begins_anew(alloc: Global, front: &[u8], byte: u8) -> Result<bool, AllocError
     Ok(met)
 }
 
-/// Which of 128 bytes may be written after the beginning of a pattern.
-#[derive(Clone, Copy)]
-struct Word {
-    /// The first of these bytes.
-    first: u8,
-    /// A bit for each, the lowest one for the first.
-    bits: u128,
-}
-
-/// Which of 128 bytes, from the first one on, may come after all tokens in a text of one of the forms.
-fn bits_after(
-    alloc: Global,
-    forms: &[FormRow],
-    tokens: &[&[u8]],
-    first: u8,
-) -> Result<u128, AllocError>
-    requires first { first ≤ 128 }
-    requires ways { Every Forms.Form HasWays (map form_of forms.now) }
-    ensures { IfOk result (λ bits. (i : ℕ) → i < 128 → has_bit bits i
-        ≡ Forms.can_match (map form_of forms.now) (followed (views tokens.now) (first + i))) }
+/// Which bytes may come after all tokens in a text of one of the forms.
+fn bytes_among(alloc: Global, forms: &[FormRow], tokens: &[&[u8]]) -> Result<Bytes, AllocError>
+    requires { Every Forms.Form HasWays (map form_of forms.now) }
+    ensures { IfOk result (λ bytes. (byte : ℕ) → byte < 256 → has_byte bytes byte
+        ≡ Forms.can_match (map form_of forms.now) (followed (views tokens.now) byte)) }
 {
-    let mut bits = 0u128;
+    let mut bytes = no_bytes();
     for form in forms {
-        let own = form_bits(alloc, first, *form, tokens)?;
-        bits = bits | own;
+        let own = bytes_along(alloc, *form, tokens)?;
+        bytes = joined(bytes, own);
     }
-    Ok(bits)
+    Ok(bytes)
 }
 
-/// Which of 128 bytes, from the first one on, may be written there. Of a `]` nothing is told if a `[` is open.
-fn word_after(
-    alloc: Global,
-    known: &Following<'_>,
-    front: &[u8],
-    first: u8,
-) -> Result<Word, AllocError>
-    requires known { IsAfter front.now known.now }
-    requires first { first ≤ 128 }
-    ensures told { IfOk result (IsWordAfter front.now) }
-    ensures first { IfOk result (λ word. word.first ≡ first) }
+/// Which bytes may be written after the beginning of a pattern. Of a `]` nothing is told if a `[` is open.
+fn bytes_after(alloc: Global, known: &Following<'_>, front: &[u8]) -> Result<Bytes, AllocError>
+    requires { IsAfter front.now known.now }
+    ensures { IfOk result (AreAfter front.now) }
 {
     closed_bracket_stays();
     tokens_are_the_pattern();
     let forms = all_forms(alloc)?;
-    let bits = bits_after(alloc, &forms, &known.tokens, first)?;
-    Ok(Word { first, bits })
+    let bytes = bytes_among(alloc, &forms, &known.tokens)?;
+    Ok(bytes)
 }
 
-/// Whether the number has the bit.
-fn has_bit(bits: u128, at: u8) -> bool
-    requires { at < 128 }
-    ensures { result ≡ has_bit bits at }
-{
-    (bits >> at) % 2 == 1
-}
-
-/// Whether a text that udev asks begins with what the beginning of a pattern and the byte after it match. `last` is what was told
-/// of the bytes around the one before.
+/// Whether a text that udev asks begins with what the beginning of a pattern and the byte after it match. `after` is what is known of
+/// the bytes there.
 fn begins(
     alloc: Global,
     known: &Following<'_>,
     front: &[u8],
-    last: &mut Word,
+    after: Bytes,
     byte: u8,
 ) -> Result<bool, AllocError>
     requires known { IsAfter front.now known.now }
-    requires last { IsWordAfter front.now last.old }
+    requires after { AreAfter front.now after }
     requires plain { Forms.is_wild byte ≡ false }
-    ensures last { IfOk result (λ met. IsWordAfter front.now last.new) }
-    ensures met { IfOk result (λ met. met
+    ensures { IfOk result (λ met. met
         ≡ Forms.can_begin asked (tokens (front.now ++ byte ∷ []))) }
 {
     if byte == b']' {
@@ -149,12 +116,7 @@ fn begins(
             return Ok(met);
         }
     }
-    let first = byte / 128 * 128;
-    if last.first != first {
-        let word = word_after(alloc, known, front, first)?;
-        *last = word;
-    }
-    Ok(has_bit(last.bits, byte - first))
+    Ok(are_with(after, byte))
 }
 
 /// Adds the byte if it is no wildcard, and may be written there.
@@ -162,20 +124,19 @@ fn put_expected(
     alloc: Global,
     known: &Following<'_>,
     front: &[u8],
-    last: &mut Word,
+    after: Bytes,
     byte: u8,
     bytes: &mut Vec<u8>,
 ) -> Result<(), AllocError>
     requires known { IsAfter front.now known.now }
-    requires last { IsWordAfter front.now last.old }
-    ensures last { IfOk result (λ done. IsWordAfter front.now last.new) }
-    ensures bytes { IfOk result (λ done. bytes.new.items
+    requires after { AreAfter front.now after }
+    ensures { IfOk result (λ done. bytes.new.items
         ≡ bytes.old.items ++ filter (Forms.is_expected asked front.now) (byte ∷ [])) }
 {
     if is_wild(byte) {
         return Ok(());
     }
-    let met = begins(alloc, known, front, last, byte)?;
+    let met = begins(alloc, known, front, after, byte)?;
     if met {
         bytes.push(byte)?;
     }
@@ -189,39 +150,14 @@ fn put_expected(
 pub fn expected(alloc: Global, front: &[u8]) -> Result<Vec<u8>, AllocError>
     ensures { IfOk result (λ bytes. bytes.items ≡ Forms.expected asked front.now) }
 {
-    let bytes = expected_from(alloc, front, 0)?;
-    Ok(bytes)
-}
-
-/// As `expected`, of the bytes from a first one on.
-pub fn expected_from(alloc: Global, front: &[u8], first: u8) -> Result<Vec<u8>, AllocError>
-    ensures { IfOk result (λ bytes. bytes.items
-        ≡ filter (Forms.is_expected asked front.now) (Forms.all_bytes_from (256 - first) first)) }
-{
     let known = known_after(alloc, front)?;
-    let mut last = word_after(alloc, &known, front, first / 128 * 128)?;
-    let mut bytes = Vec::new(alloc);
-    let mut byte = first;
-    while byte < u8::MAX {
-        put_expected(alloc, &known, front, &mut last, byte, &mut bytes)?;
-        byte += 1;
-    }
-    put_expected(alloc, &known, front, &mut last, byte, &mut bytes)?;
-    Ok(bytes)
-}
-
-/// As `expected`, of the bytes below an end.
-pub fn expected_below(alloc: Global, front: &[u8], end: u8) -> Result<Vec<u8>, AllocError>
-    ensures { IfOk result (λ bytes. bytes.items
-        ≡ filter (Forms.is_expected asked front.now) (Forms.all_bytes_from end 0)) }
-{
-    let known = known_after(alloc, front)?;
-    let mut last = word_after(alloc, &known, front, 0)?;
+    let after = bytes_after(alloc, &known, front)?;
     let mut bytes = Vec::new(alloc);
     let mut byte = 0u8;
-    while byte < end {
-        put_expected(alloc, &known, front, &mut last, byte, &mut bytes)?;
+    while byte < u8::MAX {
+        put_expected(alloc, &known, front, after, byte, &mut bytes)?;
         byte += 1;
     }
+    put_expected(alloc, &known, front, after, byte, &mut bytes)?;
     Ok(bytes)
 }

@@ -1,67 +1,86 @@
 //! What is said of a pattern.
-ghost use Rattle.std.specs.Prelude.{◌≡◌, ◌↔◌, ◌≤◌, ◌++◌, ◌∷◌, List, [], length, map, take, true, IfOk};
-ghost use Rattle.hwdb_spec.specs.Patterns.{star, tokens as tokens_of};
+ghost use Rattle.std.specs.Prelude.{◌≡◌, ◌↔◌, ◌<◌, ◌≤◌, ◌+◌, ◌++◌, ◌∷◌, List, [], false, length, map, IfOk};
+ghost use Rattle.hwdb_spec.specs.Patterns.{tokens as tokens_of};
 ghost use Rattle.hwdb_spec.specs.Forms.{CanMatch, judged};
 ghost use Rattle.hwdb_spec.specs.Forms;
 ghost use Rattle.hwdb_spec_commands.specs.FormTable;
 ghost use Rattle.hwdb_spec_commands.specs.Surroundings;
 ghost use Rattle.hwdb_forms.specs.Internal.{Every, HasWays, IsFront, form_of, views};
 
-use crate::beginnings::{free, free_prefixes};
-use crate::expecting::{ROOM, all_forms};
+use crate::expecting::all_forms;
 use crate::guesses::is_fine_at_once;
-use crate::leads::{Passed, pass_fixed};
-use crate::longest::longest_of;
 use crate::pieces::FormRow;
-use crate::rows::meets_form;
-use crate::table::known;
+use crate::walks::{Far, far_along, is_dead_at_once};
 use hwdb_pattern::{front_size, token_texts};
 use hwdb_spec::Judgement;
 use std::alloc::{AllocError, Global};
 
-/// How many tokens more are looked at first, to see whether a form goes wrong there.
-const MORE: usize = 12;
+/// One more, up to a count.
+fn one_more(low: usize, count: usize) -> usize
+    requires { low ≤ count }
+    ensures less { low < count → result ≡ low + 1 }
+    ensures all { count ≤ low → result ≡ low }
+    ensures within { result ≤ count }
+{
+    if low < count { low + 1 } else { low }
+}
 
-/// Whether the tokens match a text of one of these forms.
-fn match_one(alloc: Global, forms: &[FormRow], tokens: &[&[u8]]) -> Result<bool, AllocError>
-    ensures { IfOk result (λ met. met
+/// How far the tokens go along the form and those before it. `low` is how many of them, at most, a text of those begins with.
+fn reach_with(alloc: Global, form: FormRow, tokens: &[&[u8]], low: usize) -> Result<Far, AllocError>
+    requires low { low ≤ length tokens.now }
+    requires ways { HasWays (form_of form) }
+    ensures met { IfOk result (λ far. far.is_met
+        ≡ Forms.meets_form (views tokens.now) (form_of form)) }
+    ensures front { IfOk result (λ far. (forms : List Forms.Form)
+        → IsFront forms (views tokens.now) low
+        → IsFront (forms ++ form_of form ∷ []) (views tokens.now) far.front) }
+{
+    let some = one_more(low, tokens.len());
+    if is_dead_at_once(form, &tokens[..some]) {
+        return Ok(Far {
+            front: low,
+            is_met: false,
+        });
+    }
+    let far = far_along(alloc, form, tokens)?;
+    Ok(Far {
+        front: low.max(far.front),
+        is_met: far.is_met,
+    })
+}
+
+/// How far the tokens go along the forms. If they match a text of one, how many of them a text begins with isn't told.
+fn reach(alloc: Global, forms: &[FormRow], tokens: &[&[u8]]) -> Result<Far, AllocError>
+    requires { Every Forms.Form HasWays (map form_of forms.now) }
+    ensures met { IfOk result (λ far. far.is_met
         ≡ Forms.can_match (map form_of forms.now) (views tokens.now)) }
+    ensures front { IfOk result (λ far. far.is_met ≡ false
+        → IsFront (map form_of forms.now) (views tokens.now) far.front) }
 {
+    let mut low = 0;
     for form in forms {
-        if meets_form(alloc, *form, tokens)? {
-            return Ok(true);
+        let far = reach_with(alloc, *form, tokens, low)?;
+        if far.is_met {
+            return Ok(far);
         }
+        low = far.front;
     }
-    Ok(false)
+    Ok(Far {
+        front: low,
+        is_met: false,
+    })
 }
 
-/// Whether the tokens match a text of a form of which only the prefix is said.
-fn match_free(
-    alloc: Global,
-    prefixes: &[&'static [u8]],
-    tokens: &[&[u8]],
-) -> Result<bool, AllocError>
-    ensures { IfOk result (λ met. met
-        ≡ Forms.can_match (map (λ prefix. FormTable.free prefix.now) prefixes.now)
-        (views tokens.now)) }
+/// How far the tokens go along the forms that are asked.
+fn reach_asked(alloc: Global, tokens: &[&[u8]]) -> Result<Far, AllocError>
+    ensures met { IfOk result (λ far. far.is_met
+        ≡ Forms.can_match FormTable.asked (views tokens.now)) }
+    ensures front { IfOk result (λ far. far.is_met ≡ false → far.front
+        ≡ Forms.front_length FormTable.asked (views tokens.now)) }
 {
-    for prefix in prefixes {
-        if meets_form(alloc, free(prefix), tokens)? {
-            return Ok(true);
-        }
-    }
-    Ok(false)
-}
-
-/// Whether the tokens match a text that is asked.
-fn can_match(alloc: Global, tokens: &[&[u8]]) -> Result<bool, AllocError>
-    ensures { IfOk result (λ met. met ≡ Forms.can_match FormTable.asked (views tokens.now)) }
-{
-    if match_one(alloc, &known(), tokens)? {
-        return Ok(true);
-    }
-    let met = match_free(alloc, free_prefixes(), tokens)?;
-    Ok(met)
+    let forms = all_forms(alloc)?;
+    let far = reach(alloc, &forms, tokens)?;
+    Ok(far)
 }
 
 /// Whether a text that is asked begins with what the tokens match.
@@ -70,91 +89,8 @@ pub(crate) fn can_begin(alloc: Global, front: &[&[u8]]) -> Result<bool, AllocErr
 {
     let mut tokens = front.to_vec(alloc)?;
     tokens.push(b"*")?;
-    let met = can_match(alloc, &tokens)?;
-    Ok(met)
-}
-
-/// Whether a text of the form begins with what the tokens match.
-fn begins(alloc: Global, form: FormRow, front: &[&[u8]]) -> Result<bool, AllocError>
-    ensures { IfOk result (λ met. met
-        ≡ Forms.meets_form (views front.now ++ star ∷ []) (form_of form)) }
-{
-    if let Passed::No = pass_fixed(form.prefix, front) {
-        return Ok(false);
-    }
-    let mut tokens = Vec::with_capacity(alloc, ROOM)?;
-    tokens.extend_from_slice(front)?;
-    tokens.push(b"*")?;
-    let met = meets_form(alloc, form, &tokens)?;
-    Ok(met)
-}
-
-/// As `longest_of`. Most forms go wrong a few tokens after those that are begun with already: then the others don't matter.
-fn longest_after(
-    alloc: Global,
-    form: FormRow,
-    tokens: &[&[u8]],
-    few: usize,
-) -> Result<usize, AllocError>
-    requires few { few ≤ length tokens.now }
-    requires ways { HasWays (form_of form) }
-    requires begun { Forms.meets_form (take few (views tokens.now) ++ star ∷ []) (form_of form)
-        ≡ true }
-    ensures { IfOk result (IsFront (form_of form ∷ []) (views tokens.now)) }
-{
-    if tokens.len() - few <= MORE {
-        let front = longest_of(alloc, form, tokens, few)?;
-        return Ok(front);
-    }
-    let some = few + MORE;
-    if begins(alloc, form, &tokens[..some])? {
-        let front = longest_of(alloc, form, tokens, some)?;
-        return Ok(front);
-    }
-    let front = longest_of(alloc, form, &tokens[..some], few)?;
-    Ok(front)
-}
-
-/// How many of the tokens, at most, a text of the form or of those before it begins with. `low` is what is found of those.
-fn front_with(
-    alloc: Global,
-    form: FormRow,
-    tokens: &[&[u8]],
-    low: usize,
-) -> Result<usize, AllocError>
-    requires { HasWays (form_of form) }
-    ensures { IfOk result (λ high. (forms : List Forms.Form) → IsFront forms (views tokens.now) low
-        → IsFront (forms ++ form_of form ∷ []) (views tokens.now) high) }
-{
-    if low >= tokens.len() {
-        return Ok(low);
-    }
-    if !begins(alloc, form, &tokens[..low + 1])? {
-        return Ok(low);
-    }
-    let front = longest_after(alloc, form, tokens, low + 1)?;
-    Ok(front)
-}
-
-/// How many of the tokens, at most, a text of one of the forms begins with.
-fn front_among(alloc: Global, forms: &[FormRow], tokens: &[&[u8]]) -> Result<usize, AllocError>
-    requires { Every Forms.Form HasWays (map form_of forms.now) }
-    ensures { IfOk result (IsFront (map form_of forms.now) (views tokens.now)) }
-{
-    let mut low = 0;
-    for form in forms {
-        low = front_with(alloc, *form, tokens, low)?;
-    }
-    Ok(low)
-}
-
-/// How many of a pattern's tokens, at most, a text that is asked begins with.
-fn front_length(alloc: Global, tokens: &[&[u8]]) -> Result<usize, AllocError>
-    ensures { IfOk result (λ front. front ≡ Forms.front_length FormTable.asked (views tokens.now)) }
-{
-    let forms = all_forms(alloc)?;
-    let front = front_among(alloc, &forms, tokens)?;
-    Ok(front)
+    let far = reach_asked(alloc, &tokens)?;
+    Ok(far.is_met)
 }
 
 /// Whether the byte ends a pattern's prefix.
@@ -207,14 +143,14 @@ fn judge_tokens(alloc: Global, pattern: &[u8]) -> Result<Judgement, AllocError>
     ensures told { IfOk result (λ told. told ≡ judged FormTable.asked pattern.now) }
 {
     let tokens = token_texts(alloc, pattern)?;
-    if can_match(alloc, &tokens)? {
+    let far = reach_asked(alloc, &tokens)?;
+    if far.is_met {
         return Ok(Judgement::Fine);
     }
     if is_unknown(alloc, pattern, &tokens)? {
         return Ok(Judgement::UnknownPrefix);
     }
-    let front = front_length(alloc, &tokens)?;
-    Ok(Judgement::Dead(front_size(pattern, front)))
+    Ok(Judgement::Dead(front_size(pattern, far.front)))
 }
 
 /// What is said of a pattern: whether it matches a text that udev asks, and else why not.

@@ -6,6 +6,6 @@ use Rattle.hwdb_forms.proofs.judging.can_begin.Goals as goal
 
 pub returns : goal.returns
 returns c =
-    c.in_ok-met.ensures
+    c.in_ok-far.ensures.met
     ∙ ap (can_match asked) (starred c.args.front.now c.in_ok-tokens.tokens.items c.deref.result.now _
     (c.deref.ensures.value ∙ c.in_ok-push.ensures.items) (c.in_ok-tokens.ensures.items_if_clones_equal (λ x y e. e)) star_is)
