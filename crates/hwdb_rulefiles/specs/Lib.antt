@@ -1,0 +1,2 @@
+pub mod RuleText
+pub mod Views
