@@ -4,3 +4,4 @@ pub mod Escapes
 pub mod EscapeViews
 pub mod RulePairs
 pub mod PairViews
+pub mod RuleKeys
