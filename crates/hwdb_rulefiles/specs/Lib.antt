@@ -5,3 +5,8 @@ pub mod EscapeViews
 pub mod RulePairs
 pub mod PairViews
 pub mod RuleKeys
+pub mod RuleTokens
+pub mod TokenViews
+pub mod RuleOrder
+pub mod RuleLines
+pub mod LineViews
