@@ -40,8 +40,8 @@ one_piece out next p n text rest more b h t e o m =
     ap (λ (l : List ℕ). onto l (first_pieces (n - 1) more)) o
     ∙ onto_onto out (bytes_of p) (first_pieces (n - 1) more)
     ∙ ap (onto out)
-      (ap (λ (l : List ℕ). onto (bytes_of p) (first_pieces (n - 1) l)) (m ∙ ap (drop p.len) t)
-      ∙ sym (one_more (n - 1) n text rest b (omega arith) t ∙ ap (λ (q : Option Piece). followed q (λ len. first_pieces (n - 1) (drop len (b ∷ rest)))) e))
+    (ap (λ (l : List ℕ). onto (bytes_of p) (first_pieces (n - 1) l)) (m ∙ ap (drop p.len) t)
+    ∙ sym (one_more (n - 1) n text rest b (omega arith) t ∙ ap (λ (q : Option Piece). followed q (λ len. first_pieces (n - 1) (drop len (b ∷ rest)))) e))
 
 pub split : (text : List ℕ) → (length text == 0) ≡ false → text ≡ get_or text 0 0 ∷ take (length text - 1) (drop 1 text)
 split [] h = cc

@@ -68,7 +68,7 @@ one_row sofar next row n text rest h some e r a =
     ∙ ap (λ (l : List (List ℕ)). l ++ first_rows (n - 1) rest) (snoc sofar row)
     ∙ append_assoc (map text_of sofar) (row.now ∷ []) (first_rows (n - 1) rest)
     ∙ ap (λ (l : List (List ℕ)). map text_of sofar ++ l)
-      (ap (λ (x : List ℕ). x ∷ first_rows (n - 1) rest) r ∙ ap (λ (x : List ℕ). take (row_len text) text ∷ first_rows (n - 1) x) a ∙ sym (one_more (n - 1) n text (omega arith) some))
+    (ap (λ (x : List ℕ). x ∷ first_rows (n - 1) rest) r ∙ ap (λ (x : List ℕ). take (row_len text) text ∷ first_rows (n - 1) x) a ∙ sym (one_more (n - 1) n text (omega arith) some))
   where
     snoc : (xs : List (Bor (List ℕ))) (x : Bor (List ℕ)) → map text_of (xs ++ (x ∷ [])) ≡ map text_of xs ++ (x.now ∷ [])
     snoc [] x = refl

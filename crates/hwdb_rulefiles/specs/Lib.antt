@@ -10,3 +10,11 @@ pub mod TokenViews
 pub mod RuleOrder
 pub mod RuleLines
 pub mod LineViews
+pub mod RuleJumps
+pub mod Internal
+pub mod RuleFiles
+pub mod ParsedViews
+pub mod RuleFolders
+pub mod FolderNames
+pub mod ChoiceViews
+pub mod RuleRows

@@ -230,13 +230,7 @@ fn valid(code: Option<u32>) -> Option<u32>
 {
     match code {
         None => None,
-        Some(code) => {
-            if is_character(code) {
-                Some(code)
-            } else {
-                None
-            }
-        }
+        Some(code) => { if is_character(code) { Some(code) } else { None } }
     }
 }
 

@@ -3,13 +3,14 @@ ghost use Rattle.std.specs.Prelude.{◌≡◌, ◌≤◌, ◌++◌, length, map,
 ghost use Rattle.std.specs.List.{prefix_len, list_any};
 ghost use Rattle.hwdb_rulefiles.specs.RuleLines;
 ghost use Rattle.hwdb_rulefiles.specs.Views.{whole_of};
-ghost use Rattle.hwdb_rulefiles.specs.PairViews.{attribute_of, part_of};
+ghost use Rattle.hwdb_rulefiles.specs.RuleTokens.{judge as judge_of};
+ghost use Rattle.hwdb_rulefiles.specs.PairViews.{attribute_of, part_of, read_of};
 ghost use Rattle.hwdb_rulefiles.specs.TokenViews.{token_of, verdict_of};
 ghost use Rattle.hwdb_rulefiles.specs.LineViews.{taking_of, line_of, outcome_of};
 
 use crate::findings::{Finding, FindingKind};
 use crate::order::in_order;
-use crate::pairs::{Part, pair_of};
+use crate::pairs::{Pair, Part, pair_of};
 use crate::rows::is_white;
 use crate::tokens::{Token, TokenKind, Verdict, judge};
 use crate::whole::WholeLine;
@@ -144,12 +145,7 @@ impl Taking {
     }
 
     /// A pair begins, before which nothing may be.
-    fn separate(
-        &mut self,
-        line: usize,
-        place: usize,
-        is_joined: bool,
-    ) -> Result<(), AllocError>
+    fn separate(&mut self, line: usize, place: usize, is_joined: bool) -> Result<(), AllocError>
         ensures { OnOk result (taking_of self.new
             ≡ RuleLines.separated (taking_of self.old) line place is_joined) }
     {
@@ -157,6 +153,60 @@ impl Taking {
             return self.find(line, place, FindingKind::NoSeparator);
         }
         Ok(())
+    }
+
+    /// What is still to be read of a line: nothing, if it is left out.
+    fn unless_refused<'b>(&self, more: &'b [u8]) -> Option<&'b [u8]>
+        ensures { attribute_of result ≡ (RuleLines.more_of (taking_of self.now) more.now).1 }
+    {
+        if self.refused {
+            return None;
+        }
+        Some(more)
+    }
+
+    /// A pair is read, before `more`.
+    fn read_pair<'b>(
+        &mut self,
+        alloc: Global,
+        line: usize,
+        place: usize,
+        pair: Pair<'b>,
+        more: &'b [u8],
+    ) -> Result<Option<&'b [u8]>, AllocError>
+        ensures taking { OnOk result (taking_of self.new
+            ≡ RuleLines.took (taking_of self.old) line place (judge_of (read_of pair.entry))) }
+        ensures rest { IfOk result (λ more_left. attribute_of more_left
+            ≡ (RuleLines.more_of (taking_of self.new) more.now).1) }
+    {
+        let verdict = judge(alloc, pair)?;
+        self.take(line, place, verdict)?;
+        Ok(self.unless_refused(more))
+    }
+
+    /// What a text begins with is read.
+    fn read_part<'b>(
+        &mut self,
+        alloc: Global,
+        line: usize,
+        place: usize,
+        part: Part<'b>,
+    ) -> Result<Option<&'b [u8]>, AllocError>
+        ensures taking { OnOk result (taking_of self.new
+            ≡ (RuleLines.part_step (taking_of self.old) line place (part_of part.entry)).0) }
+        ensures rest { IfOk result (λ more. attribute_of more
+            ≡ (RuleLines.part_step (taking_of self.old) line place (part_of part.entry)).1) }
+    {
+        match part {
+            Part::Broken(kind) => {
+                self.refuse(line, place, kind)?;
+                Ok(None)
+            }
+            Part::Read(pair, more) => {
+                let left = self.read_pair(alloc, line, place, pair, more)?;
+                Ok(left)
+            }
+        }
     }
 
     /// The next pair is read, with what is after it; None at the end, or if the line is left out.
@@ -178,19 +228,9 @@ impl Taking {
         }
         let place = text.len().saturating_sub(at.len());
         self.separate(line, place, at.len() == rest.len())?;
-        match pair_of(alloc, at)? {
-            Part::Broken(kind) => {
-                self.refuse(line, place, kind)?;
-                Ok(None)
-            }
-            Part::Read(pair, more) => {
-                self.take(line, place, judge(alloc, pair)?)?;
-                if self.refused {
-                    return Ok(None);
-                }
-                Ok(Some(more))
-            }
-        }
+        let part = pair_of(alloc, at)?;
+        let more = self.read_part(alloc, line, place, part)?;
+        Ok(more)
     }
 }
 
@@ -203,7 +243,8 @@ fn read_pairs(alloc: Global, line: usize, text: &[u8]) -> Result<Taking, AllocEr
     let mut most = text.len();
     while most > 0 {
         most -= 1;
-        match taking.step(alloc, line, text, rest)? {
+        let next = taking.step(alloc, line, text, rest)?;
+        match next {
             None => return Ok(taking),
             Some(more) => rest = more,
         }

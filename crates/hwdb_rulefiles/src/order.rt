@@ -1,5 +1,5 @@
 //! Tokens in the order in which udev runs them, as `sort_tokens` of udev-rules.c has them.
-ghost use Rattle.std.specs.Prelude.{◌≡◌, ◌<◌, ◌++◌, map, filter, not, IfOk, OnOk};
+ghost use Rattle.std.specs.Prelude.{◌≡◌, ◌<◌, ◌++◌, ◌∷◌, [], map, filter, not, IfOk, OnOk};
 ghost use Rattle.hwdb_rulefiles.specs.RuleOrder;
 ghost use Rattle.hwdb_rulefiles.specs.TokenViews.{token_of};
 
@@ -62,6 +62,26 @@ fn rank(kind: TokenKind) -> usize
     }
 }
 
+/// Puts a token among the sorted ones if it has the rank, else among the others.
+fn sort_out(
+    wanted: usize,
+    token: Token,
+    sorted: &mut Vec<Token>,
+    others: &mut Vec<Token>,
+) -> Result<(), AllocError>
+    ensures sorted { OnOk result (map token_of sorted.new.items ≡ map token_of sorted.old.items
+        ++ filter (RuleOrder.has_rank wanted) (token_of token ∷ [])) }
+    ensures others { OnOk result (map token_of others.new.items ≡ map token_of others.old.items
+        ++ filter (RuleOrder.lacks_rank wanted) (token_of token ∷ [])) }
+{
+    if rank(token.kind) == wanted {
+        sorted.push(token)?;
+    } else {
+        others.push(token)?;
+    }
+    Ok(())
+}
+
 /// Moves the tokens of one rank to the sorted ones, and gives the others.
 fn split(
     alloc: Global,
@@ -76,11 +96,7 @@ fn split(
 {
     let mut others = Vec::new(alloc);
     for token in tokens {
-        if rank(token.kind) == wanted {
-            sorted.push(token)?;
-        } else {
-            others.push(token)?;
-        }
+        sort_out(wanted, token, sorted, &mut others)?;
     }
     Ok(others)
 }
@@ -95,9 +111,6 @@ pub fn in_order(alloc: Global, tokens: Vec<Token>) -> Result<Vec<Token>, AllocEr
     let mut wanted = 0;
     let mut most = KINDS;
     while most > 0 {
-        if rest.is_empty() {
-            return Ok(sorted);
-        }
         most -= 1;
         rest = split(alloc, wanted, rest, &mut sorted)?;
         wanted += 1;

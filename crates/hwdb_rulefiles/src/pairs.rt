@@ -198,7 +198,8 @@ fn quoted<'b>(
     marked: Marked<'b>,
 ) -> Result<Part<'b>, AllocError>
     ensures { IfOk result (λ part. part_of part ≡ RulePairs.quoted
-        key.now (attribute_of attribute.entry) operator marked.entry.escaped marked.entry.folds marked.entry.rest.now) }
+        key.now (attribute_of attribute.entry) operator
+        marked.entry.escaped marked.entry.folds marked.entry.rest.now) }
 {
     let text = marked.rest;
     let len = value_len(marked.escaped, text);

@@ -70,7 +70,8 @@ impl Reader {
 
     /// The line so far goes on or ends.
     fn judge(&mut self, alloc: Global, row: &[u8]) -> Result<(), AllocError>
-        ensures { OnOk result (reading_of self.new ≡ RuleText.judged (reading_of self.old) row.now) }
+        ensures { OnOk result (reading_of self.new
+            ≡ RuleText.judged (reading_of self.old) row.now) }
     {
         let goes_on = if self.long {
             row.ends_with(b"\\")
