@@ -1,5 +1,6 @@
 -- Lines, from the last one to the first.
-use Rattle.std.proofs.Common.{◌≡◌, ℕ, zero, suc, ◌+◌, ◌-◌, ◌<◌, ◌≤◌, Bool, true, false, cond, ◌||◌, List, [], ◌∷◌, ◌++◌, map, drop, length, get_or, reverse, refl, sym, ap, ◌∙◌, arith, Option, Some, None, is_some, drop-cons, add-one, append_assoc, length-map}
+use Rattle.std.proofs.Common.{◌≡◌, ℕ, zero, suc, ◌+◌, ◌-◌, ◌<◌, ◌≤◌, Bool, true, false, cond, ◌||◌, List, [], ◌∷◌, ◌++◌, map, drop, length, get_or, reverse, refl, sym, ap, ◌∙◌, arith, Option, Some, None, is_some, drop-cons, add-one, append_assoc}
+use Rattle.std.proofs.lemmas.List.{length-map}
 use mathlib.Core.List.{reverse-append}
 use Rattle.std.proofs.lemmas.Map.Text.{btree_map_updates_str}
 use Rattle.std.specs.Borrow.{Bor}
@@ -88,7 +89,8 @@ module _ {X : Type 0} (f : X → Outcome) where
 
   pub one_back : (xs : List X) (at : ℕ) (x : X) → 0 < at → at ≤ length xs → x ≡ get_or xs (at - 1) x → map f (drop (at - 1) xs) ≡ f x ∷ map f (drop at xs)
   one_back xs at x some le e =
-      ap (map f) (drop-cons xs (at - 1) x (omega arith) ∙ ap (λ y. y ∷ drop (suc (at - 1)) xs) (sym e)) ∙ ap (λ (n : ℕ). f x ∷ map f (drop n xs)) (omega arith)
+      let same : suc (at - 1) ≡ at = omega arith in
+      ap (map f) (drop-cons xs (at - 1) x (omega arith) ∙ ap (λ y. y ∷ drop (suc (at - 1)) xs) (sym e)) ∙ ap (λ (n : ℕ). f x ∷ map f (drop n xs)) same
 
   snoc : (xs : List X) (x : X) → map f (xs ++ (x ∷ [])) ≡ map f xs ++ (f x ∷ [])
   snoc [] x = refl

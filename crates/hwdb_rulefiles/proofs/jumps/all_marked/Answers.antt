@@ -10,4 +10,4 @@ loop-outcome-init c = ap (map outcome_of) c.new-all.ensures.items ∙ sym (marke
 pub loop-outcome-preserved : goal.loop-outcome-preserved
 loop-outcome-preserved c =
     marked_step outcome_of c.args.marks.now c.loop-outcome.all.items _ c.loop-outcome.yielded c.in-Some.outcome _ _ c.loop-outcome.invariant c.in_ok-push.ensures.items
-    c.in_ok-marked.ensures (c.mark_at-keeps.ensures ∙ ap (mark_at c.args.marks.now) c.len.ensures)
+    c.in_ok-marked.ensures (c.mark_at-keeps.ensures ∙ ap (mark_at c.args.marks.now) (c.len.ensures ∙ c.loop-outcome.all.ok.0))

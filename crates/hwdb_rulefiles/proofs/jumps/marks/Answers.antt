@@ -7,8 +7,8 @@ use Rattle.hwdb_rulefiles.proofs.jumps.marks.Goals as goal
 pub loop-at-init : goal.loop-at-init
 loop-at-init c = record {
   at_in = omega arith;
-  marks = marks_none _ _ c.new-marks.ensures.items (dropped outcome_of c.args.outcomes.now);
-  labels = labels_none _ _ c.new-labels.ensures.empty (dropped outcome_of c.args.outcomes.now);
+  marks = marks_none c.new-marks.result.items _ c.new-marks.ensures.items (dropped outcome_of c.args.outcomes.now);
+  labels = labels_none c.new-labels.result _ c.new-labels.ensures.empty (dropped outcome_of c.args.outcomes.now);
 }
 
 pub loop-at-preserved : goal.loop-at-preserved
