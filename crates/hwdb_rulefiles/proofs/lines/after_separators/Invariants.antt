@@ -1,0 +1,13 @@
+use Rattle.std.proofs.Common.{length, ◌-◌, ◌+◌, ◌≡◌, ◌≤◌, drop}
+use Rattle.std.specs.List.{prefix_len}
+use Rattle.hwdb_rulefiles.specs.RuleLines.{is_separator}
+use Rattle.hwdb_rulefiles.proofs.lines.after_separators.Given as goal
+
+abbrev pub invariant-loop-at : goal.invariant-loop-at
+invariant-loop-at l = record {
+  at_in : l.at ≤ length l.text;
+  same : l.at + prefix_len is_separator (drop l.at l.text) ≡ prefix_len is_separator l.text;
+}
+
+abbrev pub decreases-loop-at : goal.decreases-loop-at
+decreases-loop-at l = length l.text - l.at
