@@ -2,7 +2,9 @@
 ghost use Rattle.std.specs.Prelude.{◌≡◌, ◌++◌, ◌∷◌, [], filter, flat_map, map, string_bytes, take, IfOk, OnOk};
 ghost use Rattle.hwdb_spec.specs.Lines.{Line, clean_line};
 ghost use Rattle.hwdb_spec.specs.Records;
-ghost use Rattle.hwdb_spec_commands.specs.Findings.{line_text, told_warning, warning_json_line, warnings_text};
+ghost use Rattle.hwdb_spec_commands.specs.Findings.{column, finding_json, line_text, told_warning, warning_json_line, warnings_text};
+ghost use Rattle.hwdb_spec_commands.specs.Json.{json_line};
+ghost use Rattle.hwdb_spec_commands.specs.Kinds.{warning_name};
 ghost use Rattle.hwdb_spec_commands.specs.Reports.{hint_line};
 ghost use Rattle.hwdb_spec_commands.specs.Warnings.{all_warnings, gets, line_kinds, line_warnings, warnings, warning_text, warning_place, warning_hint, warning_line, warning_report};
 ghost use Rattle.hwdb_text.specs.Views.{given_in};
@@ -209,6 +211,38 @@ fn words_of(alloc: Global, kind: WarningKind) -> Result<Vec<u8>, AllocError>
     Ok(words)
 }
 
+/// Adds a line.
+fn push_line(text: &mut Vec<u8>, line: &[u8]) -> Result<(), AllocError>
+    ensures { OnOk result (text.new.items ≡ text.old.items ++ line.now) }
+{
+    text.extend_from_slice(line)
+}
+
+/// The line of JSON of a warning with this hint.
+fn warning_json(
+    alloc: Global,
+    path: &[u8],
+    line: &Read<'_>,
+    kind: WarningKind,
+    hint: &[u8],
+) -> Result<Vec<u8>, AllocError>
+    ensures { IfOk result (λ json. json.items ≡ json_line
+        (finding_json path.now line.now.number
+        (column (warning_place kind line.now.text.now line.now.clean.now))
+        (warning_name kind) (warning_text kind) hint.now)) }
+{
+    let words = words_of(alloc, kind)?;
+    let found = Finding {
+        path,
+        line: line.number,
+        place: warning_place(kind, line.text, line.clean),
+        kind: warning_name(kind),
+        text: &words,
+        hint,
+    };
+    finding_line(alloc, &found)
+}
+
 /// Adds the line of JSON of a warning.
 fn push_warning_json(
     alloc: Global,
@@ -221,19 +255,9 @@ fn push_warning_json(
     ensures { OnOk result (text.new.items
         ≡ text.old.items ++ warning_json_line path.now (read_line line.now) kind) }
 {
-    let words = words_of(alloc, kind)?;
     let mut hint = Vec::new(alloc);
     push_hint(alloc, &mut hint, kind, line.clean)?;
-    let found = Finding {
-        path,
-        line: line.number,
-        place: warning_place(kind, line.text, line.clean),
-        kind: warning_name(kind),
-        text: &words,
-        hint: &hint,
-    };
-    text.extend_from_slice(&finding_line(alloc, &found)?)?;
-    Ok(())
+    push_line(text, &warning_json(alloc, path, line, kind, &hint)?)
 }
 
 /// Adds what is printed of a warning: a line of JSON, or its report.
