@@ -1,4 +1,4 @@
-//! Laws of databases. Each function holds no code: its contract is a law of the definitions of `hwdb_spec`.
+//! Laws of databases. Each function holds no code: its contract is a law of definitions.
 ghost use Rattle.hwdb_databases.specs.Laws.{MembersAreTheMap, DumpSays, DumpTells, GiftsAreEffective};
 ghost use Rattle.hwdb_databases.specs.Rows.{DeviceStatRows, EtcRows, NameRows, StatJsonRows, StatRows, TextRows};
 

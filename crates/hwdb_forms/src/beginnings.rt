@@ -1,4 +1,4 @@
-//! How the texts of all forms begin, as `FormTable` of `hwdb_spec` has it.
+//! How the texts of all forms begin, as `FormTable` of `hwdb_spec_commands` has it.
 ghost use Rattle.std.specs.Prelude.{◌≡◌, map};
 ghost use Rattle.std.specs.List.{list_any};
 ghost use Rattle.hwdb_spec.specs.Folders.{same};

@@ -1,7 +1,7 @@
 //! Which patterns can never match: no text that udev asks has them match it.
 //!
-//! Which texts are asked is known by forms (`Forms` and `FormTable` of `hwdb_spec`): `usb:v`, four digits, `p`, four digits and so
-//! on. A pattern is judged against all of them, so that a wildcard in its prefix needs no case of its own.
+//! Which texts are asked is known by forms (`Forms` of `hwdb_spec`, `FormTable` of `hwdb_spec_commands`): `usb:v`, four digits, `p`,
+//! four digits and so on. A pattern is judged against all of them, so that a wildcard in its prefix needs no case of its own.
 //!
 //! [`judge`] walks through a form, token by token. A form is a list of steps, and the walk keeps the places among them that it can be
 //! at. So the time is at most the pattern's length times the forms'. One walk says whether the pattern matches a text of the form,
@@ -14,7 +14,7 @@
 //! | `beginnings` | how their texts begin |
 //! | `sets` | sets of bytes, and which tokens take one of theirs |
 //! | `leads` | how pieces begin, before the first star |
-//! | `plain` | patterns that are compared byte by byte, without rows |
+//! | `plain` | patterns that are compared byte by byte, without a walk |
 //! | `templates` | patterns of digits, which are compared with a text that a form is written as |
 //! | `guesses` | the form that a pattern likely has |
 //! | `steps` | the steps of a form |

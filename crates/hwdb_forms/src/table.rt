@@ -1,4 +1,4 @@
-//! The forms that udev asks, as `FormTable` of `hwdb_spec` has them.
+//! The forms that udev asks, as `FormTable` of `hwdb_spec_commands` has them.
 ghost use Rattle.std.specs.Prelude.{◌≡◌, map};
 ghost use Rattle.hwdb_spec_commands.specs.FormTable;
 ghost use Rattle.hwdb_forms.specs.Internal.{form_of};
