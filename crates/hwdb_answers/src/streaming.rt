@@ -1,10 +1,11 @@
 //! The devices of a source, each answered as it comes.
-ghost use Rattle.std.specs.Prelude.{◌≡◌, List, None, IfErr, IfSome, OnOk, IsErrOf, true};
+ghost use Rattle.std.specs.Prelude.{◌≡◌, ◌⊎◌, Err, List, None, IfErr, IfSome, OnOk, IsErrOf, true};
 ghost use Rattle.std.specs.Io.KnownBytes.{Appends};
 ghost use Rattle.hwdb_spec.specs.Flushing.{HandsOn};
 ghost use Rattle.hwdb_spec.specs.Folders.{Source};
 ghost use Rattle.hwdb_spec.specs.Tree.{Tree};
 ghost use Rattle.hwdb_spec.specs.Format.{IsDatabase};
+ghost use Rattle.hwdb_spec.specs.declared.DbFault.{DbFault};
 ghost use Rattle.hwdb_spec_commands.specs.ManyDevices.{HasLongLine};
 ghost use Rattle.hwdb_spec.specs.Texts.{devices_of, max_file};
 ghost use Rattle.hwdb_spec.specs.Written.{IsCompiled};
@@ -136,6 +137,8 @@ pub fn run_renewed<R: Renewal, I: Source, O: Sink, E: Sink>(
         (O.taken out.old) (O.taken out.new))) }
     ensures untouched { IfErr result (IfBadDatabase
         ((input.new ≡ input.old) × (out.new ≡ out.old))) }
+    ensures checked { ((fault : DbFault) × (result ≡ Err (ToolError.BadDatabase fault)))
+        ⊎ ((t : Tree) × IsDatabase (R.held database.old) t) }
     ensures hands_on { HandsOn (O.is_flushed out.old) (O.is_flushed out.new)
         (O.failures out.old) (O.failures out.new) }
     ensures quiet { R.stays database.old → err.new ≡ err.old }

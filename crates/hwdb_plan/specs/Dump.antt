@@ -8,6 +8,7 @@ use Rattle.hwdb_spec_commands.specs.Told.Stop.{Over, Plain, Says}
 use Rattle.hwdb_spec.specs.declared.DbFault.{DbFault}
 use Rattle.hwdb_spec.specs.declared.errors.DumpError.{DumpError}
 use Rattle.hwdb_spec.specs.declared.errors.DumpError.TheVariants as dumping
+use Rattle.hwdb_spec.specs.declared.errors.ToolError.{ToolError}
 use Rattle.hwdb_spec.specs.declared.errors.ToolError.TheVariants.{BadDatabase, Memory as OutOfMemory}
 use Rattle.hwdb_plan.specs.Asking.{named}
 use Rattle.hwdb_plan.specs.Plans.{Next, Plan}
@@ -17,6 +18,11 @@ use Rattle.hwdb_plan.specs.Plans.Plan.{Decode, Done}
 -- the fault that bytes have which are no database, with their path
 abbrev pub bad_database : (path : List ℕ) → DbFault → Stop
 bad_database path f = Over (BadDatabase f) path None
+
+-- what an error of answering from the bytes of a database becomes
+abbrev pub database_stop : (path : List ℕ) → ToolError → Stop
+database_stop path (BadDatabase f) = bad_database path f
+database_stop path error = Plain error
 
 -- the text, with status 0; or the pattern of the first assignment that no text says
 abbrev pub if_said : (path : List ℕ) (unsaid : Option Assignment) (text : List ℕ) → Plan

@@ -1,7 +1,10 @@
 -- What a run leaves whose plan ends so: its result, both outputs and the files, also if an output fails. Our choice.
-use Rattle.std.specs.Prelude.{◌≡◌, ◌⊎◌, ℕ, List, [], None, Some, IfSome, MatchResult, Result, IsErrAnd, codes, take}
+use Rattle.std.specs.Io.KnownBytes.{Appends}
+use Rattle.std.specs.Prelude.{◌≡◌, ◌⊎◌, ℕ, List, [], None, Option, Some, IfSome, MatchResult, Result, IsErrAnd, codes, flat_map, take}
 use Rattle.hwdb_spec_commands.specs.AnsweredLines.{answered_lines, line_error}
+use Rattle.hwdb_spec.specs.Failures.{HasFailed, OneFailed}
 use Rattle.hwdb_spec.specs.NotReplaced.{IsLeft, IsSeen, failures_after}
+use Rattle.hwdb_spec.specs.Outputs.{AppendsPrefix}
 use Rattle.hwdb_spec_commands.specs.Runs.{AreKept, Files, HasTaken, Told, WasCut, World}
 use Rattle.hwdb_spec.specs.Store.{InPlace, database_name, path_in}
 use Rattle.hwdb_spec.specs.Texts.{devices_of}
@@ -10,7 +13,7 @@ use Rattle.hwdb_spec.specs.declared.errors.Unreplaced.{Unreplaced}
 use Rattle.hwdb_spec_commands.specs.declared.refusals.Refusal.{Refusal}
 use Rattle.hwdb_spec_commands.specs.declared.refusals.Refusal.TheVariants as refusal
 use Rattle.hwdb_plan.specs.Plans.{End, Ends, Plan}
-use Rattle.hwdb_plan.specs.Plans.End.{Answers, Replaces, Stops, Streams}
+use Rattle.hwdb_plan.specs.Plans.End.{Answers, Lines, Replaces, Stops, Streams}
 use Rattle.hwdb_spec_commands.specs.Told.{Reads, stop_of}
 
 -- what standard error and standard output tell
@@ -18,6 +21,7 @@ pub record Outs : Type 0 where
   pub err : Told
   pub out : Told
 
+-- ---- two texts
 -- both took their texts, and standard error wasn't used for an empty one
 pub record TookBoth (err out : List ℕ) (before now : Outs) : Type 0 where
   pub took_err : HasTaken err before.err now.err
@@ -34,25 +38,66 @@ abbrev pub Prints : (status : ℕ) (err out : List ℕ) (before now : Outs) → 
 Prints status err out before now result =
     MatchResult result (λ n. (n ≡ status) × TookBoth err out before now) (λ r. (r ≡ refusal.Plain Write) × FailedIn err out before now)
 
--- the text of the first of the lines was taken, or nothing
-abbrev pub TookSome : (text : List (List ℕ) → List ℕ) (lines : List (List ℕ)) (before now : Told) → Type 0
-TookSome text lines before now = ((now.bytes ≡ before.bytes) × (now.failures ≡ before.failures)) ⊎ ((n : ℕ) × HasTaken (text (take n (answered_lines lines))) before now)
+-- ---- lines, one after the other
+-- the text of lines, one after the other
+abbrev pub whole : (lines : List (List ℕ)) → List ℕ
+whole lines = flat_map (λ line. line) lines
+
+-- standard output failed, or after some of them there was no memory
+abbrev pub LinesStop : (lines : List (List ℕ)) (before now : Told) → Refusal → Type 0
+LinesStop lines before now r =
+    ((r ≡ refusal.Plain Write) × WasCut (whole lines) before now)
+    ⊎ ((r ≡ refusal.Plain Memory) × ((now ≡ before) ⊎ ((n : ℕ) × HasTaken (whole (take n lines)) before now)))
+
+-- lines were printed, with status 0; or they end with such an error
+abbrev pub LinesTo : (lines : List (List ℕ)) (before now : Told) → Result ℕ Refusal → Type 0
+LinesTo lines before now result = MatchResult result (λ n. (n ≡ 0) × HasTaken (whole lines) before now) (LinesStop lines before now)
+
+-- ---- a text for the lines of standard input
+-- so of the lines of standard input, if it tells them
+abbrev pub OnLines : (input : Option (List ℕ)) → (List (List ℕ) → Type 0) → Type 0
+OnLines input Is = IfSome input (λ told. Is (devices_of told))
+
+module _ (text : List (List ℕ) → List ℕ) (input : Option (List ℕ)) (before now : Told) where
+  -- standard output took the text of all lines that are answered
+  pub record TookAnswered : Type 0 where
+    pub unfailed : now.failures ≡ before.failures
+    pub taken : OnLines input (λ lines. Appends before.bytes now.bytes (text (answered_lines lines)))
+
+  -- it took the text of the first of them, or nothing
+  pub record TookSome : Type 0 where
+    pub unfailed : now.failures ≡ before.failures
+    pub taken : OnLines input (λ lines. (now.bytes ≡ before.bytes) ⊎ ((n : ℕ) × Appends before.bytes now.bytes (text (take n (answered_lines lines)))))
+
+  -- it took a prefix of the text of all that are answered, and then it failed
+  pub record TookPrefix : Type 0 where
+    pub failed : OneFailed before.failures now.failures
+    pub taken : OnLines input (λ lines. AppendsPrefix before.bytes now.bytes (text (answered_lines lines)))
 
 -- answering lines ends with an error: standard input or a line of it can't be read, or there are too many; standard output fails, or memory does
-abbrev pub StreamStops : (text : List (List ℕ) → List ℕ) (lines : List (List ℕ)) (before now : Told) → Refusal → Type 0
-StreamStops text lines before now (refusal.At Read at cause) = (at.items ≡ codes "standard input") × TookSome text lines before now
-StreamStops text lines before now (refusal.At TooLong at cause) =
-    (at.items ≡ codes "a line of standard input") × (line_error lines ≡ Some TooLong) × HasTaken (text (answered_lines lines)) before now
-StreamStops text lines before now (refusal.Plain TooManyLines) = (line_error lines ≡ Some TooManyLines) × HasTaken (text (answered_lines lines)) before now
-StreamStops text lines before now (refusal.Plain Write) = WasCut (text (answered_lines lines)) before now
-StreamStops text lines before now (refusal.Plain Memory) = TookSome text lines before now
-StreamStops text lines before now r = ⊥
+abbrev pub StreamStops : (text : List (List ℕ) → List ℕ) (input_before input_now before now : Told) → Refusal → Type 0
+StreamStops text input_before input_now before now (refusal.At Read at cause) =
+    (at.items ≡ codes "standard input") × HasFailed input_before.failures input_now.failures × TookSome text input_before.bytes before now
+StreamStops text input_before input_now before now (refusal.At TooLong at cause) =
+    (at.items ≡ codes "a line of standard input") × OnLines input_before.bytes (λ lines. line_error lines ≡ Some TooLong) × TookAnswered text input_before.bytes before now
+StreamStops text input_before input_now before now (refusal.Plain TooManyLines) =
+    OnLines input_before.bytes (λ lines. line_error lines ≡ Some TooManyLines) × TookAnswered text input_before.bytes before now
+StreamStops text input_before input_now before now (refusal.Plain Write) = TookPrefix text input_before.bytes before now
+StreamStops text input_before input_now before now (refusal.Plain Memory) = TookSome text input_before.bytes before now
+StreamStops text input_before input_now before now r = ⊥
+
+-- every line is answered, and standard output took the text of all
+pub record Streamed (text : List (List ℕ) → List ℕ) (input : Option (List ℕ)) (before now : Told) : Type 0 where
+  pub unfailed : now.failures ≡ before.failures
+  pub all : OnLines input (λ lines. line_error lines ≡ None)
+  pub taken : OnLines input (λ lines. Appends before.bytes now.bytes (text lines))
 
 -- lines of standard input are answered as they come
-abbrev pub StreamsTo : (text : List (List ℕ) → List ℕ) (lines : List (List ℕ)) (before now : Told) → Result ℕ Refusal → Type 0
-StreamsTo text lines before now result =
-    MatchResult result (λ n. (n ≡ 0) × (line_error lines ≡ None) × HasTaken (text lines) before now) (StreamStops text lines before now)
+abbrev pub StreamsTo : (text : List (List ℕ) → List ℕ) (input_before input_now before now : Told) → Result ℕ Refusal → Type 0
+StreamsTo text input_before input_now before now result =
+    MatchResult result (λ n. (n ≡ 0) × Streamed text input_before.bytes before now) (StreamStops text input_before input_now before now)
 
+-- ---- a database in its place
 -- the database wasn't replaced: standard error took what was to be said, and this is what the replacement left
 pub record IsUnreplaced (folder bytes said : List ℕ) (before now : Files) (err_before err_now : Told) : Type 0 where
   pub took : HasTaken said err_before err_now
@@ -74,6 +119,7 @@ ReplacesWith folder bytes said status before now err_before err_now result =
     MatchResult result (λ n. (n ≡ status) × HasTaken said err_before err_now × InPlace folder bytes before.seen now.seen now.left)
     (ReplaceStops folder bytes said before now err_before err_now)
 
+-- ---- any end
 -- both outputs
 abbrev pub outs : (err out : Told) → Outs
 outs err out = record { err = err; out = out }
@@ -82,22 +128,32 @@ outs err out = record { err = err; out = out }
 abbrev pub outs_of : World → Outs
 outs_of w = outs w.err w.out
 
+-- what a run leaves on its outputs whose plan ends so, if that replaces nothing
+abbrev pub Shows : End → (input_before input_now : Told) (before now : Outs) → Result ℕ Refusal → Type 0
+Shows (Stops s) input_before input_now before now result = IsErrAnd result (λ r. stop_of r ≡ s) × (now ≡ before)
+Shows (Answers status err out) input_before input_now before now result = Prints status err out before now result
+Shows (Lines lines) input_before input_now before now result = LinesTo lines before.out now.out result × (now.err ≡ before.err)
+Shows (Streams text) input_before input_now before now result = StreamsTo text input_before input_now before.out now.out result × (now.err ≡ before.err)
+Shows (Replaces folder bytes said status) input_before input_now before now result = ⊥
+
+-- there was no memory before anything was shown
+abbrev pub IsUnshown : (before now : Outs) → Result ℕ Refusal → Type 0
+IsUnshown before now result = IsErrAnd result (λ r. r ≡ refusal.Plain Memory) × (now ≡ before)
+
+-- a run that only reads shows what its plan ends in
+abbrev pub ShowsEnd : Reads → Plan → (input_before input_now : Told) (before now : Outs) → Result ℕ Refusal → Type 0
+ShowsEnd w p input_before input_now before now result = ((e : End) × Ends w p e × Shows e input_before input_now before now result) ⊎ IsUnshown before now result
+
 -- what a run leaves whose plan ends so
 abbrev pub Leaves : End → (before now : World) → Result ℕ Refusal → Type 0
-Leaves (Stops s) before now result = IsErrAnd result (λ r. stop_of r ≡ s) × (outs_of now ≡ outs_of before) × AreKept before.files now.files
-Leaves (Answers status err out) before now result = Prints status err out (outs_of before) (outs_of now) result × AreKept before.files now.files
-Leaves (Streams text) before now result =
-    IfSome before.input.bytes (λ told. StreamsTo text (devices_of told) before.out now.out result) × (now.err ≡ before.err) × AreKept before.files now.files
 Leaves (Replaces folder bytes said status) before now result =
     ReplacesWith folder bytes said status before.files now.files before.err now.err result × (now.out ≡ before.out)
+Leaves e before now result = Shows e before.input now.input (outs_of before) (outs_of now) result × AreKept before.files now.files
 
--- there was no memory before anything was done
-abbrev pub IsForgone : (before now : World) → Result ℕ Refusal → Type 0
-IsForgone before now result = IsErrAnd result (λ r. r ≡ refusal.Plain Memory) × (outs_of now ≡ outs_of before) × AreKept before.files now.files
-
--- a run does what its plan ends in
+-- a run does what its plan ends in, or there was no memory before anything was done
 abbrev pub Does : Reads → Plan → (before now : World) → Result ℕ Refusal → Type 0
-Does w p before now result = ((e : End) × Ends w p e × Leaves e before now result) ⊎ IsForgone before now result
+Does w p before now result =
+    ((e : End) × Ends w p e × Leaves e before now result) ⊎ (IsUnshown (outs_of before) (outs_of now) result × AreKept before.files now.files)
 
 -- there was no memory before the database was put in its place
 abbrev pub IsUnput : (before now : Files) (err_before err_now : Told) → Result ℕ Refusal → Type 0

@@ -1,9 +1,11 @@
 -- What is so of every plan.
 use Rattle.std.specs.Prelude.{◌≡◌, ◌≢◌, ◌⊎◌, ℕ, Bool, List, Option, Some}
+use Rattle.hwdb_spec.specs.Assignment.{Position}
 use Rattle.hwdb_spec_commands.specs.Databases.{IsNoDatabase}
 use Rattle.hwdb_spec.specs.Folders.{Source}
 use Rattle.hwdb_spec.specs.Format.{IsDatabase}
 use Rattle.hwdb_spec.specs.Store.{Outcomes, Stored, database_file, database_name, path_in}
+use Rattle.hwdb_spec.specs.Texts.{IsSpelling}
 use Rattle.hwdb_spec.specs.Tree.{Map, Tree}
 use Rattle.hwdb_spec.specs.Written.{IsWritten}
 use Rattle.hwdb_spec.specs.declared.DbFault.{DbFault}
@@ -19,6 +21,10 @@ OneTree = (bytes : List ℕ) (t u : Tree) → IsDatabase bytes t → IsDatabase 
 -- a map has one written form
 abbrev pub OneForm : Type 0
 OneForm = (m : Map) (a b : List ℕ) → IsWritten m a → IsWritten m b → a ≡ b
+
+-- a text spells one position at most
+abbrev pub OneSpelling : Type 0
+OneSpelling = (p q : Position) (text : List ℕ) → IsSpelling p text → IsSpelling q text → p ≡ q
 
 -- two ends tell two faults of the same bytes
 pub record AreFaults (e f : End) : Type 0 where

@@ -1,6 +1,7 @@
 -- What proofs of the crates above cite: statements with their proofs. Nothing here has to be believed.
 pub mod Steps
 pub mod Asking
+pub mod Files
 pub mod Ends
 pub mod Streams
 pub mod Put

@@ -3,8 +3,13 @@ pub mod Ended
 pub mod Laws
 pub mod Asking
 pub mod Input
+pub mod Files
 pub mod Verify
 pub mod Dump
-pub mod Streams
+pub mod Answers
+pub mod List
+pub mod Ask
+pub mod Test
+pub mod Near
 pub mod Put
 pub mod Lemmas

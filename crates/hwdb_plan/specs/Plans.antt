@@ -1,10 +1,12 @@
 -- A plan: the next question to the file system with what follows each answer to it, or the end. A run does what its plan ends in. Our
 -- choice.
-use Rattle.std.specs.Prelude.{◌≡◌, ◌≤◌, ◌⊎◌, ℕ, Bool, List, Option, Some, Result, Ok, MatchResult, if◌then◌else◌, length}
+use Rattle.std.specs.Prelude.{◌≡◌, ◌≤◌, ◌⊎◌, ℕ, Bool, List, None, Option, Some, Result, Ok, MatchResult, if◌then◌else◌, length}
+use Rattle.hwdb_spec.specs.Assignment.{Position}
 use Rattle.hwdb_spec.specs.CompileErrors.{IsRefusal}
 use Rattle.hwdb_spec_commands.specs.Databases.{IsNoDatabase}
 use Rattle.hwdb_spec.specs.Folders.{AreAccepted, Source}
 use Rattle.hwdb_spec.specs.Format.{IsDatabase}
+use Rattle.hwdb_spec.specs.Texts.{IsSpelling}
 use Rattle.hwdb_spec.specs.Tree.{Tree, map_of_files}
 use Rattle.hwdb_spec.specs.Written.{IsWritten}
 use Rattle.hwdb_spec.specs.declared.DbFault.{DbFault}
@@ -16,20 +18,24 @@ use Rattle.hwdb_spec_commands.specs.declared.refusals.Refusal.TheVariants as ref
 use Rattle.hwdb_spec_commands.specs.declared.unread.Unread.{Unread}
 use Rattle.hwdb_spec_commands.specs.Told.{Reads, Stop, stop_of}
 
--- what a plan ends in: an error; a status, with a text for standard error and one for standard output; a text for the lines of standard
--- input, as they come; or the database in a folder, its bytes after a text for standard error, with a status
+-- what a plan ends in: an error; a status, with a text for standard error and one for standard output; lines for standard output, each
+-- as it is found; a text for the lines of standard input, as they come; or the database in a folder, its bytes after a text for standard
+-- error, with a status
 pub data End : Type 0 where
   Stops : Stop → End
   Answers : (status : ℕ) (err out : List ℕ) → End
+  Lines : (lines : List (List ℕ)) → End
   Streams : (text : List (List ℕ) → List ℕ) → End
   Replaces : (folder bytes said : List ℕ) (status : ℕ) → End
 
--- the next question, and what follows each answer: of what is read at a path, and of what bytes or text files are
+-- the next question, and what follows each answer: of what is read at a path, and of what a text, bytes or text files are
 pub data Plan : Type 0 where
   Done : End → Plan
   Input : (path : List ℕ) → (Result (List ℕ) Unread → Plan) → Plan
   Text : (path : List ℕ) → (Result (List ℕ) Unread → Plan) → Plan
   Database : (path : List ℕ) → (Result (Option (List ℕ)) Unread → Plan) → Plan
+  -- a text spells a position, or none
+  Spell : (text : List ℕ) → (Option Position → Plan) → Plan
   -- bytes are the database of a tree, or have some fault: which of several is told is left open
   Decode : (bytes : List ℕ) → (bad : DbFault → Stop) → (Tree → Plan) → Plan
   -- text files make a database, or are too much for one: which of several reasons is told is left open
@@ -39,10 +45,11 @@ pub data Plan : Type 0 where
 abbrev pub Next : Type 0
 Next = (path bytes : List ℕ) → Plan
 
--- the bytes are the database of the files, and no more than so many
+-- the bytes are the database of the files, which is one, and no more than so many
 pub record AreMadeOf (etc usr : List Source) (most : ℕ) (bytes : List ℕ) : Type 0 where
   pub accepted : AreAccepted etc usr
   pub written : IsWritten (map_of_files etc usr) bytes
+  pub sound : (t : Tree) × IsDatabase bytes t
   pub within : length bytes ≤ most
 
 -- the files are too much for one, for this reason; want of memory is none
@@ -50,12 +57,17 @@ abbrev pub AreTooMuch : (etc usr : List Source) (most : ℕ) → CompileError �
 AreTooMuch etc usr most compiling.Memory = ⊥
 AreTooMuch etc usr most e = IsRefusal etc usr most e
 
+-- the text spells no position
+abbrev pub SpellsNone : (text : List ℕ) → Type 0
+SpellsNone text = (p : Position) → IsSpelling p text → ⊥
+
 -- the plan ends so if this is told
 unfoldable pub Ends : Reads → Plan → End → Type 0
 Ends w (Done e) end = end ≡ e
 Ends w (Input path next) end = Ends w (next (w.input path)) end
 Ends w (Text path next) end = Ends w (next (w.text path)) end
 Ends w (Database path next) end = Ends w (next (w.database path)) end
+Ends w (Spell text next) end = ((p : Position) × IsSpelling p text × Ends w (next (Some p)) end) ⊎ (SpellsNone text × Ends w (next None) end)
 Ends w (Decode bytes bad next) end = ((t : Tree) × IsDatabase bytes t × Ends w (next t) end) ⊎ ((f : DbFault) × IsNoDatabase bytes f × (end ≡ Stops (bad f)))
 Ends w (Compile etc usr most bad next) end =
     ((bytes : List ℕ) × AreMadeOf etc usr most bytes × Ends w (next bytes) end) ⊎ ((e : CompileError) × AreTooMuch etc usr most e × (end ≡ Stops (bad e)))
@@ -78,6 +90,7 @@ over is made (Done e) = Done e
 over is made (Input path next) = if is path then over is made (next (Ok made)) else Input path (λ r. over is made (next r))
 over is made (Text path next) = if is path then over is made (next (Ok made)) else Text path (λ r. over is made (next r))
 over is made (Database path next) = if is path then over is made (next (Ok (Some made))) else Database path (λ r. over is made (next r))
+over is made (Spell text next) = Spell text (λ p. over is made (next p))
 over is made (Decode bytes bad next) = Decode bytes bad (λ t. over is made (next t))
 over is made (Compile etc usr most bad next) = Compile etc usr most bad (λ bytes. over is made (next bytes))
 
@@ -96,5 +109,6 @@ Asks (Done e) path = ⊥
 Asks (Input at next) path = (path ≡ at) ⊎ ((r : Result (List ℕ) Unread) × Asks (next r) path)
 Asks (Text at next) path = (path ≡ at) ⊎ ((r : Result (List ℕ) Unread) × Asks (next r) path)
 Asks (Database at next) path = (path ≡ at) ⊎ ((r : Result (Option (List ℕ)) Unread) × Asks (next r) path)
+Asks (Spell text next) path = (p : Option Position) × Asks (next p) path
 Asks (Decode bytes bad next) path = (t : Tree) × Asks (next t) path
 Asks (Compile etc usr most bad next) path = (bytes : List ℕ) × Asks (next bytes) path

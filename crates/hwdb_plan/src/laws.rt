@@ -1,6 +1,7 @@
 //! Laws of plans. Each function does nothing: its contract is the law.
 ghost use Rattle.hwdb_plan.specs.Laws.{AnswersLeaveAll, DoneIsOne, OnlyAskedMatters, OverIsNoMore, OverIsOver, PlansEndAlike};
 
+use hwdb_query::positions_are_read_back;
 use hwdb_reader::law_one_tree;
 use hwdb_replace::Store;
 use hwdb_writer::law_one_written_form;
@@ -11,6 +12,7 @@ pub fn plans_end_alike()
 {
     law_one_tree();
     law_one_written_form();
+    positions_are_read_back();
 }
 
 /// An end that is no error is the only one.
@@ -19,6 +21,7 @@ pub fn done_is_one()
 {
     law_one_tree();
     law_one_written_form();
+    positions_are_read_back();
 }
 
 /// A crash leaves what there was, if a plan answers.
@@ -27,6 +30,7 @@ pub fn answers_leave_all<D: Store>(store: &D)
 {
     law_one_tree();
     law_one_written_form();
+    positions_are_read_back();
 }
 
 /// With `--text` a plan ends as it does over files of which one has these bytes.

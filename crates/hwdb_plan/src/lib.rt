@@ -10,8 +10,10 @@
 //! | `Laws` | what is so of every plan |
 //! | `Asking` | the database that a command asks for, as the front of a plan |
 //! | `Input` | standard input, in place of a path that words give |
-//! | `Verify`, `Dump` | the plans of these commands |
-//! | `Streams` | that of `query -` and `explain -` |
+//! | `Files` | files that are read one after another, as the front of a plan |
+//! | `Verify`, `Dump`, `Test`, `Near` | the plans of these commands |
+//! | `Answers` | those of `query` and `explain`, also of devices of standard input |
+//! | `List`, `Ask` | those of `list` and `ask` |
 //! | `Put` | the end of `update`'s |
 //!
 //! `laws` shows the laws.

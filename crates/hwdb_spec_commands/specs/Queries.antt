@@ -39,7 +39,7 @@ abbrev pub IfNamed : (from_input : Bool) (input : Option (List ℕ)) → Type 0 
 IfNamed false input P = P
 IfNamed true input P = IfSome input (λ named. P)
 
--- of devices that aren't told this is so all the same: status 0, and standard error wasn't used
+-- if standard input names the devices and its bytes aren't known: status 0, and standard error wasn't used
 abbrev pub IsQuiet : (from_input : Bool) (status : ℕ) (err_before err_now : Told) → Type 0
 IsQuiet false status err_before err_now = Unit {0}
 IsQuiet true status err_before err_now = (status ≡ 0) × (err_now ≡ err_before)

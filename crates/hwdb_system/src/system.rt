@@ -1,5 +1,5 @@
 //! What the program asks of a file system.
-ghost use Rattle.std.specs.Prelude.{◌≡◌, ◌≤◌, ℕ, List, None, Some, IfOk, IfErr, IfSome, OnOk, is_some, map, option_map, string_bytes, vec_len};
+ghost use Rattle.std.specs.Prelude.{◌≡◌, ◌≤◌, ℕ, List, None, Some, false, Ok, IfOk, IfErr, IfSome, OnOk, is_some, map, option_map, string_bytes, vec_len};
 ghost use Rattle.hwdb_spec.specs.Texts.{max_file};
 ghost use Rattle.hwdb_spec.specs.System.{AreNamesIn, bytes_at};
 ghost use Rattle.hwdb_spec_commands.specs.GivenFolders.{IsUnlistedFolder};
@@ -95,7 +95,9 @@ pub trait System: Store {
     /// Whether something is at the path of a database, so that it is read; a link is something. If that can't be told,
     /// something is. The only error is want of memory.
     fn is_there(&self, alloc: Global, path: &str) -> Result<bool, AllocError>
-        ensures { Self.tells → IfOk result
+        ensures told { Self.tells → IfOk result
+            (λ there. there ≡ false → (reads self.now).database path.now ≡ Ok None) }
+        ensures there { Self.tells → IfOk result
             (λ there. there ≡ is_some (bytes_at (Self.seen self.now) path.now)) };
 
     /// Why the first call that failed did, if the system knows it. For messages alone: no promise speaks of it.
@@ -111,11 +113,12 @@ pub trait System: Store {
         None
     }
 
-    /// Opens a database, of which parts are read then: of the one file that is at the path now. None says nothing of what is
-    /// there. What is no regular file isn't opened.
+    /// Opens a database, of which parts are read then: of the one file that is at the path now. A part is one of the bytes that a
+    /// read of the whole gives. None says nothing of what is there. What is no regular file isn't opened.
     fn open_database(&self, alloc: Global, path: &str) -> Option<Self::Opened>
         ensures regular { IfSome result (λ _. is_regular self.now path.now) }
         ensures opened { Self.tells → IfSome result (λ file. (bytes : List ℕ)
+            × ((reads self.now).database path.now ≡ Ok (Some bytes))
             × (bytes_at (Self.seen self.now) path.now ≡ Some bytes)
             × Self.Opened.is_of file bytes) }
     {

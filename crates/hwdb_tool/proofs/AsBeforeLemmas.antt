@@ -92,11 +92,14 @@ over_at Q error path cause given (refusal.Plain e) is = cc
 over_at Q error path cause given refusal.NoDatabase is = cc
 over_at Q error path cause given (refusal.InWords text) is = cc
 
+pub of_plain : (error : ToolError) (Q : Refusal → Type 0) → Q (refusal.Plain error) → (r : Refusal) → stop_of r ≡ Plain error → Q r
+of_plain error Q given (refusal.Plain e) is = let same : e ≡ error = cc in subst (λ (x : ToolError). Q (refusal.Plain x)) (sym same) given
+of_plain error Q given (refusal.At e p c) is = cc
+of_plain error Q given refusal.NoDatabase is = cc
+of_plain error Q given (refusal.InWords text) is = cc
+
 pub of_memory : (Q : Refusal → Type 0) → Q (refusal.Plain Memory) → (r : Refusal) → stop_of r ≡ Plain Memory → Q r
-of_memory Q given (refusal.Plain e) is = let same : e ≡ Memory = cc in subst (λ (x : ToolError). Q (refusal.Plain x)) (sym same) given
-of_memory Q given (refusal.At e p c) is = cc
-of_memory Q given refusal.NoDatabase is = cc
-of_memory Q given (refusal.InWords text) is = cc
+of_memory = of_plain Memory
 
 of_none : (Q : Refusal → Type 0) → Q refusal.NoDatabase → (r : Refusal) → stop_of r ≡ NoDatabase → Q r
 of_none Q given refusal.NoDatabase is = given
@@ -112,7 +115,7 @@ in_words Q text given refusal.NoDatabase is = cc
 
 -- ---- reading
 module _ (w : Reads) (seen : Contents) (fails : List ℕ → Type 0) where
-  unread_so : (U : List ℕ → Type 0) (path : List ℕ) (u : Unread) (r : Refusal) → IsSo seen (U path) path u → stop_of r ≡ unread_stop path u → IsUnreadAt seen path r × HasReason U ⊥ seen r
+  pub unread_so : (U : List ℕ → Type 0) (path : List ℕ) (u : Unread) (r : Refusal) → IsSo seen (U path) path u → stop_of r ≡ unread_stop path u → IsUnreadAt seen path r × HasReason U ⊥ seen r
   unread_so U path unread.TooLong r so is =
       over_at (λ x. IsUnreadAt seen path x × HasReason U ⊥ seen x) TooLong path None
       (λ p at. ((at, so.0), subst (λ (q : List ℕ). IfSome (bytes_at seen q) (λ b. max_file < length b)) (sym at) so.1)) r is
@@ -134,10 +137,10 @@ module _ (w : Reads) (seen : Contents) (fails : List ℕ → Type 0) where
     pub ends : Ends w (next path bytes) e
 
   -- or ends with an error over it
-  abbrev Unread' : (given : Option (List ℕ)) (root : List ℕ) → Stop → Type 0
+  abbrev pub Unread' : (given : Option (List ℕ)) (root : List ℕ) → Stop → Type 0
   Unread' given root s = (r : Refusal) → stop_of r ≡ s → IsUnnamed given root seen r × HasReason (IsUnreadableIf (is_some given) fails seen) ⊥ seen r
 
-  abbrev LeadsOr : (given : Option (List ℕ)) (root : List ℕ) (next : Next) (e : End) → Type 0
+  abbrev pub LeadsOr : (given : Option (List ℕ)) (root : List ℕ) (next : Next) (e : End) → Type 0
   LeadsOr given root next e = Leads given root next e ⊎ ((s : Stop) × (e ≡ Stops s) × Unread' given root s)
 
   module _ (agree : AreReadsOf w seen fails) where
@@ -206,7 +209,7 @@ module _ (w : Reads) (seen : Contents) (fails : List ℕ → Type 0) where
     leads (Some path) root next e ends = input_leads path root next e (w.input path) refl ends
 
   -- ---- want of memory
-  memory_unnamed : (given : Option (List ℕ)) (root : List ℕ) → IsUnnamed given root seen (refusal.Plain Memory)
+  pub memory_unnamed : (given : Option (List ℕ)) (root : List ℕ) → IsUnnamed given root seen (refusal.Plain Memory)
   memory_unnamed None root = (database_path false root, inl refl, tt)
   memory_unnamed (Some path) root = tt
 

@@ -1,5 +1,5 @@
 -- The files that `check` reads, and its errors of them.
-use Rattle.std.proofs.Common.{◌≡◌, ◌⊎◌, ◌<◌, ◌≤◌, ◌+◌, ◌++◌, ◌∙◌, ◌||◌, inl, inr, ap, sym, subst, refl, arith, ℕ, suc, Bool, true, false, List, [], ◌∷◌, length, map, drop, zero, get_or, string_bytes, codes, Global, Option, Some, None, Result, Ok, Err, IfErr, IfOk, String, All}
+use Rattle.std.proofs.Common.{◌≡◌, ◌⊎◌, ◌<◌, ◌≤◌, ◌+◌, ◌++◌, ◌∙◌, ◌||◌, inl, inr, ap, sym, subst, refl, arith, ℕ, suc, Bool, true, false, List, [], ◌∷◌, length, map, drop, zero, get_or, string_bytes, codes, Global, Option, Some, None, Result, Ok, Err, IfErr, IfOk, String, All, Vec}
 use Rattle.std.specs.Bool.{◌==◌}
 use Rattle.std.proofs.Math.Seq.{split_at}
 use Rattle.std.specs.Prelude.{Contains, IfSome, take}
@@ -16,6 +16,7 @@ use Rattle.hwdb_check.specs.Checks.{source_of}
 use Rattle.hwdb_check.specs.declared.files.TextFile.{TextFile}
 use Rattle.hwdb_spec_commands.specs.CheckedFiles.{AreCheckedFiles, AreChosenFiles, AreGivenFiles, AreNamedFiles, IsChecked, StandFor}
 use Rattle.hwdb_spec.specs.Selected.{AreSelected}
+use Rattle.hwdb_plan.specs.Files.{AreFiles}
 use Rattle.hwdb_tool.specs.Internal.{AreTextsGiven, bytes_given, bytes_if}
 use Rattle.hwdb_spec_commands.specs.Refusals.{IsUnread}
 use Rattle.hwdb_spec_commands.specs.GivenFolders.{IsNamedUnread}
@@ -111,28 +112,42 @@ rest_of (o ∷ more) = more
 abbrev IsHeld : (input : Option (List ℕ)) (contents : Contents) → Source → Type 0
 IsHeld input contents s = IsGiven s.name input contents s.bytes
 
-all_given : (input : Option (List ℕ)) (contents : Contents) (text : List ℕ) (files : List TextFile)
-    → map Some (map (λ f. f.bytes.now) files) ≡ map (bytes_given text contents) (map (λ f. f.path.now) files)
-    → (any_dash (map (λ f. f.path.now) files) ≡ true → IfSome input (λ told. text ≡ told)) → All (IsHeld input contents) (map source_of files)
+all_given : (input : Option (List ℕ)) (contents : Contents) (text : List ℕ) (sources : List Source)
+    → map Some (map (λ (s : Source). s.bytes) sources) ≡ map (bytes_given text contents) (map (λ (s : Source). s.name) sources)
+    → (any_dash (map (λ (s : Source). s.name) sources) ≡ true → IfSome input (λ told. text ≡ told)) → All (IsHeld input contents) sources
 unfolding first_of rest_of
 all_given input contents text [] read told = All-nil (IsHeld input contents)
-all_given input contents text (f ∷ files) read told =
-    let dash = is_dash f.path.now in
-    let others = any_dash (map (λ f. f.path.now) files) in
-    All-cons (IsHeld input contents) (source_of f) (map source_of files)
-    (is_from dash f.path.now f.bytes.now text input contents (sym (ap first_of read)) (λ e. told (or_left dash others e)))
-    (all_given input contents text files (ap rest_of read) (λ e. told (or_right dash others e)))
+all_given input contents text (s ∷ sources) read told =
+    let dash = is_dash s.name in
+    let others = any_dash (map (λ (s : Source). s.name) sources) in
+    All-cons (IsHeld input contents) s sources
+    (is_from dash s.name s.bytes text input contents (sym (ap first_of read)) (λ e. told (or_left dash others e)))
+    (all_given input contents text sources (ap rest_of read) (λ e. told (or_right dash others e)))
 
-pub given_sources : (input : Option (List ℕ)) (contents : Contents) (text : List ℕ) (given texts : List (List ℕ)) (files : List TextFile) → AreTextsGiven text contents given texts
-    → (any_dash given ≡ true → IfSome input (λ told. text ≡ told))
-    → map (λ f. f.path.now) files ≡ given → map (λ f. f.bytes.now) files ≡ texts → All IsShort texts → AreGivenFiles given input contents (map source_of files)
-given_sources input contents text given texts files read told named held short = record {
-  named = names_of files ∙ named;
-  held = all_given input contents text files
-      (ap (map Some) held ∙ read ∙ ap (map (bytes_given text contents)) (sym named))
-      (λ e. told (ap any_dash (sym named) ∙ e));
-  within = short_files files (subst (All IsShort) (sym held) short);
+short_sources : (sources : List Source) → All IsShort (map (λ (s : Source). s.bytes) sources) → All IsShortSource sources
+short_sources [] short = All-nil IsShortSource
+short_sources (s ∷ sources) short =
+    All-cons IsShortSource s sources (All-head IsShort s.bytes (map (λ (s : Source). s.bytes) sources) short)
+    (short_sources sources (All-tail IsShort s.bytes (map (λ (s : Source). s.bytes) sources) short))
+
+pub given_sources : (input : Option (List ℕ)) (contents : Contents) (text : List ℕ) (given texts : List (List ℕ)) (sources : List Source) → AreTextsGiven text contents given texts
+    → (any_dash given ≡ true → IfSome input (λ told. text ≡ told)) → All IsShort texts → AreFiles given texts sources → AreGivenFiles given input contents sources
+given_sources input contents text given texts sources read told short are = record {
+  named = are.named;
+  held = all_given input contents text sources
+      (ap (map Some) are.held ∙ read ∙ ap (map (bytes_given text contents)) (sym are.named))
+      (λ e. told (ap any_dash (sym are.named) ∙ e));
+  within = short_sources sources (subst (All IsShort) (sym are.held) short);
 }
+
+-- those of texts that were read
+pub given_texts_are : (given : List (List ℕ)) (input : Option (List ℕ)) (contents : Contents) (text : List ℕ) (r : Result (Vec (Vec ℕ Global) Global) Refusal)
+    → (any_dash given ≡ true → IfSome input (λ told. text ≡ told)) → IfOk r (λ texts. AreTextsGiven text contents given (map (λ t. t.items) texts.items))
+    → IfOk r (λ texts. All (λ t. length t.items ≤ max_file) texts.items)
+    → IfOk r (λ texts. (sources : List Source) → AreFiles given (map (λ t. t.items) texts.items) sources → AreGivenFiles given input contents sources)
+given_texts_are given input contents text (Ok texts) told read short = λ sources are.
+    given_sources input contents text given (map (λ t. t.items) texts.items) sources read told (All-map IsShort (λ (t : Vec ℕ Global). t.items) texts.items short) are
+given_texts_are given input contents text (Err e) told read short = tt
 
 -- a look for a dash among some strings goes on by one
 pub any_step : {X : Type 0} (f : X → List ℕ) (xs : List X) (i : ℕ) (x : X) → x ≡ get_or xs i x → i < length xs

@@ -39,7 +39,7 @@ module _ (w : Reads) (seen : Contents) (fails : List ℕ → Type 0) (input : Op
   Reason r = HasGivenReason true fails seen input n m r
 
   -- standard input isn't read
-  unread_said : (u : Unread) (r : Refusal) → IsInputTold input n m (Err u) → stop_of r ≡ unread_stop name u → IsUnread name r × Reason r
+  pub unread_said : (u : Unread) (r : Refusal) → IsInputTold input n m (Err u) → stop_of r ≡ unread_stop name u → IsUnread name r × Reason r
   unread_said unread.TooLong r so is = over_at (λ x. IsUnread name x × Reason x) TooLong name None (λ p at. (at, so)) r is
   unread_said (unread.Failed None) r so is = over_at (λ x. IsUnread name x × Reason x) Read name None (λ p at. (at, so)) r is
   unread_said (unread.Failed (Some why.Memory)) r so is = of_memory (λ x. IsUnread name x × Reason x) (tt, tt) r is

@@ -30,7 +30,7 @@ nothing None = tt
 nothing (Some xs) = sym (append-nil xs)
 
 -- devices of standard input
-streamed_at : (root : List ℕ) (form : Form) (devices : List (List ℕ)) (input : Option (List ℕ)) (contents : Contents) (result : Result ℕ Refusal) (err before now : Told) → IfOk result (λ s. s ≡ 0)
+pub streamed_at : (root : List ℕ) (form : Form) (devices : List (List ℕ)) (input : Option (List ℕ)) (contents : Contents) (result : Result ℕ Refusal) (err before now : Told) → IfOk result (λ s. s ≡ 0)
     → OnOk result (IfSome input (λ text. line_error (devices_of text) ≡ None))
     → OnOk result (IfSome input (λ text. TookOne (IsAnswered root (IsTextOf (texts_of form (devices_of text))) contents) before.bytes now.bytes before.failures now.failures))
     → IfOk result (λ s. AreDoneFrom true root form devices input contents s err err before now)
@@ -55,7 +55,7 @@ streamed_done root form devices input contents result err before now is zero all
     subst (λ (b : Bool). IfOk result (λ s. AreDoneFrom b root form devices input contents s err err before now)) (sym is)
     (streamed_at root form devices input contents result err before now zero all took)
 
-refused_at : (root : List ℕ) (form : Form) (devices : List (List ℕ)) (input : Option (List ℕ)) (contents : Contents) (result : Result ℕ Refusal) (err before now : Told)
+pub refused_at : (root : List ℕ) (form : Form) (devices : List (List ℕ)) (input : Option (List ℕ)) (contents : Contents) (result : Result ℕ Refusal) (err before now : Told)
     → IfErr result (λ r. IsStreamRefused root form input contents r before now)
     → IfErr result (λ r. AreUnansweredFrom true root form devices input contents r err err before now)
 refused_at root form devices input contents (Err e) err before now refused = (refused, refl)

@@ -1,11 +1,12 @@
 -- What the steps of a task hold.
-use Rattle.std.specs.Prelude.{◌≡◌, ℕ, Bool, true, false, List, None, Option, Some, codes, map, string_bytes}
+use Rattle.std.specs.Prelude.{◌≡◌, ℕ, Bool, true, false, List, None, Option, Some, Ok, codes, map, string_bytes, String}
+use Rattle.std.specs.Global.{Global}
 use Rattle.hwdb_spec_commands.specs.Given.{is_dash}
 use Rattle.hwdb_spec.specs.Folders.{Source}
 use Rattle.hwdb_spec.specs.Explanations.{explain_text}
 use Rattle.hwdb_spec_commands.specs.Json.{explain_json}
 use Rattle.hwdb_spec.specs.Store.{Contents}
-use Rattle.hwdb_spec.specs.System.{AreFilesIn, asked_database, bytes_at, etc_files, usr_files}
+use Rattle.hwdb_spec.specs.System.{AreFilesIn, bytes_at, etc_files, usr_files}
 use Rattle.hwdb_spec.specs.Tree.{Tree}
 use Rattle.hwdb_text.specs.Views.{choice_of}
 use Rattle.hwdb_compile.specs.Views.{AreChosenOf}
@@ -15,7 +16,7 @@ use Rattle.hwdb_spec_commands.specs.Reasons.{HasGivenReason}
 use Rattle.hwdb_spec_commands.specs.Runs.{World}
 use Rattle.hwdb_spec.specs.Selected.{AreSelected}
 use Rattle.hwdb_spec_program.specs.TaskRefusals.{IsNotDone}
-use Rattle.hwdb_spec_commands.specs.Told.{Stop, unread_stop}
+use Rattle.hwdb_spec_commands.specs.Told.{Reads, Stop, unread_stop}
 use Rattle.hwdb_spec_commands.specs.Told.Stop.{Over, Plain}
 use Rattle.hwdb_spec.specs.declared.causes.Cause.{Cause}
 use Rattle.hwdb_spec.specs.declared.errors.ReadError.{ReadError}
@@ -24,6 +25,9 @@ use Rattle.hwdb_spec.specs.declared.errors.ToolError.TheVariants.{Memory, TooLon
 use Rattle.hwdb_spec_commands.specs.declared.unread.Unread.TheVariants.{Failed}
 use Rattle.hwdb_spec_commands.specs.declared.job.Job.{Job}
 use Rattle.hwdb_spec_commands.specs.declared.refusals.Refusal.{Refusal}
+use Rattle.hwdb_plan.specs.Asking.{asked}
+use Rattle.hwdb_plan.specs.Plans.{End, Ends, Next}
+use Rattle.hwdb_plan.specs.Files.{is_word}
 use Rattle.hwdb_system.specs.declared.folders.Selection.{Selection}
 use Rattle.hwdb_text.specs.declared.choice.ChosenFile.{ChosenFile}
 
@@ -38,6 +42,10 @@ bytes_given text contents path = bytes_if (is_dash path) text contents path
 -- the texts are what is read of the paths
 abbrev pub AreTextsGiven : (text : List ℕ) → Contents → (paths texts : List (List ℕ)) → Type 0
 AreTextsGiven text contents paths texts = map Some texts ≡ map (bytes_given text contents) paths
+
+-- each of some strings is a word
+abbrev pub AreWords : (some words : List (String Global)) → Type 0
+AreWords some words = (path : List ℕ) → is_word (map string_bytes some) path ≡ true → is_word (map string_bytes words) path ≡ true
 
 -- the files are the chosen ones of the folders' text files; /usr/lib's have these names
 pub record AreReadOf (root : List ℕ) (contents : Contents) (listed : List (List ℕ)) (files : List ChosenFile) : Type 0 where
@@ -67,11 +75,9 @@ abbrev pub IsNotDoneOver : Job → (database : List ℕ) (before now : World) �
 IsNotDoneOver job database before now refusal =
     IsNotDone job.task (root_of job) job.usr job.strict (world_over (root_of job) database before) (world_over (root_of job) database now) refusal
 
--- a database is at the path, and it is the one that is asked
-pub record IsAskedFile (root : List ℕ) (contents : Contents) (path : List ℕ) : Type 0 where
-  pub bytes : List ℕ
-  pub there : bytes_at contents path ≡ Some bytes
-  pub asked : asked_database root contents ≡ Some bytes
+-- the plan of the database that is asked goes on with what is told of this path
+abbrev pub IsAskedAt : Reads → (root path : List ℕ) → Type 0
+IsAskedAt w root path = (next : Next) (bytes : List ℕ) (e : End) → w.database path ≡ Ok (Some bytes) → Ends w (next path bytes) e → Ends w (asked root next) e
 
 -- why standard input isn't read, by the error of the call and its cause
 abbrev pub input_stop : ReadError → Option Cause → Stop

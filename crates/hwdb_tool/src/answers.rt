@@ -6,16 +6,22 @@ ghost use Rattle.hwdb_spec_commands.specs.Databases.{IsTextOf};
 ghost use Rattle.hwdb_spec_commands.specs.Done.{IsAsked};
 ghost use Rattle.hwdb_spec_commands.specs.Given.{is_dash};
 ghost use Rattle.hwdb_spec.specs.Outputs.{TookOne};
-ghost use Rattle.hwdb_spec_commands.specs.Runs.{OnOut, told_by};
+ghost use Rattle.hwdb_spec_commands.specs.Runs.{OnOut, Told, told_by};
 ghost use Rattle.hwdb_spec_commands.specs.Streams.{texts_of};
 ghost use Rattle.hwdb_spec_commands.specs.Refusals.{HasReason};
 ghost use Rattle.hwdb_spec_commands.specs.Queries.{AreDone, AreUnanswered};
 ghost use Rattle.hwdb_spec_commands.specs.Reasons.{HasAskedReason, HasGivenReason};
 ghost use Rattle.hwdb_spec_commands.specs.Undone.{IsAskRefused, IsListRefused, IsUnanswered};
-ghost use Rattle.hwdb_tool.specs.Views.{texts_in};
+ghost use Rattle.hwdb_plan.specs.Answers.{answer_plan, explain_plan};
+ghost use Rattle.hwdb_plan.specs.Ask.{ask_plan};
+ghost use Rattle.hwdb_plan.specs.Ended.{ShowsEnd, outs};
+ghost use Rattle.hwdb_plan.specs.Input.{OverGiven};
+ghost use Rattle.hwdb_plan.specs.List.{list_plan};
+ghost use Rattle.hwdb_plan.specs.Plans.{Follows};
+ghost use Rattle.hwdb_tool.specs.Views.{end_of, texts_in};
 
 use crate::answer::Answer;
-use crate::databases::asked;
+use crate::databases::{asked, refused_database};
 use crate::given::{is_dash, read};
 use crate::input_devices::answer_input;
 use crate::printing::printed;
@@ -38,6 +44,11 @@ pub fn explain<D: System, I: Source, O: Sink, E: Sink>(
     err: &mut E,
 ) -> Result<u8, Refusal>
     ensures small { IfOk result (λ status. status ≤ 1) }
+    ensures follows { D.Store.tells → ShowsEnd (D.System.reads system.now)
+        (explain_plan root.now json device.now)
+        (told_by I.left I.failures input.old) (told_by I.left I.failures input.new)
+        (outs (told_by E.taken E.failures err.old) (told_by O.taken O.failures out.old))
+        (outs (told_by E.taken E.failures err.new) (told_by O.taken O.failures out.new)) result }
     ensures answered { D.Store.tells → IfOk result (λ status. AreDone root.now (Form.Explain json)
         (device.now ∷ []) (I.left input.old) (D.Store.seen system.now) status
         (told_by E.taken E.failures err.old) (told_by E.taken E.failures err.new)
@@ -81,6 +92,8 @@ fn explain_given<D: System>(
     system: &D,
 ) -> Result<Answer, Refusal>
     ensures status { IfOk result (λ a. a.status ≡ 0) }
+    ensures follows { D.Store.tells → Follows end_of (D.System.reads system.now)
+        (answer_plan root.now (Form.Explain json) (device.now ∷ [])) result }
     ensures answered { D.Store.tells → IfOk result (λ a. OnOut (IsAnswered root.now
         (IsTextOf (texts_of (Form.Explain json) (device.now ∷ []))) (D.Store.seen system.now))
         (texts_in a)) }
@@ -92,7 +105,7 @@ fn explain_given<D: System>(
     let found = asked(alloc, root, system)?;
     match answer(alloc, &found.bytes, device, Form::Explain { json }) {
         Ok(text) => Ok(Answer::new(alloc, text, 0)),
-        Err(error) => Err(Refusal::of_database(alloc, error, found.path.as_bytes())),
+        Err(error) => Err(refused_database(alloc, error, found.path.as_bytes())),
     }
 }
 
@@ -108,6 +121,10 @@ pub fn list<D: System, O: Sink>(
     out: &mut O,
 ) -> Result<u8, Refusal>
     ensures status { IfOk result (λ status. status ≡ 0) }
+    ensures follows { D.Store.tells → (input err : Told) → ShowsEnd (D.System.reads system.now)
+        (list_plan root.now json device.now (option_map (λ t. t.now) after.entry) limit)
+        input input (outs err (told_by O.taken O.failures out.old))
+        (outs err (told_by O.taken O.failures out.new)) result }
     ensures answered { D.Store.tells → IfOk result (λ _. TookOne (IsAnswered root.now
         (IsListFrom json device.now (option_map (λ t. t.now) after.entry) limit)
         (D.Store.seen system.now))
@@ -124,7 +141,7 @@ pub fn list<D: System, O: Sink>(
     let found = asked(alloc, root, system)?;
     match print_list(alloc, &found.bytes, device, after, limit, json, out) {
         Ok(()) => Ok(0),
-        Err(error) => Err(Refusal::of_database(alloc, error, found.path.as_bytes())),
+        Err(error) => Err(refused_database(alloc, error, found.path.as_bytes())),
     }
 }
 
@@ -137,6 +154,10 @@ pub fn ask_file<D: System, I: Source>(
     input: &mut I,
 ) -> Result<Answer, Refusal>
     ensures status { IfOk result (λ a. a.status ≡ 0) }
+    ensures follows { D.Store.tells → OverGiven (is_dash file.now) file.now
+        (I.left input.old) (I.failures input.old) (I.failures input.new)
+        (D.System.reads system.now)
+        (λ path reads. Follows end_of reads (ask_plan file.now device.now path) result) }
     ensures asked { D.Store.tells → IfOk result (λ a.
         IsAsked file.now device.now (I.left input.old) (D.Store.seen system.now) (texts_in a)) }
     ensures refused { D.Store.tells → IfErr result

@@ -1,6 +1,7 @@
 //! What follows a plan keeps the older promises of its command. Each function does nothing: its contract is the law.
-ghost use Rattle.hwdb_tool.specs.AsBefore.{DumpAsBefore, VerifyAsBefore};
+ghost use Rattle.hwdb_tool.specs.AsBefore.{AskAsBefore, DumpAsBefore, ExplainAsBefore, ListAsBefore, QueryAsBefore, TextShowsOver, VerifyAsBefore, NearAsBefore, TestAsBefore};
 
+use hwdb_plan::{only_asked_matters, over_is_over};
 use hwdb_system::System;
 
 /// What follows the plan of `verify` keeps the older promises of `verify`.
@@ -12,5 +13,49 @@ pub fn verify_as_before<D: System>(system: &D)
 /// What follows the plan of `dump` keeps those of `dump`.
 pub fn dump_as_before<D: System>(system: &D)
     ensures { D.Store.tells → DumpAsBefore (D.System.reads system.now)
+        (D.Store.seen system.now) (D.System.may_fail system.now) }
+{}
+
+/// What follows the plan of `query` keeps those of `query`.
+pub fn query_as_before<D: System>(system: &D)
+    ensures { D.Store.tells → QueryAsBefore (D.System.reads system.now)
+        (D.Store.seen system.now) (D.System.may_fail system.now) }
+{}
+
+/// What follows the plan of `explain` keeps those of `explain`.
+pub fn explain_as_before<D: System>(system: &D)
+    ensures { D.Store.tells → ExplainAsBefore (D.System.reads system.now)
+        (D.Store.seen system.now) (D.System.may_fail system.now) }
+{}
+
+/// What follows the plan of `list` keeps those of `list`.
+pub fn list_as_before<D: System>(system: &D)
+    ensures { D.Store.tells → ListAsBefore (D.System.reads system.now)
+        (D.Store.seen system.now) (D.System.may_fail system.now) }
+{}
+
+/// What follows the plan of `ask` keeps those of `ask`.
+pub fn ask_as_before<D: System>(system: &D)
+    ensures { D.Store.tells → AskAsBefore (D.System.reads system.now)
+        (D.Store.seen system.now) (D.System.may_fail system.now) }
+{}
+
+/// With `--text` a command shows what `over` of its plan ends in.
+pub fn text_shows_over()
+    ensures { TextShowsOver }
+{
+    only_asked_matters();
+    over_is_over();
+}
+
+/// What follows the plan of `test` keeps those of `test`.
+pub fn test_as_before<D: System>(system: &D)
+    ensures { D.Store.tells → TestAsBefore (D.System.reads system.now)
+        (D.Store.seen system.now) (D.System.may_fail system.now) }
+{}
+
+/// What follows the plan of `near` keeps those of `near`.
+pub fn near_as_before<D: System>(system: &D)
+    ensures { D.Store.tells → NearAsBefore (D.System.reads system.now)
         (D.Store.seen system.now) (D.System.may_fail system.now) }
 {}

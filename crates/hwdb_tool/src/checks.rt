@@ -1,12 +1,13 @@
 //! `check`: text files that are read and looked over. Nothing is written.
-ghost use Rattle.std.specs.Prelude.{◌≡◌, ◌≤◌, ◌==◌, All, true, false, not, map, string_bytes, IfOk, IfErr, length};
+ghost use Rattle.std.specs.Prelude.{◌≡◌, ◌≤◌, ◌==◌, All, List, [], ℕ, true, false, not, map, string_bytes, IfOk, IfErr, IfNone, IfSome, length};
 ghost use Rattle.hwdb_check.specs.Checks.{source_of};
 ghost use Rattle.hwdb_spec_commands.specs.Runs.{OnOut};
-ghost use Rattle.hwdb_spec.specs.Folders.{path_of};
+ghost use Rattle.hwdb_spec.specs.Folders.{Source, path_of};
 ghost use Rattle.hwdb_text.specs.Views.{choice_of};
 ghost use Rattle.hwdb_spec_commands.specs.Refusals.{HasReason};
 ghost use Rattle.hwdb_spec_commands.specs.CheckedFiles.{AreCheckedFiles, AreChosenFiles, AreGivenFiles, AreNamedFiles, IsChecked};
-ghost use Rattle.hwdb_tool.specs.Internal.{AreTextsGiven};
+ghost use Rattle.hwdb_plan.specs.Files.{AreFiles, OfInput, ReachesFiles, given_files, is_word, read_files};
+ghost use Rattle.hwdb_tool.specs.Internal.{AreTextsGiven, AreWords};
 ghost use Rattle.hwdb_spec_program.specs.CheckedReasons.{HasCheckedReason, HasNamedReason};
 ghost use Rattle.hwdb_spec_commands.specs.GivenFolders.{IsNamedUnread};
 ghost use Rattle.hwdb_spec_commands.specs.Reasons.{HasFilesReason, IsFileReason};
@@ -108,8 +109,7 @@ fn check_given<D: System, I: Source>(
         (map string_bytes given.now) (D.System.may_fail system.now) (D.Store.seen system.now)
         (I.left input.old) (I.failures input.old) (I.failures input.new)) }
 {
-    let text = input_text(alloc, given, input)?;
-    let texts = read_given(alloc, words, given, &text, system)?;
+    let texts = given_texts(alloc, words, given, system, input)?;
     let files = with_paths(alloc, given, &texts)?;
     check_read(alloc, &files, json, allowed, strict)
 }
@@ -160,7 +160,12 @@ fn check_read(
 }
 
 /// The words after the first one that is this path; None if none is.
-fn after<'w>(words: &'w [String], path: &str) -> Option<&'w [String]> {
+fn after<'w>(words: &'w [String], path: &str) -> Option<&'w [String]>
+    ensures found { IfSome result
+        (λ _. is_word (map string_bytes words.now) path.now ≡ true) }
+    ensures among { IfSome result (λ rest. AreWords rest.now words.now) }
+    ensures none { IfNone result (is_word (map string_bytes words.now) path.now ≡ false) }
+{
     let mut left = words;
     'words: while let Some((word, rest)) = left.split_first() {
         if word.as_str() == path {
@@ -172,7 +177,11 @@ fn after<'w>(words: &'w [String], path: &str) -> Option<&'w [String]> {
 }
 
 /// Whether a path is one of the words, and where to look for the next one. Mostly it is the first after the last that was found.
-fn is_named<'w>(words: &'w [String], left: &'w [String], path: &str) -> (bool, &'w [String]) {
+fn is_named<'w>(words: &'w [String], left: &'w [String], path: &str) -> (bool, &'w [String])
+    ensures named { AreWords left.now words.now
+        → result.0 ≡ is_word (map string_bytes words.now) path.now }
+    ensures left { AreWords left.now words.now → AreWords result.1.now words.now }
+{
     match after(left, path) {
         Some(rest) => (true, rest),
         None => (after(words, path).is_some(), left),
@@ -189,6 +198,10 @@ pub fn read_given<D: System>(
     system: &D,
 ) -> Result<Vec<Vec<u8>>, Refusal>
     ensures count { IfOk result (λ texts. length texts.items ≡ length given.now) }
+    ensures told { D.Store.tells → ReachesFiles (λ texts. map (λ t. t.items) texts.items)
+        (map string_bytes given.now) (D.System.reads system.now)
+        (read_files (map string_bytes words.now) text.now (map string_bytes given.now) [])
+        result }
     ensures read { D.Store.tells → IfOk result (λ texts. AreTextsGiven text.now
         (D.Store.seen system.now) (map string_bytes given.now)
         (map (λ t. t.items) texts.items)) }
@@ -208,6 +221,33 @@ pub fn read_given<D: System>(
         texts.push(bytes).map_err(AllocError::from)?;
     }
     Ok(texts)
+}
+
+/// What each of the given files has. `-` is what `input` has left, which is read before the others.
+pub fn given_texts<D: System, I: Source>(
+    alloc: Global,
+    words: &[String],
+    given: &[String],
+    system: &D,
+    input: &mut I,
+) -> Result<Vec<Vec<u8>>, Refusal>
+    ensures count { IfOk result (λ texts. length texts.items ≡ length given.now) }
+    ensures told { D.Store.tells → OfInput (I.left input.old) (I.failures input.old)
+        (I.failures input.new) (λ told. ReachesFiles (λ texts. map (λ t. t.items) texts.items)
+        (map string_bytes given.now) (D.System.reads system.now)
+        (given_files (map string_bytes words.now) told (map string_bytes given.now)) result) }
+    ensures files { D.Store.tells → IfOk result (λ texts. (sources : List Source)
+        → AreFiles (map string_bytes given.now) (map (λ t. t.items) texts.items) sources
+        → AreGivenFiles (map string_bytes given.now) (I.left input.old)
+        (D.Store.seen system.now) sources) }
+    ensures refused { IfErr result (IsGivenUnread (map string_bytes given.now)) }
+    ensures unread { any_dash (map string_bytes given.now) ≡ false → input.new ≡ input.old }
+    ensures reason { D.Store.tells → IfErr result (HasFilesReason true
+        (map string_bytes given.now) (D.System.may_fail system.now) (D.Store.seen system.now)
+        (I.left input.old) (I.failures input.old) (I.failures input.new)) }
+{
+    let text = input_text(alloc, given, input)?;
+    read_given(alloc, words, given, &text, system)
 }
 
 /// The stored paths of the chosen files.

@@ -4,15 +4,17 @@ ghost use Rattle.hwdb_spec.specs.Store as spec;
 ghost use Rattle.hwdb_spec.specs.System as Folder;
 ghost use Rattle.hwdb_spec.specs.System.{asked_database, bytes_at};
 ghost use Rattle.hwdb_spec.specs.Texts.{max_file};
-ghost use Rattle.hwdb_spec_commands.specs.Refusals.{HasReason, IsUnreadAt, IsUnreadable};
+ghost use Rattle.hwdb_spec_commands.specs.Refusals.{HasReason, IsOfDatabase, IsUnreadAt, IsUnreadable};
 ghost use Rattle.hwdb_spec_commands.specs.Asked.{IsNamedPath, named_database, IsAskedPath};
 ghost use Rattle.hwdb_spec_program.specs.NamedDatabases.{IsUnnamed};
 ghost use Rattle.hwdb_spec_commands.specs.Undone.{IsUnfound, IsUnreadableIf};
-ghost use Rattle.hwdb_spec_commands.specs.Told.{IsReadTo};
+ghost use Rattle.hwdb_spec_commands.specs.Told.{IsReadTo, IsStop};
 ghost use Rattle.hwdb_plan.specs.Asking.{asked, if_read, named};
+ghost use Rattle.hwdb_plan.specs.Dump.{database_stop};
 ghost use Rattle.hwdb_plan.specs.Plans.{Reaches};
 ghost use Rattle.hwdb_plan.specs.Plans.Plan.{Input};
 
+use hwdb_answers::ToolError;
 use hwdb_replace::DATABASE;
 use hwdb_system::{Refusal, System, joined, path_in};
 use std::alloc::{AllocError, Global};
@@ -144,6 +146,19 @@ fn given_at<D: System>(alloc: Global, path: &str, system: &D) -> Result<FoundDat
     let bytes = system.input(alloc, path)?;
     let path = String::from_str(alloc, path)?;
     Ok(FoundDatabase { path, bytes })
+}
+
+/// The error if the bytes of a database can't be answered from: a fault has their path.
+pub(crate) fn refused_database(alloc: Global, error: ToolError, path: &[u8]) -> Refusal
+    ensures is { IsOfDatabase error path.now result }
+    ensures stops { IsStop (database_stop path.now error) result }
+{
+    match error {
+        ToolError::BadDatabase(fault) => {
+            Refusal::of_cause(alloc, ToolError::BadDatabase(fault), path, None)
+        }
+        error => Refusal::Plain(error),
+    }
 }
 
 /// The folder of the database that is written.

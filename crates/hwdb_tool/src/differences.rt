@@ -16,8 +16,8 @@ ghost use Rattle.hwdb_tool.specs.SideSteps.{IsOneDash, IsPairError};
 ghost use Rattle.hwdb_tool.specs.Views.{texts_in};
 
 use crate::answer::Answer;
-use crate::checks::{read_given, with_paths};
-use crate::given::{INPUT, any_dash, input_text, is_dash};
+use crate::checks::{given_texts, with_paths};
+use crate::given::{INPUT, any_dash, is_dash};
 use crate::sides::side;
 use hwdb_answers::ToolError;
 use hwdb_check::TextFile;
@@ -61,8 +61,7 @@ pub fn diff<D: TextsBelow, I: Source>(
     if names_twice(given, old_path, new_path) {
         return Err(refused_twice(alloc));
     }
-    let text = input_text(alloc, given, input)?;
-    let texts = read_given(alloc, given, given, &text, system)?;
+    let texts = given_texts(alloc, given, given, system, input)?;
     let files = with_paths(alloc, given, &texts)?;
     compared(alloc, old_path, new_path, stat, json, &files, system, input)
 }

@@ -1,5 +1,5 @@
 //! The files that words name: `-` is standard input, which is read once.
-ghost use Rattle.std.specs.Prelude.{◌≡◌, ◌≤◌, ◌⊎◌, ℕ, List, Result, Some, true, false, codes, map, option_map, string_bytes, length, IfOk, IfErr, IfSome};
+ghost use Rattle.std.specs.Prelude.{◌≡◌, ◌≤◌, ◌⊎◌, ℕ, List, Result, Some, true, false, codes, map, option_map, string_bytes, length, IfOk, IfErr, IfSome, MatchResult};
 ghost use Rattle.hwdb_spec_commands.specs.Given.{IsGiven, is_dash, any_dash};
 ghost use Rattle.hwdb_spec.specs.System.{bytes_at};
 ghost use Rattle.hwdb_spec.specs.Errors.{refusal_of_read};
@@ -8,7 +8,8 @@ ghost use Rattle.hwdb_spec_commands.specs.Refusals.{HasReason, IsAt, IsUnread, I
 ghost use Rattle.hwdb_spec_commands.specs.Told.{IsReadTo, IsStop, unread_stop};
 ghost use Rattle.hwdb_spec_commands.specs.declared.unread.Unread.{Unread};
 ghost use Rattle.hwdb_spec_commands.specs.declared.unread.Unread.TheVariants.{Failed};
-ghost use Rattle.hwdb_plan.specs.Input.{IsInputTold};
+ghost use Rattle.hwdb_plan.specs.Input.{IsInputTold, OverGiven};
+ghost use Rattle.hwdb_plan.specs.Files.{IsInputText, OfInput, file_told};
 ghost use Rattle.hwdb_tool.specs.Internal.{bytes_given, input_stop};
 ghost use Rattle.hwdb_spec_commands.specs.Queries.{IsOfWholeInput, IsWholeInputUnread};
 ghost use Rattle.hwdb_spec_commands.specs.Reasons.{HasGivenReason};
@@ -113,6 +114,10 @@ pub fn read<D: System, I: Source>(
     system: &D,
     input: &mut I,
 ) -> Result<Vec<u8>, Refusal>
+    ensures told { D.Store.tells → OverGiven (is_dash path.now) path.now
+        (I.left input.old) (I.failures input.old) (I.failures input.new)
+        (D.System.reads system.now)
+        (λ at reads. IsReadTo (λ v. v.items) (reads.input at) at result) }
     ensures read { D.Store.tells → IfOk result (λ bytes.
         IsGiven path.now (I.left input.old) (D.Store.seen system.now) bytes.items) }
     ensures within { IfOk result (λ bytes. length bytes.items ≤ max_file) }
@@ -136,6 +141,8 @@ pub fn input_text<I: Source>(
     given: &[String],
     input: &mut I,
 ) -> Result<Vec<u8>, Refusal>
+    ensures told { OfInput (I.left input.old) (I.failures input.old) (I.failures input.new)
+        (λ told. IsInputText (λ v. v.items) (any_dash (map string_bytes given.now)) told result) }
     ensures whole { IfOk result (λ text. any_dash (map string_bytes given.now) ≡ true
         → IfSome (I.left input.old) (λ told. text.items ≡ told)) }
     ensures within { IfOk result (λ text. length text.items ≤ max_file) }
@@ -159,6 +166,8 @@ fn file_bytes<D: System>(
     is_named: bool,
     system: &D,
 ) -> Result<Vec<u8>, Refusal>
+    ensures told { D.Store.tells → IsReadTo (λ v. v.items)
+        (file_told (D.System.reads system.now) is_named path.now) path.now result }
     ensures bytes { D.Store.tells → IfOk result
         (λ bytes. bytes_at (D.Store.seen system.now) path.now ≡ Some bytes.items) }
     ensures within { IfOk result (λ bytes. length bytes.items ≤ max_file) }
@@ -184,6 +193,10 @@ pub fn bytes_given<D: System>(
     text: &[u8],
     system: &D,
 ) -> Result<Vec<u8>, Refusal>
+    ensures told { D.Store.tells → is_dash path.now ≡ false → IsReadTo (λ v. v.items)
+        (file_told (D.System.reads system.now) is_named path.now) path.now result }
+    ensures text { is_dash path.now ≡ true → MatchResult result (λ v. v.items ≡ text.now)
+        (λ r. r ≡ Plain ToolError.Memory) }
     ensures read { D.Store.tells → IfOk result (λ bytes.
         bytes_given text.now (D.Store.seen system.now) path.now ≡ Some bytes.items) }
     ensures within { (is_dash path.now ≡ false) ⊎ (length text.now ≤ max_file)

@@ -4,15 +4,14 @@
 //! The file is opened once, so that another one that takes its path meanwhile isn't read. None says nothing: the file isn't
 //! accepted, a call failed, there was no memory, or the file itself was changed meanwhile. Then the whole file is read, which
 //! tells the error if there is one.
-ghost use Rattle.std.specs.Prelude.{◌≡◌, ◌≤◌, ℕ, List, Some, length, map, string_bytes, IfSome};
-ghost use Rattle.hwdb_spec_commands.specs.Asked.{IsAnswered};
+ghost use Rattle.std.specs.Prelude.{◌≡◌, ◌≤◌, ℕ, List, Some, Ok, length, map, string_bytes, IfSome};
 ghost use Rattle.hwdb_spec_commands.specs.Databases.{IsTextOf};
-ghost use Rattle.hwdb_spec_commands.specs.Runs.{OnOut};
 ghost use Rattle.hwdb_spec_commands.specs.Streams.{texts_of};
-ghost use Rattle.hwdb_spec.specs.System.{bytes_at};
 ghost use Rattle.hwdb_spec.specs.Texts.{max_file};
-ghost use Rattle.hwdb_tool.specs.Internal.{IsAskedFile};
-ghost use Rattle.hwdb_tool.specs.Views.{texts_in};
+ghost use Rattle.hwdb_plan.specs.Answers.{answer_plan};
+ghost use Rattle.hwdb_plan.specs.Plans.{Ends};
+ghost use Rattle.hwdb_tool.specs.Internal.{IsAskedAt};
+ghost use Rattle.hwdb_tool.specs.Views.{end_of};
 
 use crate::answer::Answer;
 use crate::hiding::database_path;
@@ -28,7 +27,7 @@ const FEW: usize = 8;
 /// The path of the database that is asked, if something is there.
 fn asked_path<D: System>(alloc: Global, root: &str, system: &D) -> Option<String>
     ensures { D.Store.tells → IfSome result
-        (λ path. IsAskedFile root.now (D.Store.seen system.now) (string_bytes path)) }
+        (λ path. IsAskedAt (D.System.reads system.now) root.now (string_bytes path)) }
 {
     let Ok(etc) = database_path(alloc, root, false) else {
         return None;
@@ -75,7 +74,7 @@ fn text_in_parts<D: System>(
     system: &D,
 ) -> Option<Vec<u8>>
     ensures { D.Store.tells → IfSome result (λ text. (bytes : List ℕ)
-        → bytes_at (D.Store.seen system.now) path.now ≡ Some bytes → (length bytes ≤ max_file)
+        × ((D.System.reads system.now).database path.now ≡ Ok (Some bytes))
         × IsTextOf (texts_of (Form.Query json) (map string_bytes devices.now)) bytes text.items) }
 {
     let file = system.open_database(alloc, path)?;
@@ -91,9 +90,8 @@ pub fn answer_in_parts<D: System>(
     system: &D,
 ) -> Option<Answer>
     ensures status { IfSome result (λ a. a.status ≡ 0) }
-    ensures answered { D.Store.tells → IfSome result (λ a. OnOut (IsAnswered root.now
-        (IsTextOf (texts_of (Form.Query json) (map string_bytes devices.now)))
-        (D.Store.seen system.now)) (texts_in a)) }
+    ensures follows { D.Store.tells → IfSome result (λ a. Ends (D.System.reads system.now)
+        (answer_plan root.now (Form.Query json) (map string_bytes devices.now)) (end_of a)) }
 {
     if devices.len() > FEW {
         return None;

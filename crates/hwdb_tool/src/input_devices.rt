@@ -10,12 +10,17 @@ ghost use Rattle.hwdb_spec_commands.specs.Streams.{texts_of};
 ghost use Rattle.hwdb_spec_commands.specs.Asked.{IsAnswered};
 ghost use Rattle.hwdb_spec_commands.specs.Queries.{IsOfInput, IsStreamRefused};
 ghost use Rattle.hwdb_spec_commands.specs.Reasons.{HasAskedReason};
+ghost use Rattle.hwdb_spec.specs.declared.DbFault.{DbFault};
+ghost use Rattle.hwdb_spec_commands.specs.Refusals.{IsOfCause};
+ghost use Rattle.hwdb_plan.specs.Answers.{stream_plan};
+ghost use Rattle.hwdb_plan.specs.Ended.{ShowsEnd, outs};
 ghost use Rattle.hwdb_tool.specs.Reloading.{IsCalm};
 
 use crate::databases::{FoundDatabase, asked};
 use crate::reloading::{Asked, Watch};
 use hwdb_answers::{Form, ToolError, run_renewed};
 use hwdb_io::{Cause, Sink, Source};
+use hwdb_reader::law_one_tree;
 use hwdb_system::{Refusal, System};
 use std::alloc::{AllocError, Global};
 
@@ -32,6 +37,11 @@ pub fn answer_input<D: System, I: Source, O: Sink, E: Sink>(
     err: &mut E,
 ) -> Result<u8, Refusal>
     ensures small { IfOk result (λ status. status ≡ 0) }
+    ensures follows { D.Store.tells → ShowsEnd (D.System.reads system.now)
+        (stream_plan root.now form)
+        (told_by I.left I.failures input.old) (told_by I.left I.failures input.new)
+        (outs (told_by E.taken E.failures err.old) (told_by O.taken O.failures out.old))
+        (outs (told_by E.taken E.failures err.new) (told_by O.taken O.failures out.new)) result }
     ensures answered { D.Store.tells → OnOk result (IfSome (I.left input.old) (λ text. TookOne
         (IsAnswered root.now (IsTextOf (texts_of form (devices_of text))) (D.Store.seen system.now))
         (O.taken out.old) (O.taken out.new) (O.failures out.old) (O.failures out.new))) }
@@ -50,6 +60,7 @@ pub fn answer_input<D: System, I: Source, O: Sink, E: Sink>(
     ensures err_hands_on { HandsOn (E.is_flushed err.old) (E.is_flushed err.new)
         (E.failures err.old) (E.failures err.new) }
 {
+    law_one_tree();
     let watch = watched(alloc, root, reload, system)?;
     let FoundDatabase { path, bytes } = asked(alloc, root, system)?;
     let mut database = Asked {
@@ -83,11 +94,16 @@ fn watched<D: System>(
 
 /// The error if the devices of standard input can't be answered from the database at the path.
 fn refusal_of(alloc: Global, error: ToolError, path: &[u8], cause: Option<Cause>) -> Refusal
-    ensures { IsOfInput error path.now result }
+    ensures is { IsOfInput error path.now result }
+    ensures fault { (fault : DbFault) → error ≡ ToolError.BadDatabase fault
+        → IsOfCause error path.now None result }
 {
     match error {
         ToolError::Read => Refusal::at(alloc, error, b"standard input", cause),
         ToolError::TooLong => Refusal::at(alloc, error, b"a line of standard input", None),
-        error => Refusal::of_database(alloc, error, path),
+        ToolError::BadDatabase(fault) => {
+            Refusal::of_cause(alloc, ToolError::BadDatabase(fault), path, None)
+        }
+        error => Refusal::Plain(error),
     }
 }

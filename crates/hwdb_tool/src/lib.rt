@@ -75,7 +75,10 @@ mod verification;
 
 pub use answer::Answer;
 pub use answers::{ask_file, explain, list};
-pub use as_before::{dump_as_before, verify_as_before};
+pub use as_before::{
+    ask_as_before, dump_as_before, explain_as_before, list_as_before, near_as_before,
+    query_as_before, test_as_before, text_shows_over, verify_as_before,
+};
 pub use checks::check;
 pub use coloured::{Coloured, kind_of, terminals_get_no_control, write_shown};
 pub use crash::{crash_then_query, kill_then_query};

@@ -1,5 +1,5 @@
 //! `near`: the patterns that almost matched a device, of text files or of the database below the root. Nothing is written.
-ghost use Rattle.std.specs.Prelude.{◌≡◌, ◌==◌, true, false, not, length, map, string_bytes, IfErr, IfOk, List};
+ghost use Rattle.std.specs.Prelude.{◌≡◌, ◌==◌, true, false, not, length, map, string_bytes, IfErr, IfOk, List, []};
 ghost use Rattle.hwdb_spec_commands.specs.Refusals.{HasReason};
 ghost use Rattle.hwdb_check.specs.Checks;
 ghost use Rattle.hwdb_near.specs.Views;
@@ -13,12 +13,17 @@ ghost use Rattle.hwdb_spec_commands.specs.Runs.{OnOut};
 ghost use Rattle.hwdb_spec_program.specs.NearErrors.{IsNearRefused, error_of};
 ghost use Rattle.hwdb_spec_commands.specs.Reasons.{HasFilesReason};
 ghost use Rattle.hwdb_spec_commands.specs.Undone.{IsGivenUnread, IsUnanswered};
-ghost use Rattle.hwdb_tool.specs.Views.{texts_in};
+ghost use Rattle.hwdb_plan.specs.Asking.{asked};
+ghost use Rattle.hwdb_plan.specs.Files.{OfInput, given_files};
+ghost use Rattle.hwdb_plan.specs.Near.{near_database, near_plan};
+ghost use Rattle.hwdb_plan.specs.Plans.{Follows};
+ghost use Rattle.hwdb_plan.specs.Plans.End.{Answers};
+ghost use Rattle.hwdb_plan.specs.Plans.Plan.{Done};
+ghost use Rattle.hwdb_tool.specs.Views.{end_of, texts_in};
 
 use crate::answer::Answer;
-use crate::checks::{read_given, with_paths};
-use crate::databases::asked;
-use crate::given::input_text;
+use crate::checks::{given_texts, with_paths};
+use crate::databases::{asked, refused_database};
 use hwdb_answers::ToolError;
 use hwdb_io::Source;
 use hwdb_near::{NearError, PatternFile, near_in_database, near_in_files};
@@ -41,6 +46,10 @@ pub fn near<D: System, I: Source>(
     input: &mut I,
 ) -> Result<Answer, Refusal>
     ensures status { IfOk result (λ a. a.status ≡ 0) }
+    ensures follows { D.Store.tells → OfInput (I.left input.old) (I.failures input.old)
+        (I.failures input.new) (λ told. Follows end_of (D.System.reads system.now)
+        (near_plan told (map string_bytes given.now) root.now
+        (near_form json device.now (near_limit limit))) result) }
     ensures near { D.Store.tells → IfOk result (λ a. OnOut (IsNear
         (map string_bytes given.now) root.now (near_form json device.now (near_limit limit))
         (I.left input.old) (D.Store.seen system.now)) (texts_in a)) }
@@ -79,6 +88,8 @@ fn near_asked<D: System>(
     system: &D,
 ) -> Result<Answer, Refusal>
     ensures status { IfOk result (λ a. a.status ≡ 0) }
+    ensures follows { D.Store.tells → Follows end_of (D.System.reads system.now)
+        (asked root.now (near_database (near_form json device.now limit))) result }
     ensures near { D.Store.tells → IfOk result (λ a. OnOut (IsAnswered root.now
         (IsTextOf (λ tree. near_form json device.now limit (database_patterns tree)))
         (D.Store.seen system.now)) (texts_in a)) }
@@ -92,7 +103,7 @@ fn near_asked<D: System>(
         Ok(text) => Ok(Answer::new(alloc, text, 0)),
         Err(error) => {
             let error = error_of(error);
-            Err(Refusal::of_database(alloc, error, found.path.as_bytes()))
+            Err(refused_database(alloc, error, found.path.as_bytes()))
         }
     }
 }
@@ -118,6 +129,11 @@ fn near_given<D: System, I: Source>(
     input: &mut I,
 ) -> Result<Answer, Refusal>
     ensures status { IfOk result (λ a. a.status ≡ 0) }
+    ensures follows { D.Store.tells → OfInput (I.left input.old) (I.failures input.old)
+        (I.failures input.new) (λ told. Follows end_of (D.System.reads system.now)
+        (given_files (map string_bytes given.now) told (map string_bytes given.now)
+        (λ sources. Done (Answers 0 []
+        (near_form json device.now limit (patterns_from 1 sources))))) result) }
     ensures near { D.Store.tells → IfOk result (λ a. OnOut (λ text. (sources : List Source)
         × AreGivenFiles (map string_bytes given.now) (I.left input.old)
         (D.Store.seen system.now) sources
@@ -128,8 +144,7 @@ fn near_given<D: System, I: Source>(
         (map string_bytes given.now) (D.System.may_fail system.now) (D.Store.seen system.now)
         (I.left input.old) (I.failures input.old) (I.failures input.new)) }
 {
-    let text = input_text(alloc, given, input)?;
-    let texts = read_given(alloc, given, given, &text, system)?;
+    let texts = given_texts(alloc, given, given, system, input)?;
     let files = with_paths(alloc, given, &texts)?;
     let compared = compared(alloc, &files)?;
     let told = near_in_files(alloc, &compared, device, limit, json)?;

@@ -1,7 +1,8 @@
 //! What a command prints, and the one place where it is printed.
-ghost use Rattle.std.specs.Prelude.{[], ◌≡◌, ◌≢◌, ◌≤◌, IfErr, IfOk, OnOk};
+ghost use Rattle.std.specs.Prelude.{[], ◌≡◌, ◌≢◌, ◌≤◌, Err, IfErr, IfOk, MatchResult, OnOk};
 ghost use Rattle.hwdb_spec.specs.Flushing.{HandsOn};
 ghost use Rattle.hwdb_spec_commands.specs.Runs.{HasTaken, Printed, PrintedPart, WasCut, told_by};
+ghost use Rattle.hwdb_plan.specs.Ended.{Prints, outs};
 ghost use Rattle.hwdb_tool.specs.Views.{IsNotPrinted, IsPrintedWith, texts_in};
 ghost use Rattle.hwdb_spec_commands.specs.declared.refusals.Refusal.TheVariants.{Plain};
 
@@ -37,6 +38,12 @@ pub fn printed<O: Sink, E: Sink>(
     err: &mut E,
 ) -> Result<u8, Refusal>
     ensures small { IfOk result (λ status. status ≤ 1) }
+    ensures prints { MatchResult answer (λ a. Prints a.status a.err.items a.out.items
+        (outs (told_by E.taken E.failures err.old) (told_by O.taken O.failures out.old))
+        (outs (told_by E.taken E.failures err.new) (told_by O.taken O.failures out.new)) result)
+        (λ r. (result ≡ Err r) × (outs (told_by E.taken E.failures err.new)
+        (told_by O.taken O.failures out.new) ≡ outs (told_by E.taken E.failures err.old)
+        (told_by O.taken O.failures out.old))) }
     ensures done { IfOk result (λ status. IsPrintedWith answer status
         (told_by E.taken E.failures err.old) (told_by E.taken E.failures err.new)
         (told_by O.taken O.failures out.old) (told_by O.taken O.failures out.new)) }
@@ -57,6 +64,9 @@ pub fn printed<O: Sink, E: Sink>(
 
 /// Prints an answer.
 fn print<O: Sink, E: Sink>(answer: &Answer, out: &mut O, err: &mut E) -> Result<u8, Refusal>
+    ensures prints { Prints answer.now.status answer.now.err.items answer.now.out.items
+        (outs (told_by E.taken E.failures err.old) (told_by O.taken O.failures out.old))
+        (outs (told_by E.taken E.failures err.new) (told_by O.taken O.failures out.new)) result }
     ensures status { IfOk result (λ status. status ≡ answer.now.status) }
     ensures done { OnOk result (Printed (λ texts. texts ≡ texts_in answer.now)
         (told_by E.taken E.failures err.old) (told_by E.taken E.failures err.new)

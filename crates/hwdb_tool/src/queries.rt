@@ -10,10 +10,13 @@ ghost use Rattle.hwdb_spec_commands.specs.Refusals.{HasReason};
 ghost use Rattle.hwdb_spec_commands.specs.Queries.{AreDone, AreUnanswered};
 ghost use Rattle.hwdb_spec_commands.specs.Reasons.{HasAskedReason};
 ghost use Rattle.hwdb_spec_commands.specs.Undone.{IsUnanswered};
-ghost use Rattle.hwdb_tool.specs.Views.{texts_in};
+ghost use Rattle.hwdb_plan.specs.Answers.{answer_plan, query_plan};
+ghost use Rattle.hwdb_plan.specs.Ended.{ShowsEnd, outs};
+ghost use Rattle.hwdb_plan.specs.Plans.{Follows};
+ghost use Rattle.hwdb_tool.specs.Views.{end_of, texts_in};
 
 use crate::answer::Answer;
-use crate::databases::asked;
+use crate::databases::{asked, refused_database};
 use crate::in_parts::answer_in_parts;
 use crate::input_devices::answer_input;
 use crate::printing::printed;
@@ -36,6 +39,11 @@ pub fn query<D: System, I: Source, O: Sink, E: Sink>(
     err: &mut E,
 ) -> Result<u8, Refusal>
     ensures small { IfOk result (λ status. status ≤ 1) }
+    ensures follows { D.Store.tells → ShowsEnd (D.System.reads system.now)
+        (query_plan root.now json (map string_bytes devices.now))
+        (told_by I.left I.failures input.old) (told_by I.left I.failures input.new)
+        (outs (told_by E.taken E.failures err.old) (told_by O.taken O.failures out.old))
+        (outs (told_by E.taken E.failures err.new) (told_by O.taken O.failures out.new)) result }
     ensures answered { D.Store.tells → IfOk result (λ status. AreDone root.now (Form.Query json)
         (map string_bytes devices.now) (I.left input.old) (D.Store.seen system.now) status
         (told_by E.taken E.failures err.old) (told_by E.taken E.failures err.new)
@@ -90,6 +98,8 @@ fn query_given<D: System>(
     system: &D,
 ) -> Result<Answer, Refusal>
     ensures status { IfOk result (λ a. a.status ≡ 0) }
+    ensures follows { D.Store.tells → Follows end_of (D.System.reads system.now)
+        (answer_plan root.now (Form.Query json) (map string_bytes devices.now)) result }
     ensures answered { D.Store.tells → IfOk result (λ a. OnOut (IsAnswered root.now
         (IsTextOf (texts_of (Form.Query json) (map string_bytes devices.now)))
         (D.Store.seen system.now)) (texts_in a)) }
@@ -113,17 +123,14 @@ fn query_whole<D: System>(
     system: &D,
 ) -> Result<Answer, Refusal>
     ensures status { IfOk result (λ a. a.status ≡ 0) }
-    ensures answered { D.Store.tells → IfOk result (λ a. OnOut (IsAnswered root.now
-        (IsTextOf (texts_of (Form.Query json) (map string_bytes devices.now)))
-        (D.Store.seen system.now)) (texts_in a)) }
-    ensures refused { D.Store.tells → IfErr result
-        (IsUnanswered root.now (D.Store.seen system.now)) }
+    ensures follows { D.Store.tells → Follows end_of (D.System.reads system.now)
+        (answer_plan root.now (Form.Query json) (map string_bytes devices.now)) result }
     ensures reason { IfErr result
         (HasReason (D.System.may_fail system.now) ⊥ (D.Store.seen system.now)) }
 {
     let found = asked(alloc, root, system)?;
     match answers(alloc, &found.bytes, devices, Form::Query { json }) {
         Ok(text) => Ok(Answer::new(alloc, text, 0)),
-        Err(error) => Err(Refusal::of_database(alloc, error, found.path.as_bytes())),
+        Err(error) => Err(refused_database(alloc, error, found.path.as_bytes())),
     }
 }

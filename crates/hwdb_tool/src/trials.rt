@@ -1,5 +1,5 @@
 //! `test`: test files that are tried over a database. Nothing is written.
-ghost use Rattle.std.specs.Prelude.{◌≡◌, false, is_some, map, option_map, string_bytes, IfErr, IfOk};
+ghost use Rattle.std.specs.Prelude.{◌≡◌, ◌≤◌, All, false, length, is_some, map, option_map, string_bytes, IfErr, IfOk};
 ghost use Rattle.hwdb_spec_commands.specs.Refusals.{HasReason};
 ghost use Rattle.hwdb_check.specs.Checks.{source_of};
 ghost use Rattle.hwdb_spec_commands.specs.Asked.{IsPrinted};
@@ -8,12 +8,17 @@ ghost use Rattle.hwdb_spec_commands.specs.Runs.{OnOut};
 ghost use Rattle.hwdb_spec_program.specs.Tested.{IsTested, IsVerdict};
 ghost use Rattle.hwdb_spec_program.specs.TestErrors.{AreUntried, HasTestReason, IsTestRefused, IsTrialRefusal};
 ghost use Rattle.hwdb_spec_commands.specs.Undone.{IsUnreadableIf};
-ghost use Rattle.hwdb_tool.specs.Views.{texts_in};
+ghost use Rattle.hwdb_plan.specs.Asking.{named};
+ghost use Rattle.hwdb_plan.specs.Files.{OfInput};
+ghost use Rattle.hwdb_plan.specs.Plans.{Follows};
+ghost use Rattle.hwdb_plan.specs.Test.{test_plan, tested};
+ghost use Rattle.hwdb_spec.specs.Folders.{Source};
+ghost use Rattle.hwdb_spec.specs.Texts.{max_file};
+ghost use Rattle.hwdb_tool.specs.Views.{end_of, texts_in};
 
 use crate::answer::Answer;
-use crate::checks::{read_given, with_paths};
-use crate::databases::named;
-use crate::given::input_text;
+use crate::checks::{given_texts, with_paths};
+use crate::databases::{named, refused_database};
 use hwdb_answers::ToolError;
 use hwdb_check::TextFile;
 use hwdb_io::Source;
@@ -35,6 +40,10 @@ pub fn test<D: System, I: Source>(
     system: &D,
     input: &mut I,
 ) -> Result<Answer, Refusal>
+    ensures follows { D.Store.tells → OfInput (I.left input.old) (I.failures input.old)
+        (I.failures input.new) (λ told. Follows end_of (D.System.reads system.now)
+        (test_plan told (map string_bytes given.now) (option_map (λ t. t.now) database.entry)
+        root.now json) result) }
     ensures tested { D.Store.tells → IfOk result (λ a. OnOut (λ text. IsTested json
         (map string_bytes given.now) (option_map (λ t. t.now) database.entry) root.now
         (I.left input.old) (D.Store.seen system.now) text a.status) (texts_in a)) }
@@ -47,8 +56,7 @@ pub fn test<D: System, I: Source>(
         (D.Store.seen system.now) (I.left input.old) (I.failures input.old)
         (I.failures input.new)) }
 {
-    let text = input_text(alloc, given, input)?;
-    let texts = read_given(alloc, given, given, &text, system)?;
+    let texts = given_texts(alloc, given, given, system, input)?;
     let files = with_paths(alloc, given, &texts)?;
     tried(alloc, root, database, json, &files, system)
 }
@@ -62,6 +70,11 @@ fn tried<D: System>(
     files: &[TextFile<'_>],
     system: &D,
 ) -> Result<Answer, Refusal>
+    ensures follows { D.Store.tells
+        → All (λ (s : Source). length s.bytes ≤ max_file) (map source_of files.now)
+        → Follows end_of (D.System.reads system.now)
+        (named (option_map (λ t. t.now) database.entry) root.now
+        (tested json (map source_of files.now))) result }
     ensures tested { D.Store.tells → IfOk result (λ a. OnOut (IsPrinted
         (option_map (λ t. t.now) database.entry) root.now
         (IsVerdict json (map source_of files.now) a.status)
@@ -75,7 +88,7 @@ fn tried<D: System>(
     let found = named(alloc, root, database, system)?;
     match tried_over(alloc, json, files, &found.bytes) {
         Ok(answer) => Ok(answer),
-        Err(error) => Err(Refusal::of_database(alloc, error, found.path.as_bytes())),
+        Err(error) => Err(refused_database(alloc, error, found.path.as_bytes())),
     }
 }
 

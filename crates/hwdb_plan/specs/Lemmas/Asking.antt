@@ -46,3 +46,16 @@ unfolding Ends
 none_found w root none none2 next =
     none_told w (database_path false root) next (Database (database_path true root) (if_there (database_path true root) next (Done (Stops NoDatabase)))) (Stops NoDatabase) none
     (none_told w (database_path true root) next (Done (Stops NoDatabase)) (Stops NoDatabase) none2 refl)
+
+-- ---- by the path of the one that is there
+pub asked_first : (w : Reads) (root path : List ℕ) → path ≡ database_path false root → (next : Next) (bytes : List ℕ) (e : End) → w.database path ≡ Ok (Some bytes) → Ends w (next path bytes) e → Ends w (asked root next) e
+asked_first w root path at next bytes e told ends =
+    there_told w (database_path false root) path bytes next (Database (database_path true root) (if_there (database_path true root) next (Done (Stops NoDatabase)))) e
+    (subst (λ (p : List ℕ). w.database p ≡ Ok (Some bytes)) at told) at ends
+
+pub asked_second : (w : Reads) (root first path : List ℕ) → first ≡ database_path false root → w.database first ≡ Ok None → path ≡ database_path true root → (next : Next) (bytes : List ℕ) (e : End)
+    → w.database path ≡ Ok (Some bytes) → Ends w (next path bytes) e → Ends w (asked root next) e
+asked_second w root first path hidden none at next bytes e told ends =
+    none_told w (database_path false root) next (Database (database_path true root) (if_there (database_path true root) next (Done (Stops NoDatabase)))) e
+    (subst (λ (p : List ℕ). w.database p ≡ Ok None) hidden none)
+    (there_told w (database_path true root) path bytes next (Done (Stops NoDatabase)) e (subst (λ (p : List ℕ). w.database p ≡ Ok (Some bytes)) at told) at ends)

@@ -21,11 +21,12 @@ use Rattle.hwdb_spec.specs.declared.errors.ToolError.TheVariants.{BadDatabase}
 use Rattle.hwdb_spec_commands.specs.declared.refusals.Refusal.{Refusal}
 use Rattle.hwdb_spec_commands.specs.declared.refusals.Refusal.TheVariants as refusal
 use Rattle.hwdb_plan.specs.Put.{put_plan}
-use Rattle.hwdb_plan.specs.Streams.{answered}
-use Rattle.hwdb_plan.specs.Ended.{Does, IsUnput, Leaves, Prints, ReplacesWith, StreamsTo, outs, outs_of}
+use Rattle.hwdb_plan.specs.Answers.{streamed}
+use Rattle.hwdb_plan.specs.Dump.{bad_database}
+use Rattle.hwdb_plan.specs.Ended.{Does, IsUnput, Leaves, OnLines, Outs, Prints, ReplacesWith, ShowsEnd, StreamsTo, outs, outs_of, whole}
 use Rattle.hwdb_plan.specs.Plans.{AreMadeOf, End, Ends, Follows, Next, Plan}
-use Rattle.hwdb_plan.specs.Plans.End.{Answers, Replaces, Stops, Streams}
-use Rattle.hwdb_spec_commands.specs.Told.{Reads, stop_of}
+use Rattle.hwdb_plan.specs.Plans.End.{Answers, Lines, Replaces, Stops, Streams}
+use Rattle.hwdb_spec_commands.specs.Told.{Reads, Stop, stop_of}
 use Rattle.hwdb_spec_commands.specs.Told.Stop.{Over, Plain}
 
 -- an answer that was had and printed, or not: of any type that has a status and two texts
@@ -33,16 +34,16 @@ module _ {Y : Type 0} (status : Y → ℕ) (err out : Y → List ℕ) where
   abbrev end_of : Y → End
   end_of a = Answers (status a) (err a) (out a)
 
-  pub answer_does : (answer : Result Y Refusal) (result : Result ℕ Refusal) (w : Reads) (p : Plan) (before now : World) → Follows end_of w p answer → AreKept before.files now.files
-      → MatchResult answer (λ a. Prints (status a) (err a) (out a) (outs_of before) (outs_of now) result) (λ r. (result ≡ Err r) × (outs_of now ≡ outs_of before))
-      → Does w p before now result
-  answer_does (Ok a) result w p before now ends kept prints = inl (end_of a, ends, (prints, kept))
-  answer_does (Err r) (Ok n) w p before now why kept (is, same) = absurd cc
-  answer_does (Err r) (Err x) w p before now (inl memory) kept (is, same) = inr (forgone, same, kept)
+  pub answer_shows : (answer : Result Y Refusal) (result : Result ℕ Refusal) (w : Reads) (p : Plan) (input_before input_now : Told) (before now : Outs) → Follows end_of w p answer
+      → MatchResult answer (λ a. Prints (status a) (err a) (out a) before now result) (λ r. (result ≡ Err r) × (now ≡ before))
+      → ShowsEnd w p input_before input_now before now result
+  answer_shows (Ok a) result w p ib im before now ends prints = inl (end_of a, ends, prints)
+  answer_shows (Err r) (Ok n) w p ib im before now why (is, same) = absurd cc
+  answer_shows (Err r) (Err x) w p ib im before now (inl memory) (is, same) = inr (forgone, same)
     where
       forgone : x ≡ refusal.Plain error.Memory
       forgone = cc
-  answer_does (Err r) (Err x) w p before now (inr ends) kept (is, same) = inl (Stops (stop_of r), ends, (says, same, kept))
+  answer_shows (Err r) (Err x) w p ib im before now (inr ends) (is, same) = inl (Stops (stop_of r), ends, (says, same))
     where
       one : x ≡ r
       one = cc
@@ -50,14 +51,12 @@ module _ {Y : Type 0} (status : Y → ℕ) (err out : Y → List ℕ) where
       says : stop_of x ≡ stop_of r
       says = ap stop_of one
 
-pub nothing_changed : (files : Files) → AreKept files files
-nothing_changed files = record { same = λ p. refl; no_more = λ p v l. l }
-
--- a step's error is handed on before anything was done
-pub stop_does : (w : Reads) (p : Plan) (before : World) (r : Refusal) (result : Result ℕ Refusal) → (r ≡ refusal.Plain error.Memory) ⊎ Ends w p (Stops (stop_of r)) → IsErrAnd result (λ x. x ≡ r) → Does w p before before result
-stop_does w p before r (Ok n) why is = absurd is
-stop_does w p before r (Err x) (inl memory) is = inr (is ∙ memory, refl, nothing_changed before.files)
-stop_does w p before r (Err x) (inr ends) is = inl (Stops (stop_of r), ends, (ap stop_of is, refl, nothing_changed before.files))
+-- a step's error is handed on before anything was shown
+pub stop_shows : (w : Reads) (p : Plan) (input_before input_now : Told) (before : Outs) (r : Refusal) (result : Result ℕ Refusal) → (r ≡ refusal.Plain error.Memory) ⊎ Ends w p (Stops (stop_of r))
+    → IsErrAnd result (λ x. x ≡ r) → ShowsEnd w p input_before input_now before before result
+stop_shows w p ib im before r (Ok n) why is = absurd is
+stop_shows w p ib im before r (Err x) (inl memory) is = inr (is ∙ memory, refl)
+stop_shows w p ib im before r (Err x) (inr ends) is = inl (Stops (stop_of r), ends, (ap stop_of is, refl))
 
 -- before what follows
 pub before_next : (w : Reads) (p : Next → Plan) (next : Next) (r : Refusal) → (r ≡ refusal.Plain error.Memory) ⊎ ((n : Next) → Ends w (p n) (Stops (stop_of r)))
@@ -65,13 +64,27 @@ pub before_next : (w : Reads) (p : Next → Plan) (next : Next) (r : Refusal) �
 before_next w p next r (inl memory) = inl memory
 before_next w p next r (inr ends) = inr (ends next)
 
--- ---- lines of standard input
-module _ (w : Reads) (p : Next → Plan) (form : Form) (path bytes : List ℕ) (step : (next : Next) (e : End) → Ends w (next path bytes) e → Ends w (p next) e) where
-  -- they aren't answered: the bytes are no database
-  pub bad_ends : (at : List ℕ) (f : DbFault) (r : Refusal) → IsNoDatabase bytes f → at ≡ path → IsOfCause (BadDatabase f) at None r → (r ≡ refusal.Plain error.Memory) ⊎ Ends w (p (answered form)) (Stops (stop_of r))
-  unfolding Ends
-  bad_ends at f (refusal.Plain e) none same of = inl (ap refusal.Plain of)
-  bad_ends at f (refusal.At e q c) none same of = inr (step (answered form) (Stops (Over e q.items c)) (inr (f, none, one)))
+pub nothing_changed : (files : Files) → AreKept files files
+nothing_changed files = record { same = λ p. refl; no_more = λ p v l. l }
+
+-- a run that only reads leaves its files
+pub shown_does : (w : Reads) (p : Plan) (before now : World) (result : Result ℕ Refusal) → ShowsEnd w p before.input now.input (outs_of before) (outs_of now) result
+    → AreKept before.files now.files → Does w p before now result
+shown_does w p before now result (inl (Stops s, ends, shows)) kept = inl (Stops s, ends, (shows, kept))
+shown_does w p before now result (inl (Answers status err out, ends, shows)) kept = inl (Answers status err out, ends, (shows, kept))
+shown_does w p before now result (inl (Lines lines, ends, shows)) kept = inl (Lines lines, ends, (shows, kept))
+shown_does w p before now result (inl (Streams text, ends, shows)) kept = inl (Streams text, ends, (shows, kept))
+shown_does w p before now result (inl (Replaces folder bytes said status, ends, shows)) kept = absurd shows
+shown_does w p before now result (inr none) kept = inr (none, kept)
+
+-- ---- bytes of a database
+module _ (w : Reads) (p : Next → Plan) (path bytes : List ℕ) (step : (next : Next) (e : End) → Ends w (next path bytes) e → Ends w (p next) e) where
+  -- they are none, and what follows says so
+  pub bad_ends : (next : Next) (at : List ℕ) (f : DbFault) (r : Refusal) → (IsNoDatabase bytes f → Ends w (next path bytes) (Stops (bad_database path f))) → IsNoDatabase bytes f → at ≡ path
+      → IsOfCause (BadDatabase f) at None r → (r ≡ refusal.Plain error.Memory) ⊎ Ends w (p next) (Stops (stop_of r))
+  bad_ends next at f (refusal.Plain e) bad none same of = inl (ap refusal.Plain of)
+  bad_ends next at f (refusal.At e q c) bad none same of =
+      inr (step next (Stops (Over e q.items c)) (subst (λ (x : Stop). Ends w (next path bytes) (Stops x)) (sym one) (bad none)))
     where
       error_ : e ≡ BadDatabase f
       error_ = of.0
@@ -82,18 +95,17 @@ module _ (w : Reads) (p : Next → Plan) (form : Form) (path bytes : List ℕ) (
       cause : c ≡ None
       cause = of.2
 
-      one : Stops (Over e q.items c) ≡ Stops (Over (BadDatabase f) path None)
+      one : Over e q.items c ≡ bad_database path f
       one = cc
-  bad_ends at f refusal.NoDatabase none same of = absurd of
-  bad_ends at f (refusal.InWords text) none same of = absurd of
+  bad_ends next at f refusal.NoDatabase bad none same of = absurd of
+  bad_ends next at f (refusal.InWords text) bad none same of = absurd of
 
-  -- they are
-  pub stream_does : (t : Tree) → IsDatabase bytes t → (before now : World) (result : Result ℕ Refusal)
-      → IfSome before.input.bytes (λ told. StreamsTo (λ lines. texts_of form lines t) (devices_of told) before.out now.out result) → now.err ≡ before.err → AreKept before.files now.files
-      → Does w (p (answered form)) before now result
+  -- lines of standard input are answered
+  pub stream_shows : (form : Form) (t : Tree) → IsDatabase bytes t → (input_before input_now : Told) (before now : Outs) (result : Result ℕ Refusal)
+      → StreamsTo (λ lines. texts_of form lines t) input_before input_now before.out now.out result → now.err ≡ before.err → ShowsEnd w (p (streamed form)) input_before input_now before now result
   unfolding Ends
-  stream_does t is before now result streams quiet kept =
-      inl (Streams (λ lines. texts_of form lines t), step (answered form) (Streams (λ lines. texts_of form lines t)) (inl (t, is, refl)), (streams, quiet, kept))
+  stream_shows form t is ib im before now result streams quiet =
+      inl (Streams (λ lines. texts_of form lines t), step (streamed form) (Streams (λ lines. texts_of form lines t)) (inl (t, is, refl)), (streams, quiet))
 
 -- ---- a database in its place
 module _ (w : Reads) (etc usr : List Source) (most : ℕ) (strict : Bool) (folder : List ℕ) where
@@ -111,17 +123,17 @@ module _ (w : Reads) (etc usr : List Source) (most : ℕ) (strict : Bool) (folde
         (subst (λ (l : List FaultIn). ReplacesWith folder bytes (faults_text l) (status_of strict l) before.files now.files before.err now.err result) same replaces, quiet),
       )
   put_does bytes t faults made is same before now result (inr unput) quiet =
-      inr (unput.0, ap (λ (x : Told). outs x now.out) unput.1 ∙ ap (λ (x : Told). outs before.err x) quiet, unput.2)
+      inr ((unput.0, ap (λ (x : Told). outs x now.out) unput.1 ∙ ap (λ (x : Told). outs before.err x) quiet), unput.2)
 
   pub uncompiled_does : (e : CompileError) (r : Refusal) (before : World) → IsRefusal etc usr most e → r ≡ refusal.Plain (refusal_of_compile e) → Does w Puts before before (Err r)
   unfolding Ends
-  uncompiled_does compiling.Memory r before much is = inr (is, refl, nothing_changed before.files)
+  uncompiled_does compiling.Memory r before much is = inr ((is, refl), nothing_changed before.files)
   uncompiled_does compiling.TooManyFiles r before much is =
-      inl (Stops (Plain error.TooManyFiles), inr (compiling.TooManyFiles, much, refl), (ap stop_of is, refl, nothing_changed before.files))
+      inl (Stops (Plain error.TooManyFiles), inr (compiling.TooManyFiles, much, refl), ((ap stop_of is, refl), nothing_changed before.files))
   uncompiled_does compiling.TooManyLines r before much is =
-      inl (Stops (Plain error.TooManyLines), inr (compiling.TooManyLines, much, refl), (ap stop_of is, refl, nothing_changed before.files))
+      inl (Stops (Plain error.TooManyLines), inr (compiling.TooManyLines, much, refl), ((ap stop_of is, refl), nothing_changed before.files))
   uncompiled_does compiling.TooLarge r before much is =
-      inl (Stops (Plain error.TooLarge), inr (compiling.TooLarge, much, refl), (ap stop_of is, refl, nothing_changed before.files))
+      inl (Stops (Plain error.TooLarge), inr (compiling.TooLarge, much, refl), ((ap stop_of is, refl), nothing_changed before.files))
 
 -- ---- an end leaves one status, and one text on each output, if no output fails
 -- devices that tell what they had before
@@ -144,18 +156,24 @@ one_taken had before now now2 text told one two =
 
 pub leaves_one : (e : End) (before now now2 : World) (m n : ℕ) → TellAll before → Leaves e before now (Ok m) → Leaves e before now2 (Ok n)
     → (m ≡ n) × (now.err.bytes ≡ now2.err.bytes) × (now.out.bytes ≡ now2.out.bytes)
-leaves_one (Stops s) before now now2 m n tell a b = absurd a.0
+leaves_one (Stops s) before now now2 m n tell a b = absurd a.0.0
 leaves_one (Answers status err out) before now now2 m n tell a b = (
   a.0.0 ∙ sym b.0.0,
   one_taken tell.err before.err now.err now2.err err tell.of_err a.0.1.took_err b.0.1.took_err,
   one_taken tell.out before.out now.out now2.out out tell.of_out a.0.1.took_out b.0.1.took_out,
 )
-leaves_one (Streams text) before now now2 m n tell a b =
-    let one : StreamsTo text (devices_of tell.input) before.out now.out (Ok m) =
-    subst (λ (o : Option (List ℕ)). IfSome o (λ told. StreamsTo text (devices_of told) before.out now.out (Ok m))) tell.of_input a.0 in
-    let two : StreamsTo text (devices_of tell.input) before.out now2.out (Ok n) =
-    subst (λ (o : Option (List ℕ)). IfSome o (λ told. StreamsTo text (devices_of told) before.out now2.out (Ok n))) tell.of_input b.0 in
-    (one.0 ∙ sym two.0, ap (λ (t : Told). t.bytes) (a.1 ∙ sym b.1), one_taken tell.out before.out now.out now2.out (text (devices_of tell.input)) tell.of_out one.2 two.2)
+leaves_one (Lines lines) before now now2 m n tell a b =
+    (a.0.0.0 ∙ sym b.0.0.0, ap (λ (t : Told). t.bytes) (a.0.1 ∙ sym b.0.1), one_taken tell.out before.out now.out now2.out (whole lines) tell.of_out a.0.0.1 b.0.0.1)
+leaves_one (Streams text) before now now2 m n tell a b = (
+  a.0.0.0 ∙ sym b.0.0.0,
+  ap (λ (t : Told). t.bytes) (a.0.1 ∙ sym b.0.1),
+  one_grown tell.out now.out.bytes now2.out.bytes (text (devices_of tell.input)) (took now a.0.0.1.taken) (took now2 b.0.0.1.taken),
+)
+  where
+    took : (then : World) → OnLines before.input.bytes (λ lines. Appends before.out.bytes then.out.bytes (text lines)) → Appends (Some tell.out) then.out.bytes (text (devices_of tell.input))
+    took then taken =
+        subst (λ (o : Option (List ℕ)). Appends o then.out.bytes (text (devices_of tell.input))) tell.of_out
+        (subst (λ (o : Option (List ℕ)). OnLines o (λ lines. Appends before.out.bytes then.out.bytes (text lines))) tell.of_input taken)
 leaves_one (Replaces folder bytes said status) before now now2 m n tell a b =
     (a.0.0 ∙ sym b.0.0, one_taken tell.err before.err now.err now2.err said tell.of_err a.0.1 b.0.1, ap (λ (t : Told). t.bytes) (a.1 ∙ sym b.1))
 
@@ -165,5 +183,5 @@ pub runs_are_one : (w : Reads) (p : Plan) (before now now2 : World) (m n : ℕ) 
     → Does w p before now (Ok m) → Does w p before now2 (Ok n) → (m ≡ n) × (now.err.bytes ≡ now2.err.bytes) × (now.out.bytes ≡ now2.out.bytes)
 runs_are_one w p before now now2 m n tell one (inl (e, ends, left)) (inl (f, ends2, left2)) =
     leaves_one e before now now2 m n tell left (subst (λ (x : End). Leaves x before now2 (Ok n)) (one f e ends2 ends) left2)
-runs_are_one w p before now now2 m n tell one (inr forgone) b = absurd forgone.0
-runs_are_one w p before now now2 m n tell one (inl a) (inr forgone) = absurd forgone.0
+runs_are_one w p before now now2 m n tell one (inr forgone) b = absurd forgone.0.0
+runs_are_one w p before now now2 m n tell one (inl a) (inr forgone) = absurd forgone.0.0

@@ -1,49 +1,73 @@
-use Rattle.std.proofs.Common.{◌∙◌, inl, subst, sym, IfErr, IfOk, [], ◌∷◌}
-use Rattle.hwdb_spec_commands.specs.declared.form.Form.TheVariants.{Explain}
+use Rattle.std.proofs.Common.{◌∙◌, [], ◌∷◌, subst, sym, List, ℕ}
+use Rattle.hwdb_spec.specs.Lemmas.Calls.{each_error, each_value}
 use Rattle.hwdb_spec_commands.specs.Given.{is_dash}
 use Rattle.hwdb_spec_commands.specs.Runs.{told_by}
-use Rattle.hwdb_spec_commands.specs.Reasons.{HasAskedReason}
-use Rattle.hwdb_tool.proofs.AnswerLemmas.{printed_reason, unanswered_asked}
-use Rattle.hwdb_tool.proofs.ErrorLemmas.{both_errors}
-use Rattle.hwdb_spec_commands.specs.Queries.{AreDone, AreUnanswered}
-use Rattle.hwdb_tool.proofs.PrintingLemmas.{streamed_done, streamed_refused}
+use Rattle.hwdb_spec_commands.specs.declared.form.Form.TheVariants.{Explain}
+use Rattle.hwdb_plan.specs.Answers.{answer_plan, devices_plan}
+use Rattle.hwdb_plan.specs.Ended.{ShowsEnd, outs}
+use Rattle.hwdb_plan.specs.Lemmas.Ends.{answer_shows}
+use Rattle.hwdb_plan.specs.Plans.{Follows}
+use Rattle.hwdb_tool.specs.Views.{end_of}
+use Rattle.hwdb_tool.specs.declared.answer.Answer.{Answer}
+use Rattle.hwdb_tool.proofs.DevicesAsBeforeLemmas.{devices_as_before}
 use Rattle.hwdb_tool.proofs.answers.explain.Goals as goal
+
+pub returns-then-is_dash-clause-follows : goal.returns-then-is_dash-clause-follows
+returns-then-is_dash-clause-follows g c = λ tells.
+    let input = told_by g.I.Source.left g.I.Source.failures in
+    let err = told_by g.E.Sink.taken g.E.Sink.failures in
+    let out = told_by g.O.Sink.taken g.O.Sink.failures in
+    subst (λ b. ShowsEnd (g.D.System.reads c.args.system.now) (devices_plan b c.args.root.now (Explain c.args.json) (c.args.device.now ∷ [])) (input c.args.input.now) (input c.answer_input.new.input)
+    (outs (err c.args.err.now) (out c.args.out.now)) (outs (err c.answer_input.new.err) (out c.answer_input.new.out)) c.answer_input.result) (sym c.if-is_dash.true ∙ c.is_dash.ensures) (c.answer_input.ensures.follows tells)
+
+pub returns-clause-follows : goal.returns-clause-follows
+returns-clause-follows g c = λ tells.
+    let input = told_by g.I.Source.left g.I.Source.failures c.args.input.now in
+    let err = told_by g.E.Sink.taken g.E.Sink.failures in
+    let out = told_by g.O.Sink.taken g.O.Sink.failures in
+    let w = g.D.System.reads c.args.system.now in
+    subst (λ b. ShowsEnd w (devices_plan b c.args.root.now (Explain c.args.json) (c.args.device.now ∷ [])) input input (outs (err c.args.err.now) (out c.args.out.now)) (outs (err c.printed.new.err) (out c.printed.new.out)) c.printed.result)
+    (sym c.if-is_dash.false ∙ c.is_dash.ensures)
+    (answer_shows (λ (a : Answer). a.status) (λ a. a.err.items) (λ a. a.out.items) c.explain_given-answer.result c.printed.result w (answer_plan c.args.root.now (Explain c.args.json) (c.args.device.now ∷ [])) input input
+    (outs (err c.args.err.now) (out c.args.out.now)) (outs (err c.printed.new.err) (out c.printed.new.out))
+    (subst (λ (d : List ℕ). Follows end_of w (answer_plan c.args.root.now (Explain c.args.json) (d ∷ [])) c.explain_given-answer.result) c.as_bytes.ensures.value (c.explain_given-answer.ensures.follows tells)) c.printed.ensures.prints)
 
 pub returns-then-is_dash-clause-answered : goal.returns-then-is_dash-clause-answered
 returns-then-is_dash-clause-answered g c = λ tells.
-    let told = told_by g.E.Sink.taken g.E.Sink.failures in
-    subst (λ e. IfOk c.answer_input.result (λ status. AreDone c.args.root.now (Explain c.args.json) (c.args.device.now ∷ []) (g.I.Source.left c.args.input.now) (g.D.Store.seen c.args.system.now) status
-    (told c.args.err.now) (told e) (told_by g.O.Sink.taken g.O.Sink.failures c.args.out.now) (told_by g.O.Sink.taken g.O.Sink.failures c.answer_input.new.out))) (sym (c.answer_input.ensures.quiet tells))
-    (streamed_done c.args.root.now (Explain c.args.json) (c.args.device.now ∷ []) (g.I.Source.left c.args.input.now) (g.D.Store.seen c.args.system.now) c.answer_input.result
-    (told_by g.E.Sink.taken g.E.Sink.failures c.args.err.now) (told_by g.O.Sink.taken g.O.Sink.failures c.args.out.now) (told_by g.O.Sink.taken g.O.Sink.failures c.answer_input.new.out)
-    (sym c.is_dash.ensures ∙ c.if-is_dash.true) c.answer_input.ensures.small c.answer_input.ensures.all (c.answer_input.ensures.answered tells))
-
-pub returns-then-is_dash-clause-reason : goal.returns-then-is_dash-clause-reason
-returns-then-is_dash-clause-reason g c = λ tells.
-    let fails = g.D.System.may_fail c.args.system.now in
-    let seen = g.D.Store.seen c.args.system.now in
-    let input = g.I.Source.left c.args.input.now in
-    let before = g.I.Source.failures c.args.input.now in
-    let now = g.I.Source.failures c.answer_input.new.input in
-    subst (λ b. IfErr c.answer_input.result (HasAskedReason b c.args.root.now fails seen input before now)) (sym c.if-is_dash.true ∙ c.is_dash.ensures)
-    (c.answer_input.ensures.reason tells)
-
-pub returns-clause-reason : goal.returns-clause-reason
-returns-clause-reason g c = λ tells.
-    let root = c.args.root.now in
-    let fails = g.D.System.may_fail c.args.system.now in
-    let seen = g.D.Store.seen c.args.system.now in
-    let input = g.I.Source.left c.args.input.now in
-    let failures = g.I.Source.failures c.args.input.now in
-    printed_reason c.explain_given-answer.result c.printed.result (HasAskedReason (is_dash c.args.device.now) root fails seen input failures failures) _ _ _ _
-    (both_errors _ _ _ c.explain_given-answer.result (λ r refused has. inl (unanswered_asked root seen r refused, has)) (c.explain_given-answer.ensures.refused tells) c.explain_given-answer.ensures.reason)
-    (inl (tt, tt)) c.printed.ensures.refused
+    let s = c.args.system.now in
+    let input = told_by g.I.Source.left g.I.Source.failures in
+    let err = told_by g.E.Sink.taken g.E.Sink.failures in
+    let out = told_by g.O.Sink.taken g.O.Sink.failures in
+    each_value _ _ c.answer_input.result (λ n is. is.1)
+    (devices_as_before (g.D.System.reads s) (g.D.Store.seen s) (g.D.System.may_fail s) c.args.root.now (Explain c.args.json) (c.args.device.now ∷ []) (input c.args.input.now) (input c.answer_input.new.input) (outs (err c.args.err.now) (out c.args.out.now))
+    (outs (err c.answer_input.new.err) (out c.answer_input.new.out)) (g.met.D.System.agrees s tells) (is_dash c.args.device.now) c.answer_input.result (returns-then-is_dash-clause-follows g c tells)).0
 
 pub returns-then-is_dash-clause-refused : goal.returns-then-is_dash-clause-refused
 returns-then-is_dash-clause-refused g c = λ tells.
-    let told = told_by g.E.Sink.taken g.E.Sink.failures in
-    subst (λ e. IfErr c.answer_input.result (λ r. AreUnanswered c.args.root.now (Explain c.args.json) (c.args.device.now ∷ []) (g.I.Source.left c.args.input.now) (g.D.Store.seen c.args.system.now) r
-    (told c.args.err.now) (told e) (told_by g.O.Sink.taken g.O.Sink.failures c.args.out.now) (told_by g.O.Sink.taken g.O.Sink.failures c.answer_input.new.out))) (sym (c.answer_input.ensures.quiet tells))
-    (streamed_refused c.args.root.now (Explain c.args.json) (c.args.device.now ∷ []) (g.I.Source.left c.args.input.now) (g.D.Store.seen c.args.system.now) c.answer_input.result
-    (told c.args.err.now) (told_by g.O.Sink.taken g.O.Sink.failures c.args.out.now) (told_by g.O.Sink.taken g.O.Sink.failures c.answer_input.new.out)
-    (sym c.is_dash.ensures ∙ c.if-is_dash.true) (c.answer_input.ensures.refused tells))
+    let s = c.args.system.now in
+    let input = told_by g.I.Source.left g.I.Source.failures in
+    let err = told_by g.E.Sink.taken g.E.Sink.failures in
+    let out = told_by g.O.Sink.taken g.O.Sink.failures in
+    each_error _ _ c.answer_input.result (λ r is. is.0)
+    (devices_as_before (g.D.System.reads s) (g.D.Store.seen s) (g.D.System.may_fail s) c.args.root.now (Explain c.args.json) (c.args.device.now ∷ []) (input c.args.input.now) (input c.answer_input.new.input) (outs (err c.args.err.now) (out c.args.out.now))
+    (outs (err c.answer_input.new.err) (out c.answer_input.new.out)) (g.met.D.System.agrees s tells) (is_dash c.args.device.now) c.answer_input.result (returns-then-is_dash-clause-follows g c tells)).1
+
+pub returns-then-is_dash-clause-reason : goal.returns-then-is_dash-clause-reason
+returns-then-is_dash-clause-reason g c = λ tells.
+    let s = c.args.system.now in
+    let input = told_by g.I.Source.left g.I.Source.failures in
+    let err = told_by g.E.Sink.taken g.E.Sink.failures in
+    let out = told_by g.O.Sink.taken g.O.Sink.failures in
+    each_error _ _ c.answer_input.result (λ r is. is.1)
+    (devices_as_before (g.D.System.reads s) (g.D.Store.seen s) (g.D.System.may_fail s) c.args.root.now (Explain c.args.json) (c.args.device.now ∷ []) (input c.args.input.now) (input c.answer_input.new.input) (outs (err c.args.err.now) (out c.args.out.now))
+    (outs (err c.answer_input.new.err) (out c.answer_input.new.out)) (g.met.D.System.agrees s tells) (is_dash c.args.device.now) c.answer_input.result (returns-then-is_dash-clause-follows g c tells)).1
+
+pub returns-clause-reason : goal.returns-clause-reason
+returns-clause-reason g c = λ tells.
+    let s = c.args.system.now in
+    let input = told_by g.I.Source.left g.I.Source.failures in
+    let err = told_by g.E.Sink.taken g.E.Sink.failures in
+    let out = told_by g.O.Sink.taken g.O.Sink.failures in
+    each_error _ _ c.printed.result (λ r is. is.1)
+    (devices_as_before (g.D.System.reads s) (g.D.Store.seen s) (g.D.System.may_fail s) c.args.root.now (Explain c.args.json) (c.args.device.now ∷ []) (input c.args.input.now) (input c.args.input.now) (outs (err c.args.err.now) (out c.args.out.now))
+    (outs (err c.printed.new.err) (out c.printed.new.out)) (g.met.D.System.agrees s tells) (is_dash c.args.device.now) c.printed.result (returns-clause-follows g c tells)).1

@@ -1,5 +1,4 @@
 use Rattle.std.proofs.Common.{inl, inr, map, string_bytes, subst, sym, ap, true, false, ◌∙◌, ◌≡◌, IfErr, IfOk}
-use Rattle.std.proofs.lemmas.List.Elements.{All-map}
 use Rattle.std.proofs.lemmas.Result.{IfErr-weaker}
 use Rattle.hwdb_check.specs.Checks.{source_of}
 use Rattle.hwdb_spec_commands.specs.Given.{any_dash}
@@ -8,8 +7,7 @@ use Rattle.hwdb_spec_commands.specs.Comparisons.{comparison_form, devices_named,
 use Rattle.hwdb_spec_commands.specs.Runs.{OnOut}
 use Rattle.hwdb_tool.specs.SideSteps.{IsPairError}
 use Rattle.hwdb_tool.specs.Views.{texts_in}
-use Rattle.hwdb_tool.proofs.CheckLemmas.{IsShort, given_sources, told_of}
-use Rattle.hwdb_tool.proofs.GivenLemmas.{files_reason, input_read, whole_reason}
+use Rattle.hwdb_tool.proofs.FileLemmas.{are_files}
 use Rattle.hwdb_tool.proofs.ComparisonLemmas.{all_compared, compared_reason, not_compared}
 use Rattle.hwdb_tool.proofs.InputSideLemmas.{at_start, compared_any, no_dash, none_named, one_dash, pair_any}
 use Rattle.hwdb_tool.proofs.differences.diff.Goals as goal
@@ -32,20 +30,15 @@ returns-clause-diffed g c = λ tells.
     let before = g.I.Source.failures c.args.input.now in
     let now = g.I.Source.failures c.compared.new.input in
     let once = sym c.names_twice.ensures ∙ c.if-names_twice.false in
-    let told = told_of given input _ _ c.deref.ensures.value c.in_ok-text.ensures.whole in
-    let files = c.deref-3.result.now in
-    let named : map (λ f. f.path.now) files ≡ given = ap (map (λ f. f.path.now)) c.deref-3.ensures.value ∙ c.in_ok-files.ensures.paths in
-    let held : map (λ f. f.bytes.now) files ≡ map (λ t. t.items) c.in_ok-texts.texts.items =
-    ap (map (λ f. f.bytes.now)) c.deref-3.ensures.value ∙ c.in_ok-files.ensures.bytes ∙ ap (map (λ t. t.items)) c.deref-2.ensures.value in
-    let short = All-map IsShort (λ t. t.items) c.in_ok-texts.texts.items
-    (c.in_ok-texts.ensures.within (subst IsShort (sym c.deref.ensures.value) c.in_ok-text.ensures.within)) in
-    let are = given_sources input seen _ given _ files (c.in_ok-texts.ensures.read tells) told named held short in
+    let files = c.deref-2.result.now in
+    let are = c.in_ok-texts.ensures.files tells (map source_of files) (are_files files given _ (ap (map (λ f. f.path.now)) c.deref-2.ensures.value ∙ c.in_ok-files.ensures.paths)
+    (ap (map (λ f. f.bytes.now)) c.deref-2.ensures.value ∙ c.in_ok-files.ensures.bytes ∙ ap (map (λ t. t.items)) c.deref.ensures.value)) in
     let of = comparison_form c.args.stat c.args.json (devices_named (map source_of files)) in
     let differ = has_changed (devices_named (map source_of files)) in
-    let done = at_start (any_dash given) (λ i. IfOk c.compared.result (λ a. OnOut (λ text. IsCompared of differ old_path new_path (g.I.Source.left i) seen text a.status) (texts_in a))) c.args.input.now c.input_text.new.input
-    c.in_ok-text.ensures.untouched
+    let done = at_start (any_dash given) (λ i. IfOk c.compared.result (λ a. OnOut (λ text. IsCompared of differ old_path new_path (g.I.Source.left i) seen text a.status) (texts_in a))) c.args.input.now c.given_texts.new.input
+    c.in_ok-texts.ensures.unread
     (λ dash. each_value _ _ c.compared.result
-    (λ a is. (is.0, compared_any old_path new_path seen (g.I.Source.left c.input_text.new.input) input (no_dash given old_path new_path once dash) of differ _ a.status is.1)))
+    (λ a is. (is.0, compared_any old_path new_path seen (g.I.Source.left c.given_texts.new.input) input (no_dash given old_path new_path once dash) of differ _ a.status is.1)))
     (c.compared.ensures.compared tells (one_dash given old_path new_path once)) in
     all_compared given old_path new_path input seen (map source_of files) are once c.args.stat c.args.json c.compared.result done
 
@@ -60,19 +53,14 @@ returns-clause-refused g c = λ tells.
     let before = g.I.Source.failures c.args.input.now in
     let now = g.I.Source.failures c.compared.new.input in
     let once = sym c.names_twice.ensures ∙ c.if-names_twice.false in
-    let told = told_of given input _ _ c.deref.ensures.value c.in_ok-text.ensures.whole in
-    let files = c.deref-3.result.now in
-    let named : map (λ f. f.path.now) files ≡ given = ap (map (λ f. f.path.now)) c.deref-3.ensures.value ∙ c.in_ok-files.ensures.paths in
-    let held : map (λ f. f.bytes.now) files ≡ map (λ t. t.items) c.in_ok-texts.texts.items =
-    ap (map (λ f. f.bytes.now)) c.deref-3.ensures.value ∙ c.in_ok-files.ensures.bytes ∙ ap (map (λ t. t.items)) c.deref-2.ensures.value in
-    let short = All-map IsShort (λ t. t.items) c.in_ok-texts.texts.items
-    (c.in_ok-texts.ensures.within (subst IsShort (sym c.deref.ensures.value) c.in_ok-text.ensures.within)) in
-    let are = given_sources input seen _ given _ files (c.in_ok-texts.ensures.read tells) told named held short in
+    let files = c.deref-2.result.now in
+    let are = c.in_ok-texts.ensures.files tells (map source_of files) (are_files files given _ (ap (map (λ f. f.path.now)) c.deref-2.ensures.value ∙ c.in_ok-files.ensures.paths)
+    (ap (map (λ f. f.bytes.now)) c.deref-2.ensures.value ∙ c.in_ok-files.ensures.bytes ∙ ap (map (λ t. t.items)) c.deref.ensures.value)) in
     let error : IfErr c.compared.result (IsPairError fails seen input before now old_path new_path) =
-    at_start (any_dash given) (λ i. IfErr c.compared.result (IsPairError fails seen (g.I.Source.left i) (g.I.Source.failures i) now old_path new_path)) c.args.input.now c.input_text.new.input
-    c.in_ok-text.ensures.untouched
+    at_start (any_dash given) (λ i. IfErr c.compared.result (IsPairError fails seen (g.I.Source.left i) (g.I.Source.failures i) now old_path new_path)) c.args.input.now c.given_texts.new.input
+    c.in_ok-texts.ensures.unread
     (λ dash. IfErr-weaker c.compared.result _ _
-    (λ r e. pair_any old_path new_path seen (g.I.Source.left c.input_text.new.input) input (no_dash given old_path new_path once dash) fails (g.I.Source.failures c.input_text.new.input) now before now r e))
+    (λ r e. pair_any old_path new_path seen (g.I.Source.left c.given_texts.new.input) input (no_dash given old_path new_path once dash) fails (g.I.Source.failures c.given_texts.new.input) now before now r e))
     (c.compared.ensures.refused tells (one_dash given old_path new_path once)) in
     not_compared given old_path new_path input seen (map source_of files) are once fails before now c.compared.result error
 
@@ -87,71 +75,36 @@ returns-clause-reason g c = λ tells.
     let before = g.I.Source.failures c.args.input.now in
     let now = g.I.Source.failures c.compared.new.input in
     let once = sym c.names_twice.ensures ∙ c.if-names_twice.false in
-    let told = told_of given input _ _ c.deref.ensures.value c.in_ok-text.ensures.whole in
-    let files = c.deref-3.result.now in
-    let named : map (λ f. f.path.now) files ≡ given = ap (map (λ f. f.path.now)) c.deref-3.ensures.value ∙ c.in_ok-files.ensures.paths in
-    let held : map (λ f. f.bytes.now) files ≡ map (λ t. t.items) c.in_ok-texts.texts.items =
-    ap (map (λ f. f.bytes.now)) c.deref-3.ensures.value ∙ c.in_ok-files.ensures.bytes ∙ ap (map (λ t. t.items)) c.deref-2.ensures.value in
-    let short = All-map IsShort (λ t. t.items) c.in_ok-texts.texts.items
-    (c.in_ok-texts.ensures.within (subst IsShort (sym c.deref.ensures.value) c.in_ok-text.ensures.within)) in
-    let are = given_sources input seen _ given _ files (c.in_ok-texts.ensures.read tells) told named held short in
+    let files = c.deref-2.result.now in
+    let are = c.in_ok-texts.ensures.files tells (map source_of files) (are_files files given _ (ap (map (λ f. f.path.now)) c.deref-2.ensures.value ∙ c.in_ok-files.ensures.paths)
+    (ap (map (λ f. f.bytes.now)) c.deref-2.ensures.value ∙ c.in_ok-files.ensures.bytes ∙ ap (map (λ t. t.items)) c.deref.ensures.value)) in
     let error : IfErr c.compared.result (IsPairError fails seen input before now old_path new_path) =
-    at_start (any_dash given) (λ i. IfErr c.compared.result (IsPairError fails seen (g.I.Source.left i) (g.I.Source.failures i) now old_path new_path)) c.args.input.now c.input_text.new.input
-    c.in_ok-text.ensures.untouched
+    at_start (any_dash given) (λ i. IfErr c.compared.result (IsPairError fails seen (g.I.Source.left i) (g.I.Source.failures i) now old_path new_path)) c.args.input.now c.given_texts.new.input
+    c.in_ok-texts.ensures.unread
     (λ dash. IfErr-weaker c.compared.result _ _
-    (λ r e. pair_any old_path new_path seen (g.I.Source.left c.input_text.new.input) input (no_dash given old_path new_path once dash) fails (g.I.Source.failures c.input_text.new.input) now before now r e))
+    (λ r e. pair_any old_path new_path seen (g.I.Source.left c.given_texts.new.input) input (no_dash given old_path new_path once dash) fails (g.I.Source.failures c.given_texts.new.input) now before now r e))
     (c.compared.ensures.refused tells (one_dash given old_path new_path once)) in
     compared_reason given old_path new_path input seen (map source_of files) are once fails before now c.compared.result error
 
 pub returns-clause-unread : goal.returns-clause-unread
 returns-clause-unread g c = λ none.
     let plain = none_named (map string_bytes c.args.given.now) c.args.old_path.now c.args.new_path.now none in
-    c.compared.ensures.unread plain.0 plain.1 ∙ c.in_ok-text.ensures.untouched plain.2
-
-pub returns-in_err-text-clause-unread : goal.returns-in_err-text-clause-unread
-returns-in_err-text-clause-unread g c = λ none. c.in_err-text.ensures.untouched (none_named (map string_bytes c.args.given.now) c.args.old_path.now c.args.new_path.now none).2
+    c.compared.ensures.unread plain.0 plain.1 ∙ c.in_ok-texts.ensures.unread plain.2
 
 pub returns-in_err-texts-clause-unread : goal.returns-in_err-texts-clause-unread
-returns-in_err-texts-clause-unread g c = λ none. c.in_ok-text.ensures.untouched (none_named (map string_bytes c.args.given.now) c.args.old_path.now c.args.new_path.now none).2
+returns-in_err-texts-clause-unread g c = λ none. c.in_err-texts.ensures.unread (none_named (map string_bytes c.args.given.now) c.args.old_path.now c.args.new_path.now none).2
 
 pub returns-in_err-files-clause-unread : goal.returns-in_err-files-clause-unread
-returns-in_err-files-clause-unread g c = λ none. c.in_ok-text.ensures.untouched (none_named (map string_bytes c.args.given.now) c.args.old_path.now c.args.new_path.now none).2
-
-pub returns-in_err-text-clause-refused : goal.returns-in_err-text-clause-refused
-returns-in_err-text-clause-refused g c = λ tells.
-    let r = c.in_err-text.field-0.0 in
-    given_error r (IsDiffRefused (map string_bytes c.args.given.now) c.args.old_path.now c.args.new_path.now (g.I.Source.left c.args.input.now) (g.D.Store.seen c.args.system.now)) c.from_residual.result c.from_residual.ensures.1
-    (inr (sym c.names_twice.ensures ∙ c.if-names_twice.false, inl c.in_err-text.ensures.refused))
+returns-in_err-files-clause-unread g c = λ none. c.in_ok-texts.ensures.unread (none_named (map string_bytes c.args.given.now) c.args.old_path.now c.args.new_path.now none).2
 
 pub returns-in_err-texts-clause-refused : goal.returns-in_err-texts-clause-refused
 returns-in_err-texts-clause-refused g c = λ tells.
     let r = c.in_err-texts.field-0.0 in
-    given_error r (IsDiffRefused (map string_bytes c.args.given.now) c.args.old_path.now c.args.new_path.now (g.I.Source.left c.args.input.now) (g.D.Store.seen c.args.system.now)) c.from_residual-in_err-texts.result c.from_residual-in_err-texts.ensures.1
+    given_error r (IsDiffRefused (map string_bytes c.args.given.now) c.args.old_path.now c.args.new_path.now (g.I.Source.left c.args.input.now) (g.D.Store.seen c.args.system.now)) c.from_residual.result c.from_residual.ensures.1
     (inr (sym c.names_twice.ensures ∙ c.if-names_twice.false, inl c.in_err-texts.ensures.refused))
-
-pub returns-in_err-text-clause-reason : goal.returns-in_err-text-clause-reason
-returns-in_err-text-clause-reason g c = λ tells.
-    let given = map string_bytes c.args.given.now in
-    let fails = g.D.System.may_fail c.args.system.now in
-    let seen = g.D.Store.seen c.args.system.now in
-    let input = g.I.Source.left c.args.input.now in
-    let before = g.I.Source.failures c.args.input.now in
-    let now = g.I.Source.failures c.input_text.new.input in
-    let r = c.in_err-text.field-0.0 in
-    given_error r (HasDiffReason given c.args.old_path.now c.args.new_path.now fails seen input before now) c.from_residual.result c.from_residual.ensures.1
-    (inr (inr (inl (c.in_err-text.ensures.refused, whole_reason given fails seen input before now r c.in_err-text.ensures.reason))))
 
 pub returns-in_err-texts-clause-reason : goal.returns-in_err-texts-clause-reason
 returns-in_err-texts-clause-reason g c = λ tells.
-    let given = map string_bytes c.args.given.now in
-    let fails = g.D.System.may_fail c.args.system.now in
-    let seen = g.D.Store.seen c.args.system.now in
-    let input = g.I.Source.left c.args.input.now in
-    let before = g.I.Source.failures c.args.input.now in
-    let now = g.I.Source.failures c.input_text.new.input in
     let r = c.in_err-texts.field-0.0 in
-    given_error r (HasDiffReason given c.args.old_path.now c.args.new_path.now fails seen input before now) c.from_residual-in_err-texts.result c.from_residual-in_err-texts.ensures.1
-    (inr (inr (inl (
-      c.in_err-texts.ensures.refused,
-      files_reason given fails seen input before now r (input_read (any_dash given) input _ c.in_ok-text.ensures.whole c.in_ok-text.ensures.within) (c.in_err-texts.ensures.reason tells),
-    ))))
+    given_error r (HasDiffReason (map string_bytes c.args.given.now) c.args.old_path.now c.args.new_path.now (g.D.System.may_fail c.args.system.now) (g.D.Store.seen c.args.system.now) (g.I.Source.left c.args.input.now) (g.I.Source.failures c.args.input.now)
+    (g.I.Source.failures c.given_texts.new.input)) c.from_residual.result c.from_residual.ensures.1 (inr (inr (inl (c.in_err-texts.ensures.refused, c.in_err-texts.ensures.reason tells))))

@@ -1,8 +1,22 @@
-use Rattle.std.proofs.Common.{sym, map, string_bytes, ◌∙◌}
+use Rattle.std.proofs.Common.{◌∙◌, map, string_bytes, subst, sym, Bool, Err, Global, Ok, Vec, ℕ}
 use Rattle.std.proofs.lemmas.Result.{IfErr-weaker}
+use Rattle.hwdb_plan.specs.Files.{IsInputText}
+use Rattle.hwdb_spec_commands.specs.declared.unread.Unread.TheVariants as unread
 use Rattle.hwdb_tool.proofs.CheckLemmas.{dash_unread}
 use Rattle.hwdb_tool.proofs.given.input_text.Goals as goal
 
 pub returns-then-any_dash-clause-refused : goal.returns-then-any_dash-clause-refused
 returns-then-any_dash-clause-refused g c =
     IfErr-weaker c.read_input.result _ _ (λ refusal unread. dash_unread (map string_bytes c.args.given.now) refusal (sym c.any_dash.ensures ∙ c.if-any_dash.true) unread) c.read_input.ensures.refused
+
+pub returns-then-any_dash-clause-told : goal.returns-then-any_dash-clause-told
+returns-then-any_dash-clause-told g c =
+    let told = c.read_input.ensures.told in
+    (told.0, told.1, subst (λ (b : Bool). IsInputText (λ (v : Vec ℕ Global). v.items) b told.0 c.read_input.result) (sym (sym c.any_dash.ensures ∙ c.if-any_dash.true)) told.2)
+
+pub returns-else-any_dash-clause-told : goal.returns-else-any_dash-clause-told
+returns-else-any_dash-clause-told g c = (
+  Err unread.Memory,
+  tt,
+  subst (λ (b : Bool). IsInputText (λ (v : Vec ℕ Global). v.items) b (Err unread.Memory) (Ok c.new.result)) (sym (sym c.any_dash.ensures ∙ c.if-any_dash.false)) c.new.ensures.items,
+)

@@ -7,6 +7,7 @@ use Rattle.hwdb_spec.specs.declared.errors.ToolError.TheVariants.{Memory}
 use Rattle.hwdb_spec_commands.specs.declared.refusals.Refusal.TheVariants.{Plain}
 use Rattle.hwdb_tool.specs.SideSteps.{AreTextsError}
 use Rattle.hwdb_tool.proofs.CheckLemmas.{IsShort, given_sources}
+use Rattle.hwdb_tool.proofs.FileLemmas.{are_files}
 use Rattle.hwdb_tool.proofs.SideReadLemmas.{made_at, texts_memory}
 use Rattle.hwdb_tool.proofs.sides.texts_at.Goals as goal
 
@@ -20,7 +21,7 @@ returns-clause-made g c = λ tells stand.
     let held : map (λ f. f.bytes.now) files ≡ map (λ t. t.items) c.in_ok-texts.texts.items =
     ap (map (λ f. f.bytes.now)) c.deref-3.ensures.value ∙ c.in_ok-files.ensures.bytes ∙ ap (map (λ t. t.items)) c.deref-2.ensures.value in
     let short = All-map IsShort (λ t. t.items) c.in_ok-texts.texts.items (c.in_ok-texts.ensures.within (omega arith)) in
-    let are = given_sources (Some []) seen [] own _ files (c.in_ok-texts.ensures.read tells) (λ dash. refl) named held short in
+    let are = given_sources (Some []) seen [] own _ (map source_of files) (c.in_ok-texts.ensures.read tells) (λ dash. refl) short (are_files files own _ named held) in
     let side : AreSideFiles path seen (map source_of files) = (own, stand, are) in
     each_value _ (λ b. AreMadeAt path seen b.items) c.database_of_texts.result (λ b made. made_at path seen (map source_of files) side b.items made) c.database_of_texts.ensures.made
 
@@ -34,7 +35,7 @@ returns-clause-refused g c = λ tells stand.
     let held : map (λ f. f.bytes.now) files ≡ map (λ t. t.items) c.in_ok-texts.texts.items =
     ap (map (λ f. f.bytes.now)) c.deref-3.ensures.value ∙ c.in_ok-files.ensures.bytes ∙ ap (map (λ t. t.items)) c.deref-2.ensures.value in
     let short = All-map IsShort (λ t. t.items) c.in_ok-texts.texts.items (c.in_ok-texts.ensures.within (omega arith)) in
-    let are = given_sources (Some []) seen [] own _ files (c.in_ok-texts.ensures.read tells) (λ dash. refl) named held short in
+    let are = given_sources (Some []) seen [] own _ (map source_of files) (c.in_ok-texts.ensures.read tells) (λ dash. refl) short (are_files files own _ named held) in
     let side : AreSideFiles path seen (map source_of files) = (own, stand, are) in
     each_error _ (AreTextsError (g.D.System.may_fail c.args.system.now) seen path) c.database_of_texts.result (λ r not. inr (inr (map source_of files, side, not))) c.database_of_texts.ensures.refused
 

@@ -1,0 +1,11 @@
+use Rattle.std.proofs.Common.{◌∷◌, []}
+use Rattle.hwdb_spec_commands.specs.Given.{is_dash}
+use Rattle.hwdb_spec_commands.specs.declared.form.Form.TheVariants.{Explain}
+use Rattle.hwdb_tool.proofs.DevicesAsBeforeLemmas.{devices_as_before}
+use Rattle.hwdb_tool.proofs.as_before.explain_as_before.Goals as goal
+
+pub returns : goal.returns
+returns g c = λ tells.
+    let s = c.args.system.now in
+    λ root json device ib im before now result shows.
+    devices_as_before (g.D.System.reads s) (g.D.Store.seen s) (g.D.System.may_fail s) root (Explain json) (device ∷ []) ib im before now (g.met.D.System.agrees s tells) (is_dash device) result shows
