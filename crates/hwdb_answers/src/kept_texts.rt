@@ -6,15 +6,14 @@ ghost use Rattle.hwdb_spec.specs.Format.{IsDatabase};
 ghost use Rattle.hwdb_spec.specs.Tree.{Tree, answers};
 ghost use Rattle.hwdb_spec_commands.specs.Streams.{texts_of};
 ghost use Rattle.hwdb_query.specs.Views.{pairs_bytes};
-ghost use Rattle.hwdb_parts.specs.Views.{AreOf, IsKept};
+ghost use Rattle.hwdb_lookup.specs.Files.Views.{AreOf, IsKept};
 ghost use Rattle.hwdb_answers.specs.Internal.{answer_text};
 
 use crate::device_texts::behind;
 use crate::json_lines::device_line;
 use crate::texts::property_lines;
 use hwdb_io::Places;
-use hwdb_lookup::{Stop, lookup_windows};
-use hwdb_parts::{KeptFile, ReadWindows};
+use hwdb_lookup::{KeptFile, ReadWindows, Stop, lookup_windows};
 use hwdb_spec_commands::Form;
 use std::alloc::{AllocError, Global};
 

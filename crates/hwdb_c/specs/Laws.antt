@@ -2,7 +2,7 @@
 use Rattle.std.specs.Prelude.{List, ℕ, ◌/◌, ◌*◌, ◌<◌, ◌≡◌, ◌≢◌, length, slice_index, slice_set}
 use Rattle.hwdb_spec.specs.Blocks.{block_bytes, MayBe}
 use Rattle.hwdb_spec.specs.Format.{layout_of}
-use Rattle.hwdb_passes.specs.Views.{Stands, pending}
+use Rattle.hwdb_reader.specs.Passes.Views.{Stands, pending}
 
 -- a block of the file was read into the bytes
 pub record IsBlockRead (file before after : List ℕ) (block : ℕ) : Type 0 where

@@ -11,7 +11,7 @@ pub fn reads_are_of_the_file()
 {}
 
 /// Before any node of a file was fed none is done, and the nodes section begins there.
-#[tactic(auto, unfolding(hwdb_passes::specs::Views::Stand, hwdb_passes::specs::Views::pending))]
+#[tactic(auto, unfolding(hwdb_reader::specs::Passes::Views::Stand, hwdb_reader::specs::Passes::Views::pending))]
 pub fn passes_begin()
     ensures { PassesBegin }
 {}

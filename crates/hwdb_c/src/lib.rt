@@ -4,7 +4,7 @@
 //! The latter says which block of the file it needs, and is called again when that was read. [`hwdb_c_properties`] is
 //! for bytes that were accepted: c/hwdb.c calls it for no others. They promise, over what C sees, what
 //! `hwdb_reader::check`, `hwdb_lookup::lookup` and `hwdb_query::effective` do. [`hwdb_c_sections`], [`hwdb_c_feed`] and
-//! [`hwdb_c_is_whole`] are those of `hwdb_passes`, for a file that C reads once, in pieces.
+//! [`hwdb_c_is_whole`] are those of `hwdb_reader`, for a file that C reads once, in pieces.
 //!
 //! No view of the database is kept between two calls, since C can't hold one. So each lookup begins with the header.
 //!
@@ -25,7 +25,7 @@ ghost use Rattle.hwdb_spec.specs.Format.{IsDatabase, layout_of};
 ghost use Rattle.hwdb_spec.specs.Written.{IsCompiled};
 ghost use Rattle.hwdb_spec.specs.Blocks.{block_bytes, MayBe};
 ghost use Rattle.hwdb_spec.specs.Library.{IsFault, device_strings, last_strings};
-ghost use Rattle.hwdb_passes.specs.Views.{IsPart, IsRead, Stands, pending};
+ghost use Rattle.hwdb_reader.specs.Passes.Views.{IsPart, IsRead, Stands, pending};
 
 mod answer;
 mod faults;
@@ -37,9 +37,8 @@ mod whole;
 use answer::strings_of_known;
 use faults::{number_of, place_of};
 use hwdb_lookup::{Known, Stop};
-use hwdb_passes::{feed, is_whole, open_outline, open_sections};
 use hwdb_query::compiled_answers_are_last;
-use hwdb_reader::check;
+use hwdb_reader::{check, feed, is_whole, open_outline, open_sections};
 pub use laws::{passes_begin, reads_are_of_the_file};
 use room::put;
 use std::alloc::Global;

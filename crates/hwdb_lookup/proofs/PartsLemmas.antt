@@ -6,8 +6,8 @@ use Rattle.std.proofs.lemmas.List.{length-drop}
 use Rattle.hwdb_spec.specs.declared.Layout.{Layout}
 use Rattle.hwdb_spec.specs.Tree.{Value}
 use Rattle.hwdb_spec.specs.Format.{number_at, text_at, value_at, IsPlace, record_end, child_entry, child_byte, child_off, children_count, values_count, value_entries, prefix_off}
-use Rattle.hwdb_passes.specs.Views.{IsPart}
-use Rattle.hwdb_passes.specs.Lemmas.Parts.{byte_is, number_is, slice_index_drop}
+use Rattle.hwdb_reader.specs.Passes.Views.{IsPart}
+use Rattle.hwdb_reader.specs.Passes.Lemmas.Parts.{byte_is, number_is, slice_index_drop}
 use Rattle.hwdb_lookup.specs.Views.{Stops}
 use Rattle.hwdb_lookup.specs.Windows.{IsOfWindows, StopsOf}
 use Rattle.hwdb_lookup.specs.Internal.Seen.{IsPause, IsSeen}

@@ -1,6 +1,6 @@
 -- What contracts see of a file of which the strings were read, and windows of its nodes. Our choice.
 use Rattle.std.specs.Prelude.{List, ℕ, ◌*◌, ◌+◌, ◌<◌, ◌≢◌, ◌≤◌, length, slice_index, take, drop}
-use Rattle.hwdb_passes.specs.Views.{IsPart, IsOf}
+use Rattle.hwdb_reader.specs.Passes.Views.{IsPart, IsOf}
 use Rattle.hwdb_lookup.specs.declared.windows.Windows.{Windows}
 use Rattle.hwdb_lookup.specs.declared.stop.Stop.{Stop}
 use Rattle.hwdb_lookup.specs.declared.stop.Stop.TheVariants.{Missing, Fault, LongPath, Memory}

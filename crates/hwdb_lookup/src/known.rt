@@ -1,7 +1,7 @@
 //! The bytes of a file of which some blocks were read.
 ghost use Rattle.std.specs.Prelude.{◌≡◌, ◌≤◌, ◌<◌, ◌+◌, ◌-◌, ℕ, List, length, take, IfOk, OnOk, IfErr};
 ghost use Rattle.hwdb_spec.specs.Format.{text_at};
-ghost use Rattle.hwdb_passes.specs.Views.{IsPart};
+ghost use Rattle.hwdb_reader.specs.Passes.Views.{IsPart};
 ghost use Rattle.hwdb_lookup.specs.Views.{IsOf, Stops};
 ghost use Rattle.hwdb_lookup.specs.Internal.Agreement.{AgreeIn};
 

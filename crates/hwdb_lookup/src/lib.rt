@@ -19,10 +19,12 @@
 //! | `arrivals` | a node whose path is live, and its children |
 //! | `descent` | the nodes whose paths are live, one after another |
 //! | `lookups` | the properties of a device |
+//! | `files` | a file whose parts can be read: its check, of which the strings are kept, and lookups that read windows |
 #![tactic(auto)]
 
 mod arrivals;
 mod descent;
+mod files;
 mod known;
 mod lazy_node;
 mod lookups;
@@ -33,6 +35,7 @@ mod seen;
 mod stop;
 mod windows;
 
+pub use files::{KeptFile, ReadWindows, accepted};
 pub use known::{BLOCK, Known};
 pub use lookups::{lookup, lookup_windows};
 pub use stop::Stop;

@@ -1,14 +1,13 @@
 //! A file of which the header and the strings were read, and windows of its nodes.
 ghost use Rattle.std.specs.Prelude.{◌≡◌, ◌≤◌, ◌<◌, ◌+◌, ◌-◌, ℕ, List, length, take, IfOk, IfErr};
 ghost use Rattle.hwdb_spec.specs.Format.{text_at};
-ghost use Rattle.hwdb_passes.specs.Views.{IsPart};
+ghost use Rattle.hwdb_reader.specs.Passes.Views.{IsPart};
 ghost use Rattle.hwdb_lookup.specs.Windows.{IsOfWindows};
 ghost use Rattle.hwdb_lookup.specs.Internal.Seen.{IsPause, IsSeen};
 
 use crate::seen::Seen;
 use crate::stop::Stop;
-use hwdb_passes::Outline;
-use hwdb_reader::{text, text_front};
+use hwdb_reader::{Outline, text, text_front};
 
 /// How many bytes a window has.
 pub const WINDOW: usize = 4096;

@@ -14,6 +14,7 @@
 //! - `unread`: the values of a node, without a look at their texts;
 //! - `twins`: two databases that have most of their strings in common;
 //! - `stars`: a long run of stars among the strings;
+//! - `passes`: whether a file is a database, of which the strings are held and the nodes come in pieces, once and forward;
 //! - `reopened`: the view of a database that was accepted before;
 //! - `laws`: laws of the format, on the definitions alone.
 #![tactic(auto)]
@@ -23,6 +24,7 @@ mod fields;
 mod frame;
 mod header;
 mod laws;
+mod passes;
 mod path;
 mod places;
 mod reopened;
@@ -43,6 +45,7 @@ pub use laws::{
     law_ascending, law_faultless, law_few_nodes, law_header_faults, law_offsets, law_one_tree,
     law_samples,
 };
+pub use passes::{KEY, Outline, feed, is_whole, open_outline, open_sections};
 pub use places::{child_entry_at, value_entry_at};
 pub use reopened::reopen;
 pub use twins::Twins;

@@ -17,7 +17,7 @@ use crate::answer::Answer;
 use crate::hiding::database_path;
 use hwdb_answers::{Form, texts_of_kept};
 use hwdb_io::MAX_BYTES;
-use hwdb_parts::accepted;
+use hwdb_lookup::accepted;
 use hwdb_system::{OpenedFile, System};
 use std::alloc::Global;
 

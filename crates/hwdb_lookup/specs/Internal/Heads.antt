@@ -4,7 +4,7 @@ use Rattle.hwdb_spec.specs.declared.Layout.{Layout}
 use Rattle.hwdb_spec.specs.Assignment.{Assignment}
 use Rattle.hwdb_spec.specs.Tree.{Value, assigned_at, key_of}
 use Rattle.hwdb_spec.specs.Format.{children_count, values_count, prefix_off, record_end, value_entries, IsPlace, ValuesText}
-use Rattle.hwdb_passes.specs.Views.{IsPart}
+use Rattle.hwdb_reader.specs.Passes.Views.{IsPart}
 use Rattle.hwdb_lookup.specs.declared.lazy_node.LazyNode.{LazyNode}
 use Rattle.hwdb_lookup.specs.declared.nodes.StoredValue.{StoredValue}
 

@@ -1,6 +1,6 @@
 -- What is known of a file of which the strings were read, and windows of its nodes.
 use Rattle.std.specs.Prelude.{List, ℕ, ◌*◌, ◌-◌, ◌<◌, ◌≡◌, length, slice_index, take, drop}
-use Rattle.hwdb_passes.specs.Views.{IsPart}
+use Rattle.hwdb_reader.specs.Passes.Views.{IsPart}
 use Rattle.hwdb_lookup.specs.Windows.{NoneBegins}
 use Rattle.hwdb_lookup.specs.declared.seen.Seen.{Seen}
 use Rattle.hwdb_lookup.specs.declared.stop.Stop.{Stop}

@@ -1,5 +1,5 @@
 use Rattle.std.proofs.Common.{ℕ, List}
-use Rattle.hwdb_parts.specs.Views.{AreOf}
+use Rattle.hwdb_lookup.specs.Files.Views.{AreOf}
 use Rattle.hwdb_answers.proofs.kept_texts.text_of_kept.Given as goal
 
 abbrev pub invariant-reading : goal.invariant-reading

@@ -3,7 +3,7 @@ use Rattle.hwdb_spec.specs.Format.{IsDatabase}
 use Rattle.hwdb_spec_commands.specs.Streams.{texts_of}
 use Rattle.hwdb_spec.specs.Tree.{Tree}
 use Rattle.hwdb_spec_commands.specs.declared.form.Form.TheVariants.{Query}
-use Rattle.hwdb_parts.specs.Views.{AreOf, IsKept}
+use Rattle.hwdb_lookup.specs.Files.Views.{AreOf, IsKept}
 use Rattle.hwdb_answers.specs.Internal.{texts_from}
 use Rattle.hwdb_answers.proofs.kept_texts.texts_of_kept.Given as goal
 

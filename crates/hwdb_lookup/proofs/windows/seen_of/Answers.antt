@@ -1,5 +1,5 @@
 use Rattle.std.proofs.Common.{◌≡◌, ◌-◌, length, subst, sym, arith}
-use Rattle.hwdb_passes.specs.Views.{IsPart}
+use Rattle.hwdb_reader.specs.Passes.Views.{IsPart}
 use Rattle.hwdb_lookup.proofs.windows.seen_of.Goals as goal
 
 pub returns-clause-seen : goal.returns-clause-seen

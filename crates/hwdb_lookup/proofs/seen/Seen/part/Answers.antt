@@ -1,5 +1,5 @@
 use Rattle.std.proofs.Common.{◌≡◌, ◌+◌, ◌-◌, ◌*◌, subst, take, drop, slice_index, arith}
-use Rattle.hwdb_passes.specs.Views.{IsPart}
+use Rattle.hwdb_reader.specs.Passes.Views.{IsPart}
 use Rattle.hwdb_lookup.proofs.PartsLemmas.{window_part}
 use Rattle.hwdb_lookup.proofs.seen.Seen.part.Goals as goal
 

@@ -1,5 +1,5 @@
 use Rattle.std.proofs.Common.{◌-◌, ◌∙◌, length, arith}
-use Rattle.hwdb_passes.specs.Lemmas.Parts.{text_is}
+use Rattle.hwdb_reader.specs.Passes.Lemmas.Parts.{text_is}
 use Rattle.hwdb_lookup.proofs.seen.Seen.text.Goals as goal
 
 pub returns-clause-read : goal.returns-clause-read

@@ -1,5 +1,5 @@
 use Rattle.std.proofs.Common.{◌-◌, ◌∙◌, ap, length, arith}
-use Rattle.hwdb_passes.specs.Lemmas.Parts.{front_is}
+use Rattle.hwdb_reader.specs.Passes.Lemmas.Parts.{front_is}
 use Rattle.hwdb_lookup.proofs.TextLemmas.{front_within}
 use Rattle.hwdb_lookup.proofs.seen.Seen.text_front.Goals as goal
 

@@ -1,5 +1,0 @@
-use Rattle.hwdb_parts.proofs.PlaceLemmas.{none_waits}
-use Rattle.hwdb_parts.proofs.passes.is_accepted.Goals as goal
-
-pub passing-init : goal.passing-init
-passing-init g c = λ file of is. none_waits c.args.o file c.in-Some.pass.offsets.items c.in-Some.pass.heights.items c.in-Some.pass.done c.in-Some.ensures is
