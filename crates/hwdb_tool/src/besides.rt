@@ -8,7 +8,7 @@ ghost use Rattle.hwdb_spec.specs.declared.errors.ToolError.TheVariants.{Memory};
 ghost use Rattle.hwdb_spec_commands.specs.declared.refusals.Refusal.TheVariants.{Plain};
 
 use crate::given::is_dash;
-use crate::statuses::masked_paths;
+use crate::status_command::masked_paths;
 use hwdb_answers::ToolError;
 use hwdb_cli::Task;
 use hwdb_near::replaced_in_files;

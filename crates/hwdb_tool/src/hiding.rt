@@ -14,7 +14,7 @@ ghost use Rattle.hwdb_spec.specs.Visible.{shown_name};
 
 use crate::databases::database_folder;
 use crate::printing::say;
-use crate::updates::update;
+use crate::update_command::update;
 use hwdb_io::Sink;
 use hwdb_replace::DATABASE;
 use hwdb_show::push_name;

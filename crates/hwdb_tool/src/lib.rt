@@ -7,19 +7,19 @@
 //! | `printing` | the one place where that is printed |
 //! | `outlet` | where standard output goes to: a sink whose reader may go away |
 //! | `coloured` | one that shows what it takes in colour, and as a terminal is shown it |
-//! | `updates` | `update`; `progress`: what it says of its files; `hiding`: of a database that hides the new one; `emptied`: of one that is lost |
-//! | `queries` | `query`, of the devices of the words or of standard input; `in_parts`: of a database whose strings alone are held |
+//! | `update_command` | `update`; `progress`: what it says of its files; `hiding`: of a database that hides the new one; `emptied`: of one that is lost |
+//! | `query_command` | `query`, of the devices of the words or of standard input; `in_parts`: of a database whose strings alone are held |
 //! | `answers` | `explain`, `list` and `ask` |
 //! | `input_devices` | `query -` and `explain -`: the devices that standard input names |
 //! | `reloading` | the database that answers them, and the one that replaces it |
-//! | `checks` | `check` |
-//! | `trials` | `test` |
-//! | `near_misses` | `near` |
-//! | `devices` | `device`; `missing`: what is said if there is no sysfs, or no such device |
-//! | `differences` | `diff` |
-//! | `verification` | `verify`; `verdicts`: its words on bytes that are no database |
-//! | `dumps` | `dump` |
-//! | `statuses` | `status`; `commands`: the command that makes a database anew |
+//! | `check_command` | `check` |
+//! | `test_command` | `test` |
+//! | `near_command` | `near` |
+//! | `device_command` | `device`; `missing`: what is said if there is no sysfs, or no such device |
+//! | `diff_command` | `diff` |
+//! | `verify_command` | `verify`; `verdicts`: its words on bytes that are no database |
+//! | `dump_command` | `dump` |
+//! | `status_command` | `status`; `commands`: the command that makes a database anew |
 //! | `over_text` | `--text`: the text files in place of a database; `besides`: what `explain` tells of them that no database can |
 //! | `databases` | the database that a command asks for |
 //! | `given` | files that words name, or standard input |
@@ -39,15 +39,15 @@ mod answer;
 mod answers;
 mod as_before;
 mod besides;
-mod checks;
+mod check_command;
 mod coloured;
 mod commands;
 mod crash;
 mod databases;
-mod devices;
-mod differences;
+mod device_command;
+mod diff_command;
 mod dispatch;
-mod dumps;
+mod dump_command;
 mod emptied;
 mod failures;
 mod given;
@@ -57,21 +57,21 @@ mod in_parts;
 mod input_devices;
 mod laws;
 mod missing;
-mod near_misses;
+mod near_command;
 mod one_outcome;
 mod one_refusal;
 mod outlet;
 mod over_text;
 mod printing;
 mod progress;
-mod queries;
+mod query_command;
 mod reloading;
 mod sides;
-mod statuses;
-mod trials;
-mod updates;
+mod status_command;
+mod test_command;
+mod update_command;
 mod verdicts;
-mod verification;
+mod verify_command;
 
 pub use answer::Answer;
 pub use answers::{ask_file, explain, list};
@@ -79,13 +79,13 @@ pub use as_before::{
     ask_as_before, dump_as_before, explain_as_before, list_as_before, near_as_before,
     query_as_before, test_as_before, text_shows_over, verify_as_before,
 };
-pub use checks::check;
+pub use check_command::check;
 pub use coloured::{Coloured, kind_of, terminals_get_no_control, write_shown};
 pub use crash::{crash_then_query, kill_then_query};
-pub use devices::{device, device_form};
-pub use differences::diff;
+pub use device_command::{device, device_form};
+pub use diff_command::diff;
 pub use dispatch::program;
-pub use dumps::dump;
+pub use dump_command::dump;
 pub use failures::{counts_tell_failures, faulty_update_leaves_all};
 pub use hiding::update_telling;
 pub use hwdb_answers::{ToolError, ask, run_list, run_query, run_update};
@@ -97,11 +97,11 @@ pub use hwdb_io::{
 pub use hwdb_spec_commands::TextKind;
 pub use hwdb_system::{Refusal, System, SystemStore};
 pub use laws::update_then_query;
-pub use near_misses::near;
+pub use near_command::near;
 pub use one_outcome::{answers_are_one, jobs_are_one, listings_give_one_reading, tasks_are_one};
 pub use one_refusal::{errors_are_one, input_errors_are_so, words_end_in_one};
 pub use outlet::Outlet;
-pub use queries::query;
-pub use statuses::status;
-pub use trials::test;
-pub use verification::verify;
+pub use query_command::query;
+pub use status_command::status;
+pub use test_command::test;
+pub use verify_command::verify;

@@ -14,7 +14,7 @@ ghost use Rattle.hwdb_tool.specs.Internal.{IsDoneOver, IsNotDoneOver};
 use crate::besides::text_besides;
 use crate::dispatch::{root_of, run};
 use crate::printing::say;
-use crate::statuses::compiled;
+use crate::status_command::compiled;
 use hwdb_cli::{Job, Task};
 use hwdb_io::{Sink, Source};
 use hwdb_system::{Machine, Overlay, Refusal, System, selected, with_texts};

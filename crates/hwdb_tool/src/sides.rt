@@ -23,10 +23,10 @@ ghost use Rattle.hwdb_tool.specs.Internal.{IsOfSelection};
 ghost use Rattle.hwdb_tool.specs.SideSteps.{AreTextsError, IsFolderOf, IsGivenSideError, IsSideError};
 ghost use Rattle.hwdb_tool.specs.Statuses.{AreMadeOf};
 
-use crate::checks::{read_given, with_paths};
+use crate::check_command::{read_given, with_paths};
 use crate::given::{is_dash, read_input};
 use crate::given_folders::{alone, files_in, folder_of};
-use crate::statuses::compiled;
+use crate::status_command::compiled;
 use hwdb_answers::ToolError;
 use hwdb_check::TextFile;
 use hwdb_compile::{SourceFile, compile};

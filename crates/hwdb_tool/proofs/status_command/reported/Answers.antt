@@ -1,0 +1,63 @@
+use Rattle.std.proofs.Common.{Bool, IfSome, List, Option, ap, false, length, map, option_map, subst, ◌≤◌, ◌∙◌, ℕ}
+use Rattle.hwdb_spec_commands.specs.declared.refusals.Refusal.TheVariants.{Plain}
+use Rattle.hwdb_spec.specs.declared.errors.ToolError.TheVariants.{Memory}
+use Rattle.hwdb_spec_commands.specs.Status.{IsAmount, IsState, has_database, report_of}
+use Rattle.hwdb_spec.specs.Texts.{max_file}
+use Rattle.hwdb_databases.specs.Views.{amount_shown, report_shown, state_shown}
+use Rattle.hwdb_tool.specs.Statuses.{IsOneUnread}
+use Rattle.hwdb_tool.proofs.StatusLemmas.{asked_memory}
+use Rattle.hwdb_tool.proofs.status_command.reported.Goals as goal
+use Rattle.hwdb_spec.specs.Lemmas.Calls.{given_error}
+
+pub returns-clause-reported : goal.returns-clause-reported
+returns-clause-reported g c = λ tells m is.
+    let root = c.args.root.now in
+    let seen = g.D.Store.seen c.args.system.now in
+    let standing = c.in_ok-standing.standing in
+    let state = state_shown standing.state in
+    let holds = option_map amount_shown standing.holds in
+    let hidden = option_map amount_shown c.in_ok-hidden.hidden in
+    let asked = c.in_ok-asked.ensures in
+    let masked = map (λ p. p.items) c.args.unread.masked.items in
+    let ignored = map (λ p. p.items) c.args.unread.ignored.items in
+    record {
+      short = subst (λ (o : Option (List ℕ)). IfSome o (λ b. length b ≤ max_file)) (asked.bytes tells) asked.within;
+      short_hidden = subst (λ (o : Option (List ℕ)). IfSome o (λ b. length b ≤ max_file)) (asked.hidden tells) asked.hidden_within;
+      holds = holds;
+      is_held = subst (λ (o : Option (List ℕ)). IsAmount o holds) (c.bytes_of.ensures ∙ asked.bytes tells) c.in_ok-standing.ensures.holds;
+      hidden = hidden;
+      is_hidden = subst (λ (o : Option (List ℕ)). IsAmount o hidden) (asked.hidden tells) c.in_ok-hidden.ensures;
+      state = state;
+      stands = subst (λ (o : Option (List ℕ)). IsState c.args.made.now m o state) (c.bytes_of.ensures ∙ asked.bytes tells) (c.in_ok-standing.ensures.state m is);
+      untold = c.new.ensures.err;
+      report = report_shown c.in_ok-report.report;
+      of = c.in_ok-report.ensures
+          ∙ ap (λ (e : Bool). report_of root e c.in_ok-asked.asked.usr holds hidden masked ignored c.args.bare state) (asked.etc tells)
+          ∙ ap (λ (u : Bool). report_of root (has_database false root seen) u holds hidden masked ignored c.args.bare state) (asked.usr tells);
+      is = c.new.ensures.out ∙ c.in_ok-text.ensures;
+      says = c.new.ensures.status ∙ c.status.ensures.is;
+    }
+
+pub returns-in_err-standing-clause-refused : goal.returns-in_err-standing-clause-refused
+returns-in_err-standing-clause-refused g c = λ tells.
+    let root = c.args.root.now in
+    let seen = g.D.Store.seen c.args.system.now in
+    given_error (Plain Memory) (IsOneUnread root seen) c.from_residual-in_err-standing.result c.from_residual-in_err-standing.ensures.1 (asked_memory root seen)
+
+pub returns-in_err-hidden-clause-refused : goal.returns-in_err-hidden-clause-refused
+returns-in_err-hidden-clause-refused g c = λ tells.
+    let root = c.args.root.now in
+    let seen = g.D.Store.seen c.args.system.now in
+    given_error (Plain Memory) (IsOneUnread root seen) c.from_residual-in_err-hidden.result c.from_residual-in_err-hidden.ensures.1 (asked_memory root seen)
+
+pub returns-in_err-report-clause-refused : goal.returns-in_err-report-clause-refused
+returns-in_err-report-clause-refused g c = λ tells.
+    let root = c.args.root.now in
+    let seen = g.D.Store.seen c.args.system.now in
+    given_error (Plain Memory) (IsOneUnread root seen) c.from_residual-in_err-report.result c.from_residual-in_err-report.ensures.1 (asked_memory root seen)
+
+pub returns-in_err-text-clause-refused : goal.returns-in_err-text-clause-refused
+returns-in_err-text-clause-refused g c = λ tells.
+    let root = c.args.root.now in
+    let seen = g.D.Store.seen c.args.system.now in
+    given_error (Plain Memory) (IsOneUnread root seen) c.from_residual-in_err-text.result c.from_residual-in_err-text.ensures.1 (asked_memory root seen)

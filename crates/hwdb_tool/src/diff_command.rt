@@ -1,0 +1,252 @@
+//! `diff`: two sides that are read and compared, in all that they assign, or in what the devices of files get.
+ghost use Rattle.std.specs.Prelude.{◌≡◌, ◌≤◌, ◌++◌, ◌∷◌, None, Some, false, flat_map, if◌then◌else◌, map, string_bytes, IfOk, IfErr, OnOk};
+ghost use Rattle.hwdb_check.specs.Checks.{source_of};
+ghost use Rattle.hwdb_spec_commands.specs.Comparisons.{comparison_form, devices_named, has_changed};
+ghost use Rattle.hwdb_spec_commands.specs.Databases.{IsDiffText, IsDifferent};
+ghost use Rattle.hwdb_spec_commands.specs.DiffErrors.{IsDiffRefusal};
+ghost use Rattle.hwdb_spec.specs.Folders as folders;
+ghost use Rattle.hwdb_spec_commands.specs.Given.{any_dash, is_dash};
+ghost use Rattle.hwdb_spec_program.specs.GivenDatabases.{names_twice, twice_text};
+ghost use Rattle.hwdb_spec_commands.specs.Refusals.{IsInWords};
+ghost use Rattle.hwdb_spec_commands.specs.Undone.{told_path};
+ghost use Rattle.hwdb_spec_commands.specs.Runs.{OnOut};
+ghost use Rattle.hwdb_spec_program.specs.ComparedDatabases.{HasDiffReason, IsCompared, IsDiffed, IsDiffRefused, IsOfDiff};
+ghost use Rattle.hwdb_spec.specs.Texts.{devices_of};
+ghost use Rattle.hwdb_tool.specs.SideSteps.{IsOneDash, IsPairError};
+ghost use Rattle.hwdb_tool.specs.Views.{texts_in};
+
+use crate::answer::Answer;
+use crate::check_command::{given_texts, with_paths};
+use crate::given::{INPUT, any_dash, is_dash};
+use crate::sides::side;
+use hwdb_answers::ToolError;
+use hwdb_check::TextFile;
+use hwdb_databases::{Changes, DiffError, diff_devices, stat, stat_devices};
+use hwdb_io::Source;
+use hwdb_system::{Refusal, TextsBelow};
+use hwdb_text::Lines;
+use std::alloc::{AllocError, Global};
+
+/// What is said if standard input would be read twice.
+const TWICE: &str = "only one of OLD, NEW and --devices FILE may be -: standard input is read once";
+
+/// What changed from the side at one path to that at another, as text or JSON. For the devices of the given files, a line each, it is
+/// what changed in what each of them gets; without a file it is each pattern and key for which the two differ. `-` is what `input` has
+/// left, of a file or of one side. If `stat` it is how many assignments came, went and changed. The status is 1 if something changed,
+/// else 0.
+///
+/// All files of devices are read first, in their order, and then the old side and the new one: the error is the first that comes so.
+/// Before them it is an error if both sides are `-`, or one of them and a file.
+pub fn diff<D: TextsBelow, I: Source>(
+    alloc: Global,
+    old_path: &str,
+    new_path: &str,
+    given: &[String],
+    stat: bool,
+    json: bool,
+    system: &D,
+    input: &mut I,
+) -> Result<Answer, Refusal>
+    ensures diffed { D.Store.tells → IfOk result (λ a. OnOut (λ text. IsDiffed stat json
+        (map string_bytes given.now) old_path.now new_path.now (I.left input.old)
+        (D.Store.seen system.now) text a.status) (texts_in a)) }
+    ensures refused { D.Store.tells → IfErr result (IsDiffRefused (map string_bytes given.now)
+        old_path.now new_path.now (I.left input.old) (D.Store.seen system.now)) }
+    ensures unread { any_dash (old_path.now ∷ new_path.now ∷ map string_bytes given.now) ≡ false
+        → input.new ≡ input.old }
+    ensures reason { D.Store.tells → IfErr result (HasDiffReason (map string_bytes given.now)
+        old_path.now new_path.now (D.System.may_fail system.now) (D.Store.seen system.now)
+        (I.left input.old) (I.failures input.old) (I.failures input.new)) }
+{
+    if names_twice(given, old_path, new_path) {
+        return Err(refused_twice(alloc));
+    }
+    let texts = given_texts(alloc, given, given, system, input)?;
+    let files = with_paths(alloc, given, &texts)?;
+    compared(alloc, old_path, new_path, stat, json, &files, system, input)
+}
+
+/// Whether standard input would be read twice: as both sides, or as one of them and a file of devices.
+fn names_twice(given: &[String], old_path: &str, new_path: &str) -> bool
+    ensures { result ≡ names_twice (map string_bytes given.now) old_path.now new_path.now }
+{
+    let of_old = is_dash(old_path);
+    let of_new = is_dash(new_path);
+    let of_devices = any_dash(given);
+    (of_old && of_new) || ((of_old || of_new) && of_devices)
+}
+
+/// The error of that.
+fn refused_twice(alloc: Global) -> Refusal
+    ensures { IsInWords twice_text result }
+{
+    match Vec::from_slice(alloc, TWICE.as_bytes()) {
+        Ok(text) => Refusal::InWords(text),
+        Err(refused) => Refusal::from(refused),
+    }
+}
+
+/// The same of files that were read.
+fn compared<D: TextsBelow, I: Source>(
+    alloc: Global,
+    old_path: &str,
+    new_path: &str,
+    stat: bool,
+    json: bool,
+    files: &[TextFile<'_>],
+    system: &D,
+    input: &mut I,
+) -> Result<Answer, Refusal>
+    ensures compared { D.Store.tells → IsOneDash old_path.now new_path.now
+        → IfOk result (λ a. OnOut (λ text. IsCompared
+        (comparison_form stat json (devices_named (map source_of files.now)))
+        (has_changed (devices_named (map source_of files.now))) old_path.now new_path.now
+        (I.left input.old) (D.Store.seen system.now) text a.status) (texts_in a)) }
+    ensures refused { D.Store.tells → IsOneDash old_path.now new_path.now
+        → IfErr result (IsPairError (D.System.may_fail system.now) (D.Store.seen system.now)
+        (I.left input.old) (I.failures input.old) (I.failures input.new)
+        old_path.now new_path.now) }
+    ensures unread { is_dash old_path.now ≡ false → is_dash new_path.now ≡ false
+        → input.new ≡ input.old }
+{
+    let old = side(alloc, old_path, system, input)?;
+    let new = side(alloc, new_path, system, input)?;
+    match changes_of(alloc, stat, json, files, &old, &new) {
+        Ok(changes) => Ok(Answer::new(alloc, changes.text, status_of(changes.differ))),
+        Err(error) => Err(refusal_of(alloc, error, old_path, new_path)),
+    }
+}
+
+/// What changed from one database to another, of all that they assign.
+fn assigned_changes(
+    alloc: Global,
+    counts: bool,
+    json: bool,
+    old: &[u8],
+    new: &[u8],
+) -> Result<Changes, DiffError>
+    ensures text { IfOk result (λ changes. IsDiffText
+        (comparison_form counts json None) old.now new.now changes.text.items) }
+    ensures differ { IfOk result
+        (λ changes. IsDifferent (has_changed None) old.now new.now changes.differ) }
+    ensures errors { IfErr result (IsDiffRefusal old.now new.now) }
+{
+    if counts {
+        stat(alloc, json, old, new)
+    } else {
+        hwdb_databases::diff(alloc, json, old, new)
+    }
+}
+
+/// The same of what some devices get.
+fn device_changes(
+    alloc: Global,
+    counts: bool,
+    json: bool,
+    old: &[u8],
+    new: &[u8],
+    devices: &[&[u8]],
+) -> Result<Changes, DiffError>
+    ensures text { IfOk result (λ changes. IsDiffText
+        (comparison_form counts json (Some (map (λ d. d.now) devices.now)))
+        old.now new.now changes.text.items) }
+    ensures differ { IfOk result (λ changes. IsDifferent
+        (has_changed (Some (map (λ d. d.now) devices.now))) old.now new.now changes.differ) }
+    ensures errors { IfErr result (IsDiffRefusal old.now new.now) }
+{
+    if counts {
+        stat_devices(alloc, json, old, new, devices)
+    } else {
+        diff_devices(alloc, json, old, new, devices)
+    }
+}
+
+/// What changed from one database to another, for the devices of some files if there are any.
+fn changes_of(
+    alloc: Global,
+    counts: bool,
+    json: bool,
+    files: &[TextFile<'_>],
+    old: &[u8],
+    new: &[u8],
+) -> Result<Changes, DiffError>
+    ensures text { IfOk result (λ changes. IsDiffText
+        (comparison_form counts json (devices_named (map source_of files.now)))
+        old.now new.now changes.text.items) }
+    ensures differ { IfOk result (λ changes. IsDifferent
+        (has_changed (devices_named (map source_of files.now))) old.now new.now changes.differ) }
+    ensures errors { IfErr result (IsDiffRefusal old.now new.now) }
+{
+    if files.is_empty() {
+        return assigned_changes(alloc, counts, json, old, new);
+    }
+    let devices = devices_in(alloc, files)?;
+    device_changes(alloc, counts, json, old, new, &devices)
+}
+
+/// Adds the devices that a text names, a line each. The only error, here and below, is `AllocError`.
+fn push_devices<'a>(devices: &mut Vec<&'a [u8]>, text: &'a [u8]) -> Result<(), AllocError>
+    ensures { OnOk result (map (λ d. d.now) devices.new.items
+        ≡ map (λ d. d.now) devices.old.items ++ devices_of text.now) }
+{
+    for line in Lines::new(text) {
+        devices.push(line)?;
+    }
+    Ok(())
+}
+
+/// The devices of some files.
+fn devices_in<'a>(alloc: Global, files: &[TextFile<'a>]) -> Result<Vec<&'a [u8]>, AllocError>
+    ensures { IfOk result (λ devices. map (λ d. d.now) devices.items ≡ flat_map
+        (λ (f : folders.Source). devices_of f.bytes) (map source_of files.now)) }
+{
+    let mut devices = Vec::new(alloc);
+    for file in files {
+        push_devices(&mut devices, file.bytes)?;
+    }
+    Ok(devices)
+}
+
+/// The status: 1 if the two differ, else 0.
+fn status_of(differ: bool) -> u8
+    ensures is { result ≡ (if differ then 1 else 0) }
+    ensures small { result ≤ 1 }
+{
+    if differ { 1 } else { 0 }
+}
+
+/// How errors call the side at a path.
+fn told_path(path: &str) -> &[u8]
+    ensures { result.now ≡ told_path path.now }
+{
+    if is_dash(path) {
+        INPUT
+    } else {
+        path.as_bytes()
+    }
+}
+
+/// The error if the databases of these sides can't be compared.
+fn refusal_of(alloc: Global, error: DiffError, old_path: &str, new_path: &str) -> Refusal
+    ensures { IsOfDiff error old_path.now new_path.now result }
+{
+    match error {
+        DiffError::Old(fault) => {
+            Refusal::at(
+                alloc,
+                ToolError::BadDatabase(fault),
+                told_path(old_path),
+                None,
+            )
+        }
+        DiffError::New(fault) => {
+            Refusal::at(
+                alloc,
+                ToolError::BadDatabase(fault),
+                told_path(new_path),
+                None,
+            )
+        }
+        DiffError::Memory => Refusal::from(ToolError::Memory),
+    }
+}

@@ -1,0 +1,170 @@
+//! `near`: the patterns that almost matched a device, of text files or of the database below the root. Nothing is written.
+ghost use Rattle.std.specs.Prelude.{◌≡◌, ◌==◌, true, false, not, length, map, string_bytes, IfErr, IfOk, List, []};
+ghost use Rattle.hwdb_spec_commands.specs.Refusals.{HasReason};
+ghost use Rattle.hwdb_check.specs.Checks;
+ghost use Rattle.hwdb_near.specs.Views;
+ghost use Rattle.hwdb_spec_commands.specs.Asked.{IsAnswered};
+ghost use Rattle.hwdb_spec_commands.specs.CheckedFiles.{AreGivenFiles};
+ghost use Rattle.hwdb_spec_commands.specs.Databases.{IsTextOf};
+ghost use Rattle.hwdb_spec.specs.Folders.{Source};
+ghost use Rattle.hwdb_spec_commands.specs.Given.{any_dash};
+ghost use Rattle.hwdb_spec_commands.specs.NearAsked.{IsNear, database_patterns, near_form, near_limit, patterns_from};
+ghost use Rattle.hwdb_spec_commands.specs.Runs.{OnOut};
+ghost use Rattle.hwdb_spec_program.specs.NearErrors.{IsNearRefused, error_of};
+ghost use Rattle.hwdb_spec_commands.specs.Reasons.{HasFilesReason};
+ghost use Rattle.hwdb_spec_commands.specs.Undone.{IsGivenUnread, IsUnanswered};
+ghost use Rattle.hwdb_plan.specs.Asking.{asked};
+ghost use Rattle.hwdb_plan.specs.Files.{OfInput, given_files};
+ghost use Rattle.hwdb_plan.specs.Near.{near_database, near_plan};
+ghost use Rattle.hwdb_plan.specs.Plans.{Follows};
+ghost use Rattle.hwdb_plan.specs.Plans.End.{Answers};
+ghost use Rattle.hwdb_plan.specs.Plans.Plan.{Done};
+ghost use Rattle.hwdb_tool.specs.Views.{end_of, texts_in};
+
+use crate::answer::Answer;
+use crate::check_command::{given_texts, with_paths};
+use crate::databases::{asked, refused_database};
+use hwdb_answers::ToolError;
+use hwdb_io::Source;
+use hwdb_near::{NearError, PatternFile, near_in_database, near_in_files};
+use hwdb_system::{Refusal, System};
+use std::alloc::{AllocError, Global};
+
+/// How many of the nearest patterns are told, unless a number is given.
+const TOLD: usize = 3;
+
+/// The patterns of the given text files that match the device, and the nearest that don't: at most so many, or three. The
+/// file `-` is what `input` has left. If no file is given, those of the database below the root. The status is 0.
+pub fn near<D: System, I: Source>(
+    alloc: Global,
+    root: &str,
+    given: &[String],
+    device: &[u8],
+    limit: Option<u64>,
+    json: bool,
+    system: &D,
+    input: &mut I,
+) -> Result<Answer, Refusal>
+    ensures status { IfOk result (λ a. a.status ≡ 0) }
+    ensures follows { D.Store.tells → OfInput (I.left input.old) (I.failures input.old)
+        (I.failures input.new) (λ told. Follows end_of (D.System.reads system.now)
+        (near_plan told (map string_bytes given.now) root.now
+        (near_form json device.now (near_limit limit))) result) }
+    ensures near { D.Store.tells → IfOk result (λ a. OnOut (IsNear
+        (map string_bytes given.now) root.now (near_form json device.now (near_limit limit))
+        (I.left input.old) (D.Store.seen system.now)) (texts_in a)) }
+    ensures refused { D.Store.tells → IfErr result (IsNearRefused
+        (map string_bytes given.now) root.now (D.Store.seen system.now)) }
+    ensures unread { any_dash (map string_bytes given.now) ≡ false → input.new ≡ input.old }
+    ensures reason { D.Store.tells → IfErr result (HasFilesReason (not (length given.now == 0))
+        (map string_bytes given.now) (D.System.may_fail system.now) (D.Store.seen system.now)
+        (I.left input.old) (I.failures input.old) (I.failures input.new)) }
+{
+    let count = count_of(limit);
+    if given.is_empty() {
+        near_asked(alloc, root, device, count, json, system)
+    } else {
+        near_given(alloc, given, device, count, json, system, input)
+    }
+}
+
+/// How many of the nearest patterns are told.
+fn count_of(limit: Option<u64>) -> usize
+    ensures { result ≡ near_limit limit }
+{
+    match limit {
+        None => TOLD,
+        Some(limit) => limit as usize,
+    }
+}
+
+/// The same of the patterns of the database.
+fn near_asked<D: System>(
+    alloc: Global,
+    root: &str,
+    device: &[u8],
+    limit: usize,
+    json: bool,
+    system: &D,
+) -> Result<Answer, Refusal>
+    ensures status { IfOk result (λ a. a.status ≡ 0) }
+    ensures follows { D.Store.tells → Follows end_of (D.System.reads system.now)
+        (asked root.now (near_database (near_form json device.now limit))) result }
+    ensures near { D.Store.tells → IfOk result (λ a. OnOut (IsAnswered root.now
+        (IsTextOf (λ tree. near_form json device.now limit (database_patterns tree)))
+        (D.Store.seen system.now)) (texts_in a)) }
+    ensures refused { D.Store.tells → IfErr result
+        (IsUnanswered root.now (D.Store.seen system.now)) }
+    ensures reason { IfErr result
+        (HasReason (D.System.may_fail system.now) ⊥ (D.Store.seen system.now)) }
+{
+    let found = asked(alloc, root, system)?;
+    match near_in_database(alloc, &found.bytes, device, limit, json) {
+        Ok(text) => Ok(Answer::new(alloc, text, 0)),
+        Err(error) => {
+            let error = error_of(error);
+            Err(refused_database(alloc, error, found.path.as_bytes()))
+        }
+    }
+}
+
+/// What the program says of an error of the comparison.
+fn error_of(error: NearError) -> ToolError
+    ensures { result ≡ error_of error }
+{
+    match error {
+        NearError::Database(fault) => ToolError::BadDatabase(fault),
+        NearError::Memory => ToolError::Memory,
+    }
+}
+
+/// The same of the patterns of the given files.
+fn near_given<D: System, I: Source>(
+    alloc: Global,
+    given: &[String],
+    device: &[u8],
+    limit: usize,
+    json: bool,
+    system: &D,
+    input: &mut I,
+) -> Result<Answer, Refusal>
+    ensures status { IfOk result (λ a. a.status ≡ 0) }
+    ensures follows { D.Store.tells → OfInput (I.left input.old) (I.failures input.old)
+        (I.failures input.new) (λ told. Follows end_of (D.System.reads system.now)
+        (given_files (map string_bytes given.now) told (map string_bytes given.now)
+        (λ sources. Done (Answers 0 []
+        (near_form json device.now limit (patterns_from 1 sources))))) result) }
+    ensures near { D.Store.tells → IfOk result (λ a. OnOut (λ text. (sources : List Source)
+        × AreGivenFiles (map string_bytes given.now) (I.left input.old)
+        (D.Store.seen system.now) sources
+        × (text ≡ near_form json device.now limit (patterns_from 1 sources))) (texts_in a)) }
+    ensures refused { IfErr result (IsGivenUnread (map string_bytes given.now)) }
+    ensures unread { any_dash (map string_bytes given.now) ≡ false → input.new ≡ input.old }
+    ensures reason { D.Store.tells → IfErr result (HasFilesReason true
+        (map string_bytes given.now) (D.System.may_fail system.now) (D.Store.seen system.now)
+        (I.left input.old) (I.failures input.old) (I.failures input.new)) }
+{
+    let texts = given_texts(alloc, given, given, system, input)?;
+    let files = with_paths(alloc, given, &texts)?;
+    let compared = compared(alloc, &files)?;
+    let told = near_in_files(alloc, &compared, device, limit, json)?;
+    Ok(Answer::new(alloc, told, 0))
+}
+
+/// The text files, as they are compared.
+fn compared<'a>(
+    alloc: Global,
+    files: &[hwdb_check::TextFile<'a>],
+) -> Result<Vec<PatternFile<'a>>, AllocError>
+    ensures { IfOk result (λ list. map Views.source_of list.items
+        ≡ map Checks.source_of files.now) }
+{
+    let mut list = Vec::new(alloc);
+    for file in files {
+        list.push(PatternFile {
+            path: file.path.as_bytes(),
+            bytes: file.bytes,
+        })?;
+    }
+    Ok(list)
+}

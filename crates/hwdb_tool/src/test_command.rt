@@ -1,0 +1,114 @@
+//! `test`: test files that are tried over a database. Nothing is written.
+ghost use Rattle.std.specs.Prelude.{◌≡◌, ◌≤◌, All, false, length, is_some, map, option_map, string_bytes, IfErr, IfOk};
+ghost use Rattle.hwdb_spec_commands.specs.Refusals.{HasReason};
+ghost use Rattle.hwdb_check.specs.Checks.{source_of};
+ghost use Rattle.hwdb_spec_commands.specs.Asked.{IsPrinted};
+ghost use Rattle.hwdb_spec_commands.specs.Given.{any_dash};
+ghost use Rattle.hwdb_spec_commands.specs.Runs.{OnOut};
+ghost use Rattle.hwdb_spec_program.specs.Tested.{IsTested, IsVerdict};
+ghost use Rattle.hwdb_spec_program.specs.TestErrors.{AreUntried, HasTestReason, IsTestRefused, IsTrialRefusal};
+ghost use Rattle.hwdb_spec_commands.specs.Undone.{IsUnreadableIf};
+ghost use Rattle.hwdb_plan.specs.Asking.{named};
+ghost use Rattle.hwdb_plan.specs.Files.{OfInput};
+ghost use Rattle.hwdb_plan.specs.Plans.{Follows};
+ghost use Rattle.hwdb_plan.specs.Test.{test_plan, tested};
+ghost use Rattle.hwdb_spec.specs.Folders.{Source};
+ghost use Rattle.hwdb_spec.specs.Texts.{max_file};
+ghost use Rattle.hwdb_tool.specs.Views.{end_of, texts_in};
+
+use crate::answer::Answer;
+use crate::check_command::{given_texts, with_paths};
+use crate::databases::{named, refused_database};
+use hwdb_answers::ToolError;
+use hwdb_check::TextFile;
+use hwdb_io::Source;
+use hwdb_reader::check;
+use hwdb_system::{Refusal, System};
+use hwdb_test::test_files;
+use std::alloc::Global;
+
+/// What the given test files say of the database at the path, or without a path of the one that is asked. `-` is what `input` has
+/// left. The status is 1 if a wanted line doesn't hold, else 0.
+///
+/// All files are read first, in their order, and then the database: the error is the first that comes so.
+pub fn test<D: System, I: Source>(
+    alloc: Global,
+    root: &str,
+    given: &[String],
+    database: Option<&str>,
+    json: bool,
+    system: &D,
+    input: &mut I,
+) -> Result<Answer, Refusal>
+    ensures follows { D.Store.tells → OfInput (I.left input.old) (I.failures input.old)
+        (I.failures input.new) (λ told. Follows end_of (D.System.reads system.now)
+        (test_plan told (map string_bytes given.now) (option_map (λ t. t.now) database.entry)
+        root.now json) result) }
+    ensures tested { D.Store.tells → IfOk result (λ a. OnOut (λ text. IsTested json
+        (map string_bytes given.now) (option_map (λ t. t.now) database.entry) root.now
+        (I.left input.old) (D.Store.seen system.now) text a.status) (texts_in a)) }
+    ensures refused { D.Store.tells → IfErr result (IsTestRefused (map string_bytes given.now)
+        (option_map (λ t. t.now) database.entry) root.now (I.left input.old)
+        (D.Store.seen system.now)) }
+    ensures unread { any_dash (map string_bytes given.now) ≡ false → input.new ≡ input.old }
+    ensures reason { D.Store.tells → IfErr result (HasTestReason (map string_bytes given.now)
+        (option_map (λ t. t.now) database.entry) root.now (D.System.may_fail system.now)
+        (D.Store.seen system.now) (I.left input.old) (I.failures input.old)
+        (I.failures input.new)) }
+{
+    let texts = given_texts(alloc, given, given, system, input)?;
+    let files = with_paths(alloc, given, &texts)?;
+    tried(alloc, root, database, json, &files, system)
+}
+
+/// The same of files that were read.
+fn tried<D: System>(
+    alloc: Global,
+    root: &str,
+    database: Option<&str>,
+    json: bool,
+    files: &[TextFile<'_>],
+    system: &D,
+) -> Result<Answer, Refusal>
+    ensures follows { D.Store.tells
+        → All (λ (s : Source). length s.bytes ≤ max_file) (map source_of files.now)
+        → Follows end_of (D.System.reads system.now)
+        (named (option_map (λ t. t.now) database.entry) root.now
+        (tested json (map source_of files.now))) result }
+    ensures tested { D.Store.tells → IfOk result (λ a. OnOut (IsPrinted
+        (option_map (λ t. t.now) database.entry) root.now
+        (IsVerdict json (map source_of files.now) a.status)
+        (D.Store.seen system.now)) (texts_in a)) }
+    ensures refused { D.Store.tells → IfErr result (AreUntried (map source_of files.now)
+        (option_map (λ t. t.now) database.entry) root.now (D.Store.seen system.now)) }
+    ensures reason { IfErr result (HasReason
+        (IsUnreadableIf (is_some (option_map (λ t. t.now) database.entry))
+        (D.System.may_fail system.now) (D.Store.seen system.now)) ⊥ (D.Store.seen system.now)) }
+{
+    let found = named(alloc, root, database, system)?;
+    match tried_over(alloc, json, files, &found.bytes) {
+        Ok(answer) => Ok(answer),
+        Err(error) => Err(refused_database(alloc, error, found.path.as_bytes())),
+    }
+}
+
+/// The same over bytes that were read. It is an error if these are no database, or if a file has more than 4,294,967,295 lines.
+fn tried_over(
+    alloc: Global,
+    json: bool,
+    files: &[TextFile<'_>],
+    bytes: &[u8],
+) -> Result<Answer, ToolError>
+    ensures tested { IfOk result (λ a. OnOut
+        (IsVerdict json (map source_of files.now) a.status bytes.now) (texts_in a)) }
+    ensures refused { IfErr result (IsTrialRefusal (map source_of files.now) bytes.now) }
+{
+    let db = match check(bytes) {
+        Ok(db) => db,
+        Err(fault) => return Err(ToolError::BadDatabase(fault)),
+    };
+    match test_files(alloc, &db, json, files) {
+        Ok(tested) => Ok(Answer::new(alloc, tested.text, tested.status)),
+        Err(error) => Err(ToolError::from(error)),
+    }
+}
