@@ -1,6 +1,6 @@
 use Rattle.std.proofs.Common.{All, Global, List, String, Vec, [], ap, drop, inr, length, map, rules, string_bytes, subst, sym, take, ◌+◌, ◌++◌, ◌∙◌, ◌∷◌, ◌≡◌, ◌≤◌, ◌⊎◌, false, Some, ℕ}
 use Rattle.std.proofs.lemmas.List.{drop_all, map-append, take_all}
-use Rattle.std.proofs.lemmas.List.Elements.{All-more, All-push}
+use Rattle.std.proofs.lemmas.List.Elements.{All-more, All-nil, All-push}
 use Rattle.hwdb_spec_commands.specs.Refusals.{IsUnread, IsUnreadAt}
 use Rattle.hwdb_spec_commands.specs.declared.refusals.Refusal.TheVariants.{Plain}
 use Rattle.hwdb_spec.specs.declared.errors.ToolError.TheVariants.{Memory}
@@ -11,7 +11,7 @@ use Rattle.hwdb_spec_commands.specs.Reasons.{IsFileReason, IsReadGiven}
 use Rattle.hwdb_spec_commands.specs.Undone.{IsGivenUnread, told_path}
 use Rattle.hwdb_tool.proofs.CheckLemmas.{first_given, given_unread, read_given, texts_given_more}
 use Rattle.hwdb_tool.proofs.GivenLemmas.{of_given}
-use Rattle.hwdb_plan.specs.Lemmas.Files.{AreRead, all_read, are_bytes, more_read, not_bytes, stops_reading}
+use Rattle.hwdb_plan.specs.Lemmas.Files.{AreRead, all_read, are_bytes, more_read, none_read, not_bytes, stops_reading}
 use Rattle.hwdb_tool.proofs.FileLemmas.{next_path, paths_more}
 use Rattle.hwdb_tool.proofs.check_command.read_given.Goals as goal
 use Rattle.hwdb_spec.specs.Lemmas.Calls.{given_error}
@@ -52,6 +52,24 @@ returns-in_err-bytes-clause-reason g c = λ tells.
           (subst (λ p. (r ≡ Plain Memory) ⊎ ((is_dash p ≡ false) × IsUnreadAt seen p r)) c.as_str-path.ensures.value (c.in_err-bytes.ensures.file tells)),
       c.in_err-bytes.ensures.reason,
     )
+
+pub loop-path-init : goal.loop-path-init
+loop-path-init g c =
+    let w = g.D.System.reads c.args.system.now in
+    let words = map string_bytes c.args.words.now in
+    let all = map string_bytes c.args.given.now in
+    let text = c.args.text.now in
+    let items = λ (v : Vec ℕ Global). v.items in
+    let short = λ (v : Vec ℕ Global). length v.items ≤ max_file in
+    let none = c.new.ensures.items in
+    record {
+      count = ap length none;
+      among = λ path is. is;
+      told = λ tells. subst (λ (l : List (Vec ℕ Global)). AreRead w words text all all [] (map items l)) (sym none) (none_read w words text all);
+      read = λ tells. ap (λ (l : List (Vec ℕ Global)). map Some (map items l)) none;
+      files = λ tells. All-nil (λ (s : String Global). IsReadGiven (g.D.Store.seen c.args.system.now) (string_bytes s));
+      within = λ s. subst (All short) (sym none) (All-nil short);
+    }
 
 pub loop-path-preserved : goal.loop-path-preserved
 loop-path-preserved g c =
