@@ -61,7 +61,7 @@ loop-path-init g c =
     let text = c.args.text.now in
     let items = λ (v : Vec ℕ Global). v.items in
     let short = λ (v : Vec ℕ Global). length v.items ≤ max_file in
-    let none = c.new.ensures.items in
+    let none = c.new-texts.ensures.items in
     record {
       count = ap length none;
       among = λ path is. is;
