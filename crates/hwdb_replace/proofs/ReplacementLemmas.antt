@@ -1,13 +1,13 @@
 -- The new file is filled, and takes the database's place.
-use Rattle.std.proofs.Common.{◌≡◌, ◌≢◌, ◌⊎◌, ◌≤◌, inl, inr, ⊎_elim, ℕ, List, [], ◌∷◌, Option, Some, refl, sym, ap, ◌∙◌, subst, arith, get_or, Result, Ok, Err, MatchResult}
+use Rattle.std.proofs.Common.{◌≡◌, ◌≢◌, ◌⊎◌, ◌≤◌, inl, inr, ⊎_elim, ℕ, List, ◌∷◌, Option, Some, sym, ap, ◌∙◌, subst, arith, get_or, Result, Ok, Err, MatchResult}
 use Rattle.std.specs.Result.{IsErrAnd}
 use Rattle.std.proofs.lemmas.List.{append_cancel_left}
-use Rattle.hwdb_spec.specs.Store.{Stored, Contents, Outcomes, Always, AreTaken, Elapses, ModeSet, NoMore, NoMoreBut, NoMoreRenamed, Removed, Renamed, Replaced, Same, SameBut, Written, database_file, database_mode, database_name, part_mode, part_name, path_in}
+use Rattle.hwdb_spec.specs.Store.{Stored, Contents, Outcomes, Elapses, ModeSet, NoMore, NoMoreBut, NoMoreRenamed, Removed, Renamed, Replaced, Same, SameBut, Written, database_file, database_mode, database_name, part_mode, part_name}
 use Rattle.hwdb_spec.specs.Lemmas.Orders.{one_or_two}
 use Rattle.hwdb_spec.specs.declared.errors.Unreplaced.{Unreplaced}
 use Rattle.hwdb_spec.specs.declared.errors.Unreplaced.TheVariants.{Undone, NamesTaken, LeftBehind, Unsynced}
 use Rattle.hwdb_replace.specs.declared.calls.Store.{Ghosts}
-use Rattle.hwdb_replace.specs.Internal.{Step, OrAt, OrFile, Moved, IsEmpty, IsNew, Makes, NotMade, Fills, Settles, Exchanges, Fails, empty_file, place}
+use Rattle.hwdb_replace.specs.Internal.{Step, OrAt, OrFile, Moved, IsNew, Makes, NotMade, Fills, Settles, Exchanges, Fails, empty_file, place}
 use Rattle.hwdb_replace.proofs.ComposedLemmas.{and_call, composed, weaker}
 
 -- the bytes are written, the mode is set, and a sync changes nothing
