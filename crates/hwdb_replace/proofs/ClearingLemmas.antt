@@ -9,11 +9,14 @@ use Rattle.hwdb_replace.specs.declared.calls.Store.{Ghosts}
 use Rattle.hwdb_replace.specs.Internal.{Step, OrAt, OrFile, IsNew, Exchanges, Fails, place}
 use Rattle.hwdb_replace.proofs.ComposedLemmas.{composed, weaker}
 
-pub counted : (r : Result (Unit {0}) Unreplaced) (start mid end : ℕ) → mid ≡ start → MatchResult r (λ _. end ≡ mid) (λ e. end ≡ failures_after e mid)
+-- clearing is no failed call
+pub counted : (r : Result (Unit {0}) Unreplaced) (start mid end : ℕ) → mid ≡ start
+    → MatchResult r (λ _. end ≡ mid) (λ e. end ≡ failures_after e mid)
     → MatchResult r (λ _. end ≡ start) (λ e. end ≡ failures_after e start)
 counted r start mid end same h = subst (λ (n : ℕ). MatchResult r (λ _. end ≡ n) (λ e. end ≡ failures_after e n)) same h
 
-module _ {D : Type 0} (g : Ghosts D) (folder bytes : List ℕ) (s0 s1 s2 : D) (clears : Step g (Cleared folder) (OldOrCleared folder (g.may_leave s0)) s0 s1) where
+module _ {D : Type 0} (g : Ghosts D) (folder bytes : List ℕ) (s0 s1 s2 : D)
+    (clears : Step g (Cleared folder) (OldOrCleared folder (g.may_leave s0)) s0 s1) where
   abbrev Leaves : Result (Unit {0}) Unreplaced → Type 0
   Leaves r = MatchResult r (λ _. Exchanges g folder bytes s1 s2) (Fails g folder bytes s1 s2)
 
@@ -33,7 +36,8 @@ module _ {D : Type 0} (g : Ghosts D) (folder bytes : List ℕ) (s0 s1 s2 : D) (c
 
   -- beside others
   pub shared : (r : Result (Unit {0}) Unreplaced) → Leaves r → Step g Any (OldOrOurs folder bytes (g.may_leave s0)) s0 s2
-  shared r leaves = composed clears (in_any r leaves) (λ t a b. tt) (λ p v left. ⊎_elim (λ was. inl was) (λ gone. inr (inr gone.0)) left) ours
+  shared r leaves = composed clears (in_any r leaves) (λ t a b. tt)
+      (λ p v left. ⊎_elim (λ was. inl was) (λ gone. inr (inr gone.0)) left) ours
     where
       ours : NoMore (OldOrOurs folder bytes (g.may_leave s0)) Allowed
       ours p v (inl was) = ⊎_elim (λ b. inl b) (λ gone. inr (inr gone.0)) (clears.left p v was)
@@ -60,7 +64,8 @@ module _ {D : Type 0} (g : Ghosts D) (folder bytes : List ℕ) (s0 s1 s2 : D) (c
     or_new p v (inr (inr is)) = inr (inr (inl (is_part p is)))
 
     pub alone : (r : Result (Unit {0}) Unreplaced) → Leaves r → Step g Any (OldOrNew folder bytes (g.seen s0) (g.may_leave s0)) s0 s2
-    alone r leaves = composed clears (in_any r leaves) (λ u a b. tt) (λ p v left. ⊎_elim (λ was. inl was) (λ gone. inr (inr (inr gone))) left) or_new
+    alone r leaves = composed clears (in_any r leaves) (λ u a b. tt)
+        (λ p v left. ⊎_elim (λ was. inl was) (λ gone. inr (inr (inr gone))) left) or_new
 
     kept : (p : List ℕ) → g.seen s2 p ≡ g.seen s1 p → IsKept folder (g.seen s0) (g.seen s2) p
     kept p e = ⊎_elim (λ same. inl (e ∙ same)) (λ gone. inr (gone.0, e ∙ gone.1)) (clears.seen t p)
@@ -70,10 +75,14 @@ module _ {D : Type 0} (g : Ghosts D) (folder bytes : List ℕ) (s0 s1 s2 : D) (c
 
     pub seen_then : (e : Unreplaced) → Fails g folder bytes s1 s2 e → IsSeen folder bytes (g.seen s0) (g.seen s2) e
     seen_then Undone step = λ p. kept p (step.seen t p)
-    seen_then NamesTaken step = let same = step.seen t in (
-      λ p. ⊎_elim (λ e. e) (λ (gone : IsPartPath folder p × (g.seen s2 p ≡ None)). absurd (same.1 gone.0.number gone.0.tried (ap (g.seen s1) (sym gone.0.is) ∙ sym (same.0 p) ∙ gone.1))) (kept p (same.0 p)),
-      were_taken most_parts same.1,
+    seen_then NamesTaken step = (
+      λ p. ⊎_elim (λ e. e) (λ (gone : IsPartPath folder p × (g.seen s2 p ≡ None)). absurd (still p gone)) (kept p ((step.seen t).0 p)),
+      were_taken most_parts (step.seen t).1,
     )
+      where
+        still : (p : List ℕ) → IsPartPath folder p × (g.seen s2 p ≡ None) → ⊥
+        still p gone = (step.seen t).1 gone.0.number gone.0.tried
+            (ap (g.seen s1) (sym gone.0.is) ∙ sym ((step.seen t).0 p) ∙ gone.1)
     seen_then LeftBehind step = λ p. ⊎_elim (λ e. inl (kept p e)) (λ is. inr (is_part p is)) (step.seen t p)
     seen_then Unsynced step = installed (step.seen t)
 

@@ -34,6 +34,10 @@ module _ {D : Type 0} (g : Ghosts D) where
     pub left : NoMore allowed (g.may_leave new)
     pub time : Elapses (g.moment old) (g.moment new) (g.left_since old) (g.left_since new) allowed
 
+  -- the file under one path has perhaps changed, and nothing else
+  abbrev pub Touches : (part : List ℕ) (old new : D) → Type 0
+  Touches part old new = Step (SameBut part) (OrAt (λ p. p ≡ part) (g.may_leave old)) old new
+
   -- the path of a new file; if the store tells, its name is the first one that nothing has
   pub record IsNew (folder : List ℕ) (old : D) (p : List ℕ) : Type 0 where
     pub number : ℕ
@@ -65,7 +69,7 @@ module _ {D : Type 0} (g : Ghosts D) where
   pub record Fills (old new : D) : Type 0 where
     pub part : g.part new ≡ g.part old
     pub own : (p : List ℕ) → g.is_own old p → g.is_own new p
-    pub step : Step (SameBut (g.part old)) (OrAt (λ p. p ≡ g.part old) (g.may_leave old)) old new
+    pub step : Touches (g.part old) old new
 
   -- the new file has these bytes, is on the disk, and is under the other path
   pub record Settles (part target bytes : List ℕ) (old new : D) : Type 0 where
@@ -74,17 +78,24 @@ module _ {D : Type 0} (g : Ghosts D) where
     pub whole : g.is_whole new target
     pub step : Step (Moved part target) (OrFile (λ p. p ≡ part) target (database_file bytes) (g.may_leave old)) old new
 
-  -- the database has these bytes, on the disk too, and nothing else has changed
+  -- the database has these bytes, and nothing else has changed
+  abbrev pub Places : (folder bytes : List ℕ) (old new : D) → Type 0
+  Places folder bytes old new =
+      Step (Replaced (place folder) (database_file bytes))
+      (OrFile (IsNew folder old) (place folder) (database_file bytes) (g.may_leave old)) old new
+
+  -- it has them on the disk, too
   pub record Exchanges (folder bytes : List ℕ) (old new : D) : Type 0 where
     pub durable : g.tells → Always (place folder) (Some (database_file bytes)) (g.may_leave new)
-    pub last : (v : Option Stored) → g.may_leave new (place folder) v → (v ≡ Some (database_file bytes)) ⊎ g.theirs (place folder) v
+    pub last : (v : Option Stored) → g.may_leave new (place folder) v
+        → (v ≡ Some (database_file bytes)) ⊎ g.theirs (place folder) v
     pub put : g.left_since new (g.moment old) (place folder) (Some (database_file bytes))
-    pub step : Step (Replaced (place folder) (database_file bytes)) (OrFile (IsNew folder old) (place folder) (database_file bytes) (g.may_leave old)) old new
+    pub step : Places folder bytes old new
 
   -- what an exchange that failed leaves
   abbrev pub Fails : (folder bytes : List ℕ) (old new : D) → Unreplaced → Type 0
   Fails folder bytes old new Undone = Step Same (OrAt (IsNew folder old) (g.may_leave old)) old new
   Fails folder bytes old new NamesTaken = Step (λ a b. Same a b × AreTaken folder most_parts a) (g.may_leave old) old new
-  Fails folder bytes old new LeftBehind = Step (λ a b. (p : List ℕ) → (b p ≡ a p) ⊎ IsNew folder old p) (OrAt (IsNew folder old) (g.may_leave old)) old new
-  Fails folder bytes old new Unsynced =
-      Step (Replaced (place folder) (database_file bytes)) (OrFile (IsNew folder old) (place folder) (database_file bytes) (g.may_leave old)) old new
+  Fails folder bytes old new LeftBehind =
+      Step (λ a b. (p : List ℕ) → (b p ≡ a p) ⊎ IsNew folder old p) (OrAt (IsNew folder old) (g.may_leave old)) old new
+  Fails folder bytes old new Unsynced = Places folder bytes old new

@@ -1,10 +1,10 @@
 //! The database is replaced: a new file beside it, on the disk, takes its place.
 ghost use Rattle.std.specs.Prelude.{◌≡◌, ◌⊎◌, ◌<◌, List, ℕ, Option, Some, OnOk, OnErr, IfOk, IfErr, IfSome, MatchResult};
 ghost use Rattle.hwdb_spec.specs.Failures.{CountsFailures};
-ghost use Rattle.hwdb_spec.specs.Store.{SameBut, Written, NoMore, Installed, Always, LeavesOnly, OldOrNew, Stored, path_in, part_name, database_name, database_file, most_parts};
+ghost use Rattle.hwdb_spec.specs.Store.{Written, NoMore, Installed, Always, LeavesOnly, OldOrNew, Stored, path_in, part_name, database_name, database_file, most_parts};
 ghost use Rattle.hwdb_spec.specs.Sharing.{OldOrOurs};
 ghost use Rattle.hwdb_spec.specs.NotReplaced.{IsSeen, IsLeft, failures_after};
-ghost use Rattle.hwdb_replace.specs.Internal.{Step, Makes, NotMade, Fills, Settles, Exchanges, Fails, IsEmpty, OrAt};
+ghost use Rattle.hwdb_replace.specs.Internal.{Makes, NotMade, Fills, Touches, Settles, Exchanges, Fails, IsEmpty};
 ghost use Rattle.hwdb_spec.specs.declared.errors.Unreplaced.TheVariants.{Undone};
 
 use crate::calls::{CallFailed, Store};
@@ -152,8 +152,7 @@ fn settle<S: Store>(store: &mut S, folder: &str, part: &str, bytes: &[u8]) -> Re
     ensures leaves { S.tells_own → let path = path_in folder.now part.now in MatchResult result
         (λ _. Settles S.Store path (path_in folder.now database_name) bytes.now
         store.old store.new)
-        (λ _. Step S.Store (SameBut path) (OrAt (λ p. p ≡ path) (S.may_leave store.old))
-        store.old store.new) }
+        (λ _. Touches S.Store path store.old store.new) }
     ensures cause { CountsFailures (S.failures store.old) (S.failures store.new) result }
 {
     fill(store, bytes)?;

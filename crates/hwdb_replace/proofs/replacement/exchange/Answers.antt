@@ -1,6 +1,6 @@
 use Rattle.std.proofs.Common.{⊎_elim, inl, inr, sym, ◌∙◌}
 use Rattle.hwdb_spec.specs.Store.{database_name}
-use Rattle.hwdb_replace.proofs.MakingLemmas.{made_under, step_under}
+use Rattle.hwdb_replace.proofs.MakingLemmas.{made_under, touched_under}
 use Rattle.hwdb_replace.proofs.ReplacementLemmas.{left_behind, removed, synced, unmade, was_put}
 use Rattle.hwdb_replace.proofs.replacement.exchange.Goals as goal
 
@@ -12,7 +12,8 @@ settle-requires-clause-empty g c = (made_under c.as_str.ensures.value c.in_ok-pa
 
 pub returns-in_err-part-clause-leaves : goal.returns-in_err-part-clause-leaves
 returns-in_err-part-clause-leaves g c = λ t.
-    unmade g.S.Store c.args.folder.now c.args.bytes.now c.args.store.now c.make.new.store c.from_residual.result c.in_err-part.field-0.0 c.from_residual.ensures.1 c.in_err-part.ensures.makes
+    unmade g.S.Store c.args.folder.now c.args.bytes.now c.args.store.now c.make.new.store c.from_residual.result
+    c.in_err-part.field-0.0 c.from_residual.ensures.1 c.in_err-part.ensures.makes
 
 pub returns-in-Ok-sync_folder-clause-leaves : goal.returns-in-Ok-sync_folder-clause-leaves
 returns-in-Ok-sync_folder-clause-leaves g c = λ t.
@@ -35,10 +36,12 @@ pub returns-in-Ok-remove-clause-leaves : goal.returns-in-Ok-remove-clause-leaves
 returns-in-Ok-remove-clause-leaves g c = λ t.
     let e = c.in-Ok-remove.ensures in
     let same = c.as_str-in-Err.ensures.value in
-    removed (made_under same c.in_ok-part.ensures.makes) (step_under c.args.folder.now (same ∙ sym c.as_str.ensures.value) (c.in-Err.ensures.leaves t)) e.seen e.crash e.time
+    removed (made_under same c.in_ok-part.ensures.makes)
+    (touched_under c.args.folder.now (same ∙ sym c.as_str.ensures.value) (c.in-Err.ensures.leaves t)) e.seen e.crash e.time
 
 pub returns-in-Err-remove-clause-leaves : goal.returns-in-Err-remove-clause-leaves
 returns-in-Err-remove-clause-leaves g c = λ t.
     let e = c.in-Err-remove.ensures in
     let same = c.as_str-in-Err.ensures.value in
-    left_behind (made_under same c.in_ok-part.ensures.makes) (step_under c.args.folder.now (same ∙ sym c.as_str.ensures.value) (c.in-Err.ensures.leaves t)) e.seen e.crash e.time
+    left_behind (made_under same c.in_ok-part.ensures.makes)
+    (touched_under c.args.folder.now (same ∙ sym c.as_str.ensures.value) (c.in-Err.ensures.leaves t)) e.seen e.crash e.time

@@ -6,7 +6,9 @@ use Rattle.hwdb_replace.proofs.MomentLemmas.{written_more}
 use Rattle.hwdb_replace.proofs.replacement.write_all.Goals as goal
 
 pub returns-in_err-written-clause-fills : goal.returns-in_err-written-clause-fills
-returns-in_err-written-clause-fills g c = let e = c.write.ensures in fills_on c.loop-written.invariant.fills (fills_by _ _ e.part e.own e.others e.crash e.time)
+returns-in_err-written-clause-fills g c =
+    let e = c.write.ensures in
+    fills_on c.loop-written.invariant.fills (fills_by _ _ e.part e.own e.others e.crash e.time)
 
 pub loop-written-preserved : goal.loop-written-preserved
 loop-written-preserved g c =

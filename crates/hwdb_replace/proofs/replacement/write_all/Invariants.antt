@@ -7,7 +7,8 @@ abbrev pub invariant-loop-written : goal.invariant-loop-written
 invariant-loop-written g l = record {
   within : l.written ≤ length l.bytes;
   fills : Fills g.S.Store l.initial.store l.store;
-  written : g.S.Store.tells_own → Written (g.S.Store.part l.initial.store) (take l.written l.bytes) (g.S.Store.seen l.initial.store) (g.S.Store.seen l.store);
+  written : g.S.Store.tells_own → Written (g.S.Store.part l.initial.store) (take l.written l.bytes)
+      (g.S.Store.seen l.initial.store) (g.S.Store.seen l.store);
   same : g.S.Store.failures l.store ≡ g.S.Store.failures l.initial.store;
 }
 

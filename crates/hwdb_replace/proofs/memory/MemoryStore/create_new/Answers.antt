@@ -7,7 +7,8 @@ returns-in_ok-take-in-Ok-Some c =
     let xs = c.args.self.now.steps.items in
     let ys = c.take.new.self.steps.items in
     let took = c.in_ok-take-in-Ok-Some.ensures in
-    let made = created xs ys c.in-Ok-Some.step took.taken _ c.deref.result.now _ (c.deref.ensures.value ∙ c.in-Ok.ensures) (took.part ∙ c.in-Ok.ensures) (rw c.in-Ok-Some.field-0-is at c.in-Ok-Some.ensures) in
+    let made = created xs ys c.in-Ok-Some.step took.taken _ c.deref.result.now _
+    (c.deref.ensures.value ∙ c.in-Ok.ensures) (took.part ∙ c.in-Ok.ensures) (rw c.in-Ok-Some.field-0-is at c.in-Ok-Some.ensures) in
     record {
       folder = search rules;
       own = search rules;

@@ -11,7 +11,8 @@ pub returns : goal.returns
 returns c =
     let xs = c.args.self.now.steps.items in
     let ys = c.take.new.self.steps.items in
-    let s : Took xs ys (λ s. IsRemoval s (path_in c.args.folder.now c.args.name.now)) = took _ _ _ _ c.in_ok-take.ensures.taken c.removed-step.ensures in
+    let s : Took xs ys (λ s. IsRemoval s (path_in c.args.folder.now c.args.name.now)) =
+    took _ _ _ _ c.in_ok-take.ensures.taken c.removed-step.ensures in
     record {
       seen = λ _. removal_seen _ _ s.0 s.1 _ s.2;
       crash = removal_crash _ _ s.0 s.1 _ s.2;

@@ -12,7 +12,9 @@ pub returns : goal.returns
 returns c =
     let xs = c.args.self.now.steps.items in
     let from = path_in c.args.folder.now c.args.from.now in
-    let s : Took xs c.take.new.self.steps.items (λ s. (f : Stored) × (seen_of xs from ≡ Some f) × IsMove s from (path_in c.args.folder.now c.args.to.now) f (state_of from begin xs).loose) =
+    let to = path_in c.args.folder.now c.args.to.now in
+    let s : Took xs c.take.new.self.steps.items
+    (λ s. (f : Stored) × (seen_of xs from ≡ Some f) × IsMove s from to f (state_of from begin xs).loose) =
     took _ _ _ _ c.in_ok-take.ensures.taken c.renamed-step.ensures in
     let moved = move_seen _ _ s.0 s.1 _ _ s.2.0 s.2.1 s.2.2 in
     record {

@@ -12,13 +12,15 @@ returns c =
     let xs = c.args.self.now.steps.items in
     let part = c.args.self.now.part.items in
     let bytes = take c.min-n.result c.args.buf.now in
-    let s : Took xs c.take.new.self.steps.items (λ s. (f : Stored) × (seen_of xs part ≡ Some f) × IsChange s part (record { bytes = f.bytes ++ bytes; mode = f.mode })) =
+    let s : Took xs c.take.new.self.steps.items
+    (λ s. (f : Stored) × (seen_of xs part ≡ Some f) × IsChange s part (record { bytes = f.bytes ++ bytes; mode = f.mode })) =
     took _ _ _ _ c.in_ok-take.ensures.taken c.longer-step.ensures in
     record {
       bound = search rules;
       progress = search rules;
       own = search rules;
-      written = λ _ f there. change_seen _ _ s.0 s.1 _ _ s.2.2 ∙ ap (λ (g : Stored). Some (record { bytes = g.bytes ++ bytes; mode = g.mode })) (same_file _ _ (sym s.2.1 ∙ there));
+      written = λ _ f there. change_seen _ _ s.0 s.1 _ _ s.2.2
+          ∙ ap (λ (g : Stored). Some (record { bytes = g.bytes ++ bytes; mode = g.mode })) (same_file _ _ (sym s.2.1 ∙ there));
       torn = λ _ left. change_torn _ _ s.0 s.1 _ _ s.2.2 left;
       others = λ _. change_others _ _ s.0 s.1 _ _ s.2.2;
       part = search rules;

@@ -9,7 +9,9 @@ returns-clause-crash g c =
     let path = path_in c.args.folder.now c.args.name.now in
     let left = left_with g.O.Others.whole in
     let zs = c.remove-removed.new.self.steps.items in
-    subst (λ ws. NoMoreBut path (left c.args.self.now.memory.steps.items) (left ws)) (sym c.let_go.ensures.steps) (no_more_but_with c.wait.ensures.went path zs c.remove-removed.ensures.crash)
+    subst (λ ws. NoMoreBut path (left c.args.self.now.memory.steps.items) (left ws)) (sym c.let_go.ensures.steps)
+    (no_more_but_with c.wait.ensures.went path zs c.remove-removed.ensures.crash)
 
 pub returns-clause-time : goal.returns-clause-time
-returns-clause-time g c = time_let_go c.wait.ensures.went c.remove-removed.new.self.steps.items _ c.let_go.ensures.steps c.remove-removed.ensures.time
+returns-clause-time g c =
+    time_let_go c.wait.ensures.went c.remove-removed.new.self.steps.items _ c.let_go.ensures.steps c.remove-removed.ensures.time

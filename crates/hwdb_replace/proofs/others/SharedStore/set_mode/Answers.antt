@@ -8,7 +8,8 @@ pub returns-clause-crash : goal.returns-clause-crash
 returns-clause-crash g c =
     let left = left_with g.O.Others.whole in
     let zs = c.set_mode.new.self.steps.items in
-    subst (λ part. NoMoreBut part (left c.args.self.now.memory.steps.items) (left zs)) c.wait.ensures.part (no_more_but_with c.wait.ensures.went _ zs c.set_mode.ensures.crash)
+    subst (λ part. NoMoreBut part (left c.args.self.now.memory.steps.items) (left zs)) c.wait.ensures.part
+    (no_more_but_with c.wait.ensures.went _ zs c.set_mode.ensures.crash)
 
 pub returns-clause-time : goal.returns-clause-time
 returns-clause-time g c = time_with c.wait.ensures.went c.set_mode.new.self.steps.items _ _ c.set_mode.ensures.time (λ p v l. inl l)

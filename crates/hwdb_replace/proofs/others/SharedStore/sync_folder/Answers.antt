@@ -13,5 +13,6 @@ returns-clause-time g c = time_with c.wait.ensures.went c.sync_folder.new.self.s
 pub returns-clause-last : goal.returns-clause-last
 returns-clause-last g c = λ t.
     on_ok_weaker c.sync_folder.result
-    (λ always name whole v left. last_with c.wait.ensures.went (path_in c.args.folder.now name) c.sync_folder.new.self.steps.items (λ here v l. always name here v l) whole v left)
+    (λ always name whole v left. last_with c.wait.ensures.went (path_in c.args.folder.now name) c.sync_folder.new.self.steps.items
+    (λ here v l. always name here v l) whole v left)
     (c.sync_folder.ensures.durable tt)
