@@ -22,7 +22,7 @@ pub record Moved (part target : List ℕ) (old new : Contents) : Type 0 where
   pub gone : part ≢ target → new part ≡ None
   pub others : (p : List ℕ) → p ≢ part → p ≢ target → new p ≡ old p
 
--- the database's place, and the file that is to be there
+-- the path of the database
 abbrev pub place : (folder : List ℕ) → List ℕ
 place folder = path_in folder database_name
 
