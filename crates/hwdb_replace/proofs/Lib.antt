@@ -1,9 +1,9 @@
 pub mod BesideLemmas
 pub mod ClearingLemmas
+pub mod ComposedLemmas
 pub mod MakingLemmas
 pub mod MomentLemmas
 pub mod OthersLemmas
 pub mod ReplacementLemmas
-pub mod SharingLemmas
 pub mod StepLemmas
 pub mod TearingLemmas

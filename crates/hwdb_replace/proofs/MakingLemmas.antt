@@ -1,47 +1,62 @@
--- The new file's name.
-use Rattle.std.proofs.Common.{◌≡◌, ◌≢◌, inl, inr, ⊎_elim, ℕ, ◌+◌, ◌<◌, Bool, true, false, List, Option, None, sym, ap, ◌∙◌, subst, arith}
+-- The new file is made.
+use Rattle.std.proofs.Common.{◌≡◌, ◌≢◌, inl, inr, ⊎_elim, ℕ, ◌+◌, ◌<◌, Bool, true, false, List, Some, None, sym, ap, ◌∙◌, subst, arith, refl}
 use Rattle.std.proofs.lemmas.Bool.{true≢false}
 use Rattle.std.proofs.lemmas.Bool.Decides.{eqb_tells}
-use Rattle.hwdb_spec.specs.Store.{Stored, Contents, Outcomes, Created, NoMoreCreated, NoMore, Same, AreTaken, path_in, part_name, most_parts}
-use Rattle.hwdb_replace.specs.Internal.{Made, IsFirstFree, OldOrFree}
+use Rattle.hwdb_spec.specs.Store.{Contents, AreTaken, Created, NoMoreCreated, Same, most_parts, part_name, path_in}
 use Rattle.hwdb_spec.specs.Lemmas.Orders.{one_or_two}
+use Rattle.hwdb_replace.specs.declared.calls.Store.{Ghosts}
+use Rattle.hwdb_replace.specs.Internal.{Step, Makes, Touches, empty_file}
+use Rattle.hwdb_replace.proofs.ComposedLemmas.{Call, and_call}
 
-pub made_of : (folder part name : List ℕ) (number : ℕ) (old mid new : Contents) (before between now : Outcomes) (b : Bool) → number < most_parts → Same old mid → AreTaken folder number old
-    → NoMore before between → b ≡ true → name ≡ part_name number → Created b (path_in folder name) part mid new → NoMoreCreated b (path_in folder name) between now
-    → Made folder (path_in folder name) old new before now
-made_of folder part name number old mid new before between now false tried same taken less is named created crash = absurd (true≢false (sym is))
-made_of folder part name number old mid new before between now true tried same taken less is named created crash = record {
-  is = record {
-    number = number;
-    tried = tried;
-    is = ap (λ (n : List ℕ). path_in folder n) named;
-    free = sym (same (path_in folder name)) ∙ created.0;
-    first = taken;
-  };
-  seen = record {
-    there = created.2.there;
-    others = λ p ne. created.2.others p ne ∙ same p;
-  };
-  crash = λ p v ne left. less p v (crash p v ne left);
-}
-
-pub part_of : (path part : List ℕ) (old new : Contents) (b : Bool) → b ≡ true → Created b path part old new → part ≡ path
-part_of path part old new true is created = created.1
-part_of path part old new false is created = absurd (true≢false (sym is))
-
--- what it may leave
-pub or_made : (folder part : List ℕ) (old new : Contents) (before now : Outcomes) → Made folder part old new before now → (p : List ℕ) (v : Option Stored) → now p v → OldOrFree folder old before p v
-or_made folder part old new before now made p v left = ⊎_elim (λ e. inr (subst (λ q. IsFirstFree folder old q) (sym e) made.is)) (λ ne. inl (made.crash p v ne left)) (one_or_two p part)
-
-pub not_made_of : (path part : List ℕ) (old mid new : Contents) (b : Bool) → Same old mid → b ≡ false → Created b path part mid new → (old path ≢ None) × Same old new
-not_made_of path part old mid new true same is created = absurd (true≢false is)
-not_made_of path part old mid new false same is created = (λ none. created.0 (same path ∙ none), λ p. created.1 p ∙ same p)
-
-pub no_more_made : (path : List ℕ) (before between now : Outcomes) (b : Bool) → NoMore before between → b ≡ false → NoMoreCreated b path between now → NoMore before now
-no_more_made path before between now true less is crash = absurd (true≢false is)
-no_more_made path before between now false less is crash = λ p v left. less p v (crash p v left)
-
-pub one_more_taken : (folder name : List ℕ) (number : ℕ) (old : Contents) → AreTaken folder number old → name ≡ part_name number → old (path_in folder name) ≢ None → AreTaken folder (number + 1) old
-one_more_taken folder name number old taken named this k lt =
-    ⊎_elim (λ (same : _). subst (λ (n : List ℕ). old (path_in folder n) ≢ None) (named ∙ ap part_name (sym same.1)) this)
+-- one name more is taken
+pub still_taken : (folder name part : List ℕ) (number : ℕ) (b : Bool) (old mid new : Contents) → AreTaken folder number old → Same old mid
+    → b ≡ false → name ≡ part_name number → Created b (path_in folder name) part mid new → AreTaken folder (number + 1) old
+still_taken folder name part number true old mid new taken same is named seen k lt = absurd (true≢false is)
+still_taken folder name part number false old mid new taken same is named seen k lt =
+    let there : old (path_in folder name) ≢ None = λ none. seen.0 (same (path_in folder name) ∙ none) in
+    ⊎_elim (λ (one : _). subst (λ (n : List ℕ). old (path_in folder n) ≢ None) (named ∙ ap part_name (sym one.1)) there)
     (λ (other : _). taken k (omega (arith, lt, other.1))) (eqb_tells k number)
+
+module _ {D : Type 0} {g : Ghosts D} where
+  -- the name was taken
+  pub still_same : (path : List ℕ) (b : Bool) {old mid new : D} → Step g Same (g.may_leave old) old mid → b ≡ false
+      → (g.tells → Created b path (g.part new) (g.seen mid) (g.seen new)) → NoMoreCreated b path (g.may_leave mid) (g.may_leave new)
+      → Call g mid new → Step g Same (g.may_leave old) old new
+  still_same path true step is seen crash time = absurd (true≢false is)
+  still_same path false step is seen crash time = and_call step (λ t same p. (seen t).1 p ∙ same p) (λ p v left. left)
+      (λ p v left. step.left p v (crash p v left)) time
+
+  -- it was free
+  pub made : (folder name : List ℕ) (number : ℕ) (b : Bool) {old mid new : D} → Step g Same (g.may_leave old) old mid
+      → (g.tells → AreTaken folder number (g.seen old)) → number < most_parts → b ≡ true → name ≡ part_name number
+      → (b ≡ true → g.is_own new (path_in folder name))
+      → (g.tells_own → b ≡ true → (g.part new ≡ path_in folder name) × (g.seen new (path_in folder name) ≡ Some empty_file))
+      → (g.tells → Created b (path_in folder name) (g.part new) (g.seen mid) (g.seen new))
+      → NoMoreCreated b (path_in folder name) (g.may_leave mid) (g.may_leave new) → Call g mid new
+      → Makes g folder (path_in folder name) old new
+  made folder name number false step taken tried is named own empty seen crash time = absurd (true≢false (sym is))
+  made folder name number true step taken tried is named own empty seen crash time = record {
+    is = record {
+      number = number;
+      tried = tried;
+      is = ap (λ (n : List ℕ). path_in folder n) named;
+      free = λ t. sym (step.seen t (path_in folder name)) ∙ (seen t).0;
+      first = taken;
+    };
+    own = own refl;
+    empty = λ t. record { is = (empty t refl).0; seen = (empty t refl).1 };
+    step = and_call step (λ t same. record { there = (seen t).2.there; others = λ p ne. (seen t).2.others p ne ∙ same p })
+        (λ p v left. inl left)
+        (λ p v left. ⊎_elim (λ e. inr e) (λ ne. inl (step.left p v (crash p v ne left))) (one_or_two p (path_in folder name))) time;
+  }
+
+  -- its path, by the name as a text
+  pub made_under : {folder name text : List ℕ} {old new : D} → text ≡ name → Makes g folder (path_in folder name) old new
+      → Makes g folder (path_in folder text) old new
+  made_under {folder = folder} {old = old} {new = new} same makes =
+      subst (λ n. Makes g folder (path_in folder n) old new) (sym same) makes
+
+  -- and what has changed there
+  pub touched_under : (folder : List ℕ) {name text : List ℕ} {old new : D} → text ≡ name → Touches g (path_in folder name) old new
+      → Touches g (path_in folder text) old new
+  touched_under folder {old = old} {new = new} same touches = subst (λ n. Touches g (path_in folder n) old new) (sym same) touches

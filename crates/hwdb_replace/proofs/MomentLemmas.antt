@@ -1,9 +1,7 @@
 -- How a run of calls goes on.
-use Rattle.std.proofs.Common.{◌≡◌, ◌⊎◌, inl, inr, ⊎_elim, ℕ, ◌+◌, List, ◌++◌, Option, Some, take, drop, sym, ap, ◌∙◌, arith, append_assoc}
+use Rattle.std.proofs.Common.{◌≡◌, inl, inr, ⊎_elim, ℕ, ◌+◌, List, ◌++◌, Option, Some, take, drop, sym, ap, ◌∙◌, arith, append_assoc}
 use Rattle.std.proofs.Math.Seq.{take-add}
-use Rattle.hwdb_spec.specs.Store.{Stored, Contents, Outcomes, Elapses, Written, SameBut, NoMoreBut, NoMore}
-use Rattle.hwdb_replace.specs.Internal.{OrPart}
-use Rattle.hwdb_spec.specs.Lemmas.Orders.{one_or_two}
+use Rattle.hwdb_spec.specs.Store.{Stored, Contents, Outcomes, Elapses, Written, SameBut}
 
 -- before the first call
 pub elapses_start : (m : ℕ) (since : ℕ → Outcomes) (more : Outcomes) → Elapses m m since since more
@@ -29,14 +27,6 @@ elapses_more a b past since less more e up = record {
 }
 
 -- what changes under one path alone
-pub or_part : (part part2 : List ℕ) (old mid new : Outcomes) → part2 ≡ part → NoMoreBut part old mid → NoMoreBut part2 mid new
-    → (p : List ℕ) (v : Option Stored) → new p v → OrPart part old p v
-or_part part part2 old mid new is first second p v now = ⊎_elim (λ same. inr same)
-    (λ other. inl (first p v other (second p v (λ e. other (e ∙ is)) now))) (one_or_two p part)
-
-pub no_more_on : (part part2 : List ℕ) (old mid new : Outcomes) → part2 ≡ part → NoMoreBut part old mid → NoMoreBut part2 mid new → NoMoreBut part old new
-no_more_on part part2 old mid new is first second p v other now = first p v other (second p v (λ e. other (e ∙ is)) now)
-
 pub same_but_on : (part part2 : List ℕ) (old mid new : Contents) → part2 ≡ part → SameBut part old mid → SameBut part2 mid new → SameBut part old new
 same_but_on part part2 old mid new is first second p other = second p (λ e. other (e ∙ is)) ∙ first p other
 
@@ -50,7 +40,3 @@ written_more part part2 text piece n m old mid new is rest first second f there 
     let bytes : (f.bytes ++ take n text) ++ take m piece ≡ f.bytes ++ take (n + m) text =
     append_assoc f.bytes (take n text) (take m piece) ∙ ap (λ (l : List ℕ). f.bytes ++ (take n text ++ take m l)) rest ∙ ap (λ (l : List ℕ). f.bytes ++ l) (sym (take-add n m text)) in
     ap new (sym is) ∙ after ∙ ap (λ (l : List ℕ). Some (record { bytes = l; mode = f.mode })) bytes
-
--- no more than that
-pub or_part_less : (part : List ℕ) (old mid new : Outcomes) → ((p : List ℕ) (v : Option Stored) → mid p v → OrPart part old p v) → NoMore mid new → (p : List ℕ) (v : Option Stored) → new p v → OrPart part old p v
-or_part_less part old mid new first second p v left = first p v (second p v left)

@@ -184,10 +184,7 @@ passed whole own xs ys zs s (inl same) may was = subst (WentOn whole own xs) (sy
 passed whole own xs ys zs s (inr is) may was = went_on whole own xs ys zs s is may was
 
 -- one's own call after what others did
-module _ (whole : Stored → Type 0) (own : List ℕ) (xs ys : List Step) (went : WentOn whole own xs ys) where
-  up : (p : List ℕ) (v : Option Stored) → left_with whole ys p v → left_with whole xs p v
-  up p v = ⊎_elim (λ l. went.left p v l) (λ theirs. inr theirs)
-
+module _ {whole : Stored → Type 0} {own : List ℕ} {xs ys : List Step} (went : WentOn whole own xs ys) where
   pub no_more_with : (zs : List Step) → NoMore (left_of ys) (left_of zs) → NoMore (left_with whole xs) (left_with whole zs)
   no_more_with zs less p v = ⊎_elim (λ l. went.left p v (less p v l)) (λ theirs. inr theirs)
 
@@ -220,6 +217,10 @@ module _ (whole : Stored → Type 0) (own : List ℕ) (xs ys : List Step) (went 
     nothing_else = λ t p v le. ⊎_elim (λ l. ⊎_elim (λ past. inl (went.since t p v le past)) (λ now. inr (less p v now)) (e.nothing_else t p v (omega (arith, le, went.later)) l)) (λ theirs. inl (inr theirs));
     nothing_less = λ t p v le. ⊎_elim (λ l. inl (e.nothing_less t p v (omega (arith, le, went.later)) (went.less t p v le l))) (λ theirs. inr theirs);
   }
+
+  -- after one's own name is let go
+  pub time_let_go : (zs ws : List Step) → ws ≡ zs → Elapses (length ys) (length zs) (since_of ys) (since_of zs) (left_of zs) → Elapses (length xs) (length ws) (since_with whole xs) (since_with whole ws) (left_with whole ws)
+  time_let_go zs ws same e = subst (λ us. Elapses (length xs) (length us) (since_with whole xs) (since_with whole us) (left_with whole us)) (sym same) (time_with zs _ _ e (λ p v l. inl l))
 
   pub last_with : (p : List ℕ) (zs : List Step) → (is_whole_of ys p → Always p (seen_of ys p) (left_of zs)) → is_whole_of xs p → (v : Option Stored) → left_with whole zs p v
       → (v ≡ seen_of xs p) ⊎ AreTheirs whole p v

@@ -1,139 +1,152 @@
--- The steps of a replacement, put together.
-use Rattle.std.proofs.Common.{◌≡◌, ◌≢◌, ◌⊎◌, inl, inr, ⊎_elim, ℕ, List, [], ◌∷◌, Option, Some, refl, sym, ap, ◌∙◌, subst, arith, get_or, Result, Ok, Err, IfErr}
+-- The new file is filled, and takes the database's place.
+use Rattle.std.proofs.Common.{◌≡◌, ◌≢◌, ◌⊎◌, ◌≤◌, inl, inr, ⊎_elim, ℕ, List, ◌∷◌, Option, Some, sym, ap, ◌∙◌, subst, arith, get_or, Result, Ok, Err, MatchResult}
 use Rattle.std.specs.Result.{IsErrAnd}
 use Rattle.std.proofs.lemmas.List.{append_cancel_left}
-use Rattle.hwdb_spec.specs.Store.{Stored, Contents, Outcomes, Elapses, LeavesOnly, Replaced, Removed, Renamed, Written, ModeSet, Same, SameBut, NoMore, NoMoreBut, NoMoreRenamed, path_in, part_name, part_mode, database_name, database_file, database_mode, most_parts, AreTaken}
+use Rattle.hwdb_spec.specs.Store.{Stored, Contents, Outcomes, ModeSet, NoMore, NoMoreBut, NoMoreRenamed, Removed, Renamed, Replaced, Same, SameBut, Written, database_file, database_mode, database_name, part_mode, part_name}
+use Rattle.hwdb_spec.specs.Lemmas.Orders.{one_or_two}
 use Rattle.hwdb_spec.specs.declared.errors.Unreplaced.{Unreplaced}
 use Rattle.hwdb_spec.specs.declared.errors.Unreplaced.TheVariants.{Undone, NamesTaken, LeftBehind, Unsynced}
-use Rattle.hwdb_replace.specs.Internal.{OrPart, OrFile, Made, Settled, IsEmpty, IsFirstFree, OldOrFree, OldOrReplaced, IsSeenThen}
-use Rattle.hwdb_replace.proofs.MomentLemmas.{elapses_on, elapses_more, or_part}
-use Rattle.hwdb_replace.proofs.MakingLemmas.{or_made}
-use Rattle.hwdb_spec.specs.Lemmas.Orders.{one_or_two}
+use Rattle.hwdb_replace.specs.declared.calls.Store.{Ghosts}
+use Rattle.hwdb_replace.specs.Internal.{Step, OrAt, OrFile, Moved, IsNew, Makes, NotMade, Fills, Touches, Settles, Places, Exchanges, Fails, empty_file, place}
+use Rattle.hwdb_replace.proofs.ComposedLemmas.{Call, and_call, composed, weaker}
 
--- the new file's name isn't the database's
-pub part_apart : (folder part : List ℕ) (old : Contents) → IsFirstFree folder old part → part ≢ path_in folder database_name
-part_apart folder part old is e =
-    let same : 47 ∷ part_name is.number ≡ 47 ∷ database_name = append_cancel_left folder (47 ∷ part_name is.number) (47 ∷ database_name) (sym is.is ∙ e) in
-    let first : 46 ≡ 104 = ap (λ (l : List ℕ). get_or l 1 0) same in
-    absurd (omega (arith, first))
+-- the bytes are written, the mode is set, and a sync changes nothing
+pub filled_of : (part p1 p2 path bytes : List ℕ) (old written set synced : Contents) → p1 ≡ part → p2 ≡ p1 → part ≡ path
+    → old path ≡ Some empty_file → Written part bytes old written → ModeSet p1 database_mode written set → synced p2 ≡ set p2
+    → synced path ≡ Some (database_file bytes)
+filled_of part p1 p2 path bytes old written set synced is1 is2 is empty wrote moded same =
+    let there : written p1 ≡ Some (record { bytes = bytes; mode = part_mode }) = ap written is1 ∙ wrote empty_file (ap old is ∙ empty) in
+    let here : p2 ≡ path = is2 ∙ is1 ∙ is in
+    ap synced (sym here) ∙ same ∙ ap set is2 ∙ moded (record { bytes = bytes; mode = part_mode }) there
 
-pub filled_of : (part p1 p2 bytes : List ℕ) (old written set synced : Contents) → p1 ≡ part → p2 ≡ p1 → IsEmpty part old → Written part bytes old written → ModeSet p1 database_mode written set
-    → (p3 : List ℕ) → p3 ≡ p2 → synced p3 ≡ set p3 → synced part ≡ Some (database_file bytes)
-filled_of part p1 p2 bytes old written set synced is1 is2 empty wrote moded p3 is3 same =
-    let there : written p1 ≡ Some (record { bytes = bytes; mode = part_mode }) = ap written is1 ∙ wrote (record { bytes = []; mode = part_mode }) empty in
-    let here : p3 ≡ part = is3 ∙ is2 ∙ is1 in
-    ap synced (sym here) ∙ same ∙ ap set (here ∙ sym is1) ∙ moded (record { bytes = bytes; mode = part_mode }) there
+module _ {D : Type 0} {g : Ghosts D} where
+  -- before the rename
+  pub filled_at : {path : List ℕ} {old mid : D} → Fills g old mid → g.part old ≡ path → Touches g path old mid
+  filled_at {old = old} {mid = mid} fills is = subst (λ q. Touches g q old mid) is fills.step
 
--- before the rename
-pub or_file : (part path target : List ℕ) (file : Stored) (before : Outcomes) → part ≡ path → (p : List ℕ) (v : Option Stored) → OrPart part before p v → OrFile path target file before p v
-or_file part path target file before is p v (inl was) = inl was
-or_file part path target file before is p v (inr e) = inr (inr (e ∙ is))
+  -- the rename failed
+  pub not_renamed : {path : List ℕ} {old mid new : D} → Touches g path old mid → (g.tells → Same (g.seen mid) (g.seen new))
+      → NoMore (g.may_leave mid) (g.may_leave new) → Call g mid new → Touches g path old new
+  not_renamed step same less time = and_call step (λ t others p ne. same t p ∙ others p ne) (λ p v left. left)
+      (λ p v left. step.left p v (less p v left)) time
 
-pub or_crash : (part : List ℕ) (before between now : Outcomes) → NoMoreBut part before between → NoMore between now → (p : List ℕ) (v : Option Stored) → now p v → OrPart part before p v
-or_crash part before between now first second p v left = ⊎_elim (λ e. inr e) (λ ne. inl (first p v ne (second p v left))) (one_or_two p part)
+  -- the file, which is whole, has the other name
+  module _ (path target bytes : List ℕ) {old mid : D} (step : Touches g path old mid)
+      (there : g.seen mid path ≡ Some (database_file bytes)) (whole : g.is_whole mid path) where
+    abbrev Allowed : Outcomes
+    Allowed = OrFile (λ p. p ≡ path) target (database_file bytes) (g.may_leave old)
 
--- after the rename, of a file that is whole
-module _ (part target bytes : List ℕ) (mid : Contents) (before between now : Outcomes) (whole : Type 0) (there : mid part ≡ Some (database_file bytes))
-    (crash : NoMoreBut part before between) (is_whole : whole) (more : NoMoreRenamed part target (mid part) whole between now) where
-  at_target : (p : List ℕ) (v : Option Stored) → p ≢ part → p ≡ target → now p v → OrFile part target (database_file bytes) before p v
-  at_target p v ne e left = ⊎_elim (λ was. inl (crash p v ne (subst (λ q. between q v) (sym e) was))) (λ is. inr (inl (e, is ∙ there)))
-      (more.there is_whole v (subst (λ q. now q v) e left))
+    left_at : (new : D) → NoMoreRenamed path target (g.seen mid path) (g.is_whole mid path) (g.may_leave mid) (g.may_leave new)
+        → NoMore Allowed (g.may_leave new)
+    left_at new crash p v left = ⊎_elim (λ e. inr (inr e))
+        (λ ne. ⊎_elim (λ e. at_target e) (λ nt. up (crash.others p v ne nt left)) (one_or_two p target)) (one_or_two p path)
+      where
+        up : g.may_leave mid p v → Allowed p v
+        up was = ⊎_elim (λ o. inl o) (λ e. inr (inr e)) (step.left p v was)
 
-  pub renamed_left : (p : List ℕ) (v : Option Stored) → now p v → OrFile part target (database_file bytes) before p v
-  renamed_left p v at = ⊎_elim (λ e. inr (inr e)) (λ ne. ⊎_elim (λ e. at_target p v ne e at) (λ nt. inl (crash p v ne (more.others p v ne nt at))) (one_or_two p target)) (one_or_two p part)
+        at_target : p ≡ target → Allowed p v
+        at_target e = ⊎_elim (λ was. up (subst (λ q. g.may_leave mid q v) (sym e) was)) (λ is. inr (inl (e, is ∙ there)))
+            (crash.there whole v (subst (λ q. g.may_leave new q v) e left))
 
-  pub settled_of : (old new : Contents) → part ≢ target → SameBut part old mid → Renamed part target mid new → Settled part target bytes old new before now
-  settled_of old new apart others renamed = record {
-    there = renamed.there ∙ there;
-    gone = renamed.gone apart;
-    others = λ p ne nt. renamed.others p ne nt ∙ others p ne;
-    crash = renamed_left;
-  }
+    pub renamed : {new : D} → g.seen new target ≡ g.seen mid path → g.may_leave new target (g.seen mid path)
+        → (g.is_whole mid path → g.is_whole new target) → (g.tells → Renamed path target (g.seen mid) (g.seen new))
+        → NoMoreRenamed path target (g.seen mid path) (g.is_whole mid path) (g.may_leave mid) (g.may_leave new)
+        → Call g mid new → Settles g path target bytes old new
+    renamed {new = new} is put kept seen crash time = record {
+      there = is ∙ there;
+      put = subst (λ (v : Option Stored). g.may_leave new target v) there put;
+      whole = kept whole;
+      step = and_call step (λ t others. record { gone = (seen t).gone; others = λ p ne nt. (seen t).others p ne nt ∙ others p ne })
+          (λ p v left. ⊎_elim (λ was. inl was) (λ e. inr (inr e)) left) (left_at new crash) time;
+    }
 
--- each step leaves the old bytes or the new ones
-module _ (folder part bytes : List ℕ) (old mid : Contents) (before between : Outcomes) (made : Made folder part old mid before between) where
-  abbrev Target : List ℕ
-  Target = path_in folder database_name
+  -- the new file's name isn't the database's
+  part_apart : {folder part : List ℕ} {old : D} → IsNew g folder old part → part ≢ place folder
+  part_apart {folder = folder} is e =
+      let same : 47 ∷ part_name is.number ≡ 47 ∷ database_name =
+      append_cancel_left folder (47 ∷ part_name is.number) (47 ∷ database_name) (sym is.is ∙ e) in
+      let first : 46 ≡ 104 = ap (λ (l : List ℕ). get_or l 1 0) same in
+      absurd (omega (arith, first))
 
-  pub made_apart : part ≢ Target
-  made_apart = part_apart folder part old made.is
+  module _ {folder part : List ℕ} {s0 s1 : D} (makes : Makes g folder part s0 s1) where
+    abbrev OrNew : Outcomes
+    OrNew = OrAt (IsNew g folder s0) (g.may_leave s0)
 
-  pub within : (p : List ℕ) (v : Option Stored) → OrFile part Target (database_file bytes) between p v → OldOrReplaced folder bytes old before p v
-  within p v (inl was) = ⊎_elim (λ b. inl b) (λ is. inr (inr is)) (or_made folder part old mid before between made p v was)
-  within p v (inr (inl file)) = inr (inl file)
-  within p v (inr (inr e)) = inr (inr (subst (λ q. IsFirstFree folder old q) (sym e) made.is))
+    abbrev OrPlaced : (bytes : List ℕ) → Outcomes
+    OrPlaced bytes = OrFile (IsNew g folder s0) (place folder) (database_file bytes) (g.may_leave s0)
 
-  pub up : (p : List ℕ) (v : Option Stored) → OldOrFree folder old before p v → OldOrReplaced folder bytes old before p v
-  up p v (inl was) = inl was
-  up p v (inr is) = inr (inr is)
+    is_new : (p : List ℕ) → p ≡ part → IsNew g folder s0 p
+    is_new p e = subst (λ q. IsNew g folder s0 q) (sym e) makes.is
 
-  -- after a call that failed
-  pub unsettled : (part2 : List ℕ) (failed now : Outcomes) → part2 ≡ part → NoMoreBut part between failed → NoMoreBut part2 failed now → (p : List ℕ) (v : Option Stored) → now p v → OldOrFree folder old before p v
-  unsettled part2 failed now is first second p v left = ⊎_elim (λ was. or_made folder part old mid before between made p v was) (λ e. inr (subst (λ q. IsFirstFree folder old q) (sym e) made.is))
-      (or_part part part2 between failed now is first second p v left)
+    new_at : NoMore OrNew (OrAt (λ p. p ≡ part) (g.may_leave s0))
+    new_at p v (inl was) = inl was
+    new_at p v (inr e) = inr (is_new p e)
 
-  pub undone : (part2 : List ℕ) (failed new : Contents) → part2 ≡ part → SameBut part mid failed → Removed part2 failed new → Same old new
-  undone part2 failed new is others removed p = ⊎_elim at_part elsewhere (one_or_two p part)
-    where
-      at_part : p ≡ part → new p ≡ old p
-      at_part e = ap new (e ∙ sym is) ∙ removed.gone ∙ sym (ap old e ∙ made.is.free)
+    -- the file was filled and renamed: it is in the database's place
+    pub settled : {bytes : List ℕ} {s2 : D} → Settles g part (place folder) bytes s1 s2 → Places g folder bytes s0 s2
+    settled {bytes = bytes} {s2 = s2} settles = composed makes.step settles.step
+        (λ t was now. record { there = settles.there; others = others t was now }) (λ p v left. up p v (new_at p v left)) allowed
+      where
+        up : NoMore (OrPlaced bytes) OrNew
+        up p v left = ⊎_elim (λ was. inl was) (λ is. inr (inr is)) left
 
-      elsewhere : p ≢ part → new p ≡ old p
-      elsewhere ne = removed.others p (λ e. ne (e ∙ is)) ∙ others p ne ∙ made.seen.others p ne
+        allowed : NoMore (OrPlaced bytes) (OrFile (λ p. p ≡ part) (place folder) (database_file bytes) (g.may_leave s1))
+        allowed p v (inl was) = up p v (new_at p v (makes.step.left p v was))
+        allowed p v (inr (inl file)) = inr (inl file)
+        allowed p v (inr (inr e)) = inr (inr (is_new p e))
 
-  pub left_behind : (failed new : Contents) → SameBut part mid failed → Same failed new → (p : List ℕ) → (new p ≡ old p) ⊎ IsFirstFree folder old p
-  left_behind failed new others same p = ⊎_elim (λ e. inr (subst (λ q. IsFirstFree folder old q) (sym e) made.is)) (λ ne. inl (same p ∙ others p ne ∙ made.seen.others p ne)) (one_or_two p part)
+        others : g.tells → Replaced part empty_file (g.seen s0) (g.seen s1) → Moved part (place folder) (g.seen s1) (g.seen s2)
+            → SameBut (place folder) (g.seen s0) (g.seen s2)
+        others t was now p nt = ⊎_elim (λ e. ap (g.seen s2) e ∙ now.gone (part_apart makes.is) ∙ sym (ap (g.seen s0) e ∙ makes.is.free t))
+            (λ ne. now.others p ne nt ∙ was.others p ne) (one_or_two p part)
 
-  pub replaced : (settled new : Contents) (now : Outcomes) → Settled part Target bytes mid settled between now → Same settled new → Replaced Target (database_file bytes) old new
-  replaced settled new now done same = record { there = same Target ∙ done.there; others = others }
-    where
-      others : (p : List ℕ) → p ≢ Target → new p ≡ old p
-      others p nt = ⊎_elim (λ e. same p ∙ ap settled e ∙ done.gone ∙ sym (ap old e ∙ made.is.free)) (λ ne. same p ∙ done.others p ne nt ∙ made.seen.others p ne) (one_or_two p part)
+    -- the last sync changes nothing
+    pub synced : {bytes : List ℕ} {s2 s3 : D} → Settles g part (place folder) bytes s1 s2 → (g.tells → Same (g.seen s2) (g.seen s3))
+        → NoMore (g.may_leave s2) (g.may_leave s3) → Call g s2 s3 → Places g folder bytes s0 s3
+    synced settles same less time = and_call (settled settles)
+        (λ t was. record { there = same t (place folder) ∙ was.there; others = λ p ne. same t p ∙ was.others p ne })
+        (λ p v left. left) (λ p v left. (settled settles).left p v (less p v left)) time
 
--- what a making that failed left
-pub seen_of : (folder bytes : List ℕ) (old new : Contents) (e : Unreplaced) (r : Result (Unit {0}) Unreplaced) → IsErrAnd r (λ x. x ≡ e) → (e ≢ LeftBehind) × (e ≢ Unsynced) → Same old new
-    → (e ≡ NamesTaken → AreTaken folder most_parts old) → IfErr r (IsSeenThen folder bytes old new)
-seen_of folder bytes old new e (Ok x) is others same taken = tt
-seen_of folder bytes old new Undone (Err x) is others same taken = let P : Unreplaced → Type 0 = λ y. IsSeenThen folder bytes old new y in subst P (sym is) same
-seen_of folder bytes old new NamesTaken (Err x) is others same taken = let P : Unreplaced → Type 0 = λ y. IsSeenThen folder bytes old new y in subst P (sym is) (same, taken refl)
-seen_of folder bytes old new LeftBehind (Err x) is others same taken = absurd (others.0 refl)
-seen_of folder bytes old new Unsynced (Err x) is others same taken = absurd (others.1 refl)
+    -- what was in the place might have been left since
+    pub was_put : ((d : D) (p : List ℕ) (v : Option Stored) → g.may_leave d p v → g.left_since d (g.moment d) p v)
+        → ((d : D) (t u : ℕ) (p : List ℕ) (v : Option Stored) → t ≤ u → g.left_since d u p v → g.left_since d t p v)
+        → {bytes : List ℕ} {s2 s3 : D} → Settles g part (place folder) bytes s1 s2 → Call g s2 s3
+        → g.left_since s3 (g.moment s0) (place folder) (Some (database_file bytes))
+    was_put from_now earlier {s2 = s2} settles time =
+        let later = (settled settles).time.later in
+        time.nothing_less (g.moment s0) _ _ later (earlier s2 (g.moment s0) (g.moment s2) _ _ later (from_now s2 _ _ settles.put))
 
-module _ {D : Type 0} (moment : D → ℕ) (left_since : D → ℕ → Outcomes) (may_leave : D → Outcomes) (only_now : (d : D) (p : List ℕ) (v : Option Stored) → left_since d (moment d) p v → may_leave d p v)
-    (seen : D → Contents) (part folder bytes : List ℕ) (s0 s1 s2 s3 : D) (made : Made folder part (seen s0) (seen s1) (may_leave s0) (may_leave s1))
-    (first : Elapses (moment s0) (moment s1) (left_since s0) (left_since s1) (OldOrFree folder (seen s0) (may_leave s0)))
-    (second : Elapses (moment s1) (moment s2) (left_since s1) (left_since s2) (OrFile part (path_in folder database_name) (database_file bytes) (may_leave s1)))
-    (third : Elapses (moment s2) (moment s3) (left_since s2) (left_since s3) (may_leave s3)) where
-  abbrev Allowed : Outcomes
-  Allowed = OldOrReplaced folder bytes (seen s0) (may_leave s0)
+    -- a call failed before the rename, or that one; then the file is removed, or stays
+    failed : {s2 : D} → Touches g part s1 s2 → Touches g part s0 s2
+    failed step = composed makes.step step (λ t was now p ne. now p ne ∙ was.others p ne) (λ p v left. left)
+        (λ p v left. ⊎_elim (λ was. makes.step.left p v was) (λ e. inr e) left)
 
-  leaves : ((p : List ℕ) (v : Option Stored) → may_leave s3 p v → Allowed p v) → LeavesOnly moment left_since s0 s3 Allowed
-  leaves less = record {
-    each = λ p v left. ⊎_elim (λ past. inl (only_now s0 p v past)) (λ more. more) (time.nothing_else (moment s0) p v (omega arith) left);
-    time = time;
-  }
-    where
-      one : Elapses (moment s0) (moment s1) (left_since s0) (left_since s1) Allowed
-      one = elapses_more _ _ _ _ _ _ first (up folder part bytes (seen s0) (seen s1) (may_leave s0) (may_leave s1) made)
+    gone : {s2 s3 : D} → Touches g part s1 s2 → NoMoreBut part (g.may_leave s2) (g.may_leave s3) → NoMore OrNew (g.may_leave s3)
+    gone step less p v left = new_at p v (⊎_elim (λ e. inr e) (λ ne. (failed step).left p v (less p v ne left)) (one_or_two p part))
 
-      two : Elapses (moment s0) (moment s2) (left_since s0) (left_since s2) Allowed
-      two = elapses_on _ _ _ _ _ _ _ _ one second (within folder part bytes (seen s0) (seen s1) (may_leave s0) (may_leave s1) made)
+    pub removed : {s2 s3 : D} → Touches g part s1 s2 → (g.tells → Removed part (g.seen s2) (g.seen s3))
+        → NoMoreBut part (g.may_leave s2) (g.may_leave s3) → Call g s2 s3 → Step g Same OrNew s0 s3
+    removed {s3 = s3} step seen less time = and_call (failed step)
+        (λ t others p. ⊎_elim (λ e. ap (g.seen s3) e ∙ (seen t).gone ∙ sym (ap (g.seen s0) e ∙ makes.is.free t))
+        (λ ne. (seen t).others p ne ∙ others p ne) (one_or_two p part))
+        new_at (gone step less) time
 
-      time : Elapses (moment s0) (moment s3) (left_since s0) (left_since s3) Allowed
-      time = elapses_on _ _ _ _ _ _ _ _ two third less
+    pub left_behind : {s2 s3 : D} → Touches g part s1 s2 → (g.tells → Same (g.seen s2) (g.seen s3))
+        → NoMoreBut part (g.may_leave s2) (g.may_leave s3) → Call g s2 s3
+        → Step g (λ a b. (p : List ℕ) → (b p ≡ a p) ⊎ IsNew g folder s0 p) OrNew s0 s3
+    left_behind step seen less time = and_call (failed step)
+        (λ t others p. ⊎_elim (λ e. inr (is_new p e)) (λ ne. inl (seen t p ∙ others p ne)) (one_or_two p part))
+        new_at (gone step less) time
 
-  -- the folder's sync was the last call
-  pub in_place_now : Settled part (path_in folder database_name) bytes (seen s1) (seen s2) (may_leave s1) (may_leave s2) → NoMore (may_leave s2) (may_leave s3)
-      → (p : List ℕ) (v : Option Stored) → may_leave s3 p v → Allowed p v
-  in_place_now settled less p v left = within folder part bytes (seen s0) (seen s1) (may_leave s0) (may_leave s1) made p v (settled.crash p v (less p v left))
-
-  pub in_place : Settled part (path_in folder database_name) bytes (seen s1) (seen s2) (may_leave s1) (may_leave s2) → NoMore (may_leave s2) (may_leave s3) → LeavesOnly moment left_since s0 s3 Allowed
-  in_place settled less = leaves (in_place_now settled less)
-
-  -- the removal was
-  pub given_up_now : (part2 : List ℕ) → part2 ≡ part → NoMoreBut part (may_leave s1) (may_leave s2) → NoMoreBut part2 (may_leave s2) (may_leave s3)
-      → (p : List ℕ) (v : Option Stored) → may_leave s3 p v → OldOrFree folder (seen s0) (may_leave s0) p v
-  given_up_now part2 is failed removed = unsettled folder part bytes (seen s0) (seen s1) (may_leave s0) (may_leave s1) made part2 (may_leave s2) (may_leave s3) is failed removed
-
-  pub given_up : (part2 : List ℕ) → part2 ≡ part → NoMoreBut part (may_leave s1) (may_leave s2) → NoMoreBut part2 (may_leave s2) (may_leave s3) → LeavesOnly moment left_since s0 s3 Allowed
-  given_up part2 is failed removed = leaves (λ p v left. up folder part bytes (seen s0) (seen s1) (may_leave s0) (may_leave s1) made p v (given_up_now part2 is failed removed p v left))
+-- nothing was made
+pub unmade : {D : Type 0} (g : Ghosts D) (folder bytes : List ℕ) (old new : D) (r : Result (Unit {0}) Unreplaced) (e : Unreplaced)
+    → IsErrAnd r (λ x. x ≡ e) → NotMade g folder old new e
+    → MatchResult r (λ _. Exchanges g folder bytes old new) (Fails g folder bytes old new)
+unmade g folder bytes old new (Ok x) e is made = absurd is
+unmade g folder bytes old new (Err x) e is made = subst (Fails g folder bytes old new) (sym is) (fails e made)
+  where
+    fails : (u : Unreplaced) → NotMade g folder old new u → Fails g folder bytes old new u
+    fails Undone step = weaker step (λ t same. same) (λ p v was. inl was)
+    fails NamesTaken step = step
+    fails LeftBehind never = absurd never
+    fails Unsynced never = absurd never

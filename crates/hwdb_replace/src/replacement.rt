@@ -1,11 +1,11 @@
 //! The database is replaced: a new file beside it, on the disk, takes its place.
-ghost use Rattle.std.specs.Prelude.{◌≡◌, ◌≢◌, ◌⊎◌, ◌<◌, List, ℕ, Option, Some, OnOk, OnErr, IfOk, IfErr, IfSome, IsErrOf, MatchResult};
+ghost use Rattle.std.specs.Prelude.{◌≡◌, ◌⊎◌, ◌<◌, List, ℕ, Option, Some, OnOk, OnErr, IfOk, IfErr, IfSome, MatchResult};
 ghost use Rattle.hwdb_spec.specs.Failures.{CountsFailures};
-ghost use Rattle.hwdb_spec.specs.Store.{SameBut, Written, NoMore, NoMoreBut, Elapses, Replaced, Installed, Always, LeavesOnly, AreTaken, OldOrNew, IsPartPath, Stored, path_in, part_name, database_name, database_file, most_parts};
+ghost use Rattle.hwdb_spec.specs.Store.{Written, NoMore, Installed, Always, LeavesOnly, OldOrNew, Stored, path_in, part_name, database_name, database_file, most_parts};
 ghost use Rattle.hwdb_spec.specs.Sharing.{OldOrOurs};
 ghost use Rattle.hwdb_spec.specs.NotReplaced.{IsSeen, IsLeft, failures_after};
-ghost use Rattle.hwdb_replace.specs.Internal.{OldOrFree, OldOrReplaced, IsSeenThen, IsLeftThen, OrPart, OrFile, OrAnyPart, Made, NotMade, Settled, IsEmpty};
-ghost use Rattle.hwdb_spec.specs.declared.errors.Unreplaced.TheVariants.{Undone, NamesTaken};
+ghost use Rattle.hwdb_replace.specs.Internal.{Makes, NotMade, Fills, Touches, Settles, Exchanges, Fails, IsEmpty};
+ghost use Rattle.hwdb_spec.specs.declared.errors.Unreplaced.TheVariants.{Undone};
 
 use crate::calls::{CallFailed, Store};
 use arrayvec::ArrayString;
@@ -77,31 +77,9 @@ pub fn replace<S: Store>(store: &mut S, folder: &str, bytes: &[u8]) -> Result<()
 
 /// Puts these bytes in the database's place, without a look at leftovers.
 fn exchange<S: Store>(store: &mut S, folder: &str, bytes: &[u8]) -> Result<(), Unreplaced>
-    ensures replaced { S.tells → OnOk result
-        (Replaced (path_in folder.now database_name) (database_file bytes.now)
-        (S.seen store.old) (S.seen store.new)) }
-    ensures durable { S.tells → OnOk result
-        (Always (path_in folder.now database_name) (Some (database_file bytes.now))
-        (S.may_leave store.new)) }
-    ensures any_moment { S.tells → LeavesOnly S.moment S.left_since store.old store.new
-        (OldOrReplaced folder.now bytes.now (S.seen store.old) (S.may_leave store.old)) }
-    ensures afterwards { S.tells → NoMore
-        (OldOrReplaced folder.now bytes.now (S.seen store.old) (S.may_leave store.old))
-        (S.may_leave store.new) }
-    ensures seen { S.tells → IfErr result
-        (IsSeenThen folder.now bytes.now (S.seen store.old) (S.seen store.new)) }
-    ensures left { S.tells → IfErr result
-        (IsLeftThen folder.now bytes.now (S.seen store.old) (S.may_leave store.old)
-        (S.may_leave store.new)) }
-    ensures shared { S.tells_own → LeavesOnly S.moment S.left_since store.old store.new
-        (OldOrOurs folder.now bytes.now (S.may_leave store.old)) }
-    ensures shared_afterwards { S.tells_own → NoMore
-        (OldOrOurs folder.now bytes.now (S.may_leave store.old)) (S.may_leave store.new) }
-    ensures shared_last { S.tells_own → OnOk result ((v : Option Stored)
-        → S.may_leave store.new (path_in folder.now database_name) v
-        → (v ≡ Some (database_file bytes.now)) ⊎ S.theirs (path_in folder.now database_name) v) }
-    ensures shared_put { S.tells_own → OnOk result (S.left_since store.new (S.moment store.old)
-        (path_in folder.now database_name) (Some (database_file bytes.now))) }
+    ensures leaves { S.tells_own → MatchResult result
+        (λ _. Exchanges S.Store folder.now bytes.now store.old store.new)
+        (Fails S.Store folder.now bytes.now store.old store.new) }
     ensures cause { MatchResult result (λ _. S.failures store.new ≡ S.failures store.old)
         (λ e. S.failures store.new ≡ failures_after e (S.failures store.old)) }
 {
@@ -150,27 +128,9 @@ pub fn part_number(name: &[u8]) -> Option<u32>
 
 /// Makes the new file, under the first name that nothing has, and returns its name.
 fn make<S: Store>(store: &mut S, folder: &str) -> Result<ArrayString<20>, Unreplaced>
-    ensures made { S.tells → IfOk result (λ name.
-        (S.part store.new ≡ path_in folder.now name.bytes)
-        × Made folder.now (path_in folder.now name.bytes) (S.seen store.old) (S.seen store.new)
-        (S.may_leave store.old) (S.may_leave store.new)) }
-    ensures not_made { S.tells → OnErr result (NotMade (S.seen store.old) (S.seen store.new)
-        (S.may_leave store.old) (S.may_leave store.new)) }
-    ensures taken { S.tells → IsErrOf result Unreplaced.NamesTaken
-        → AreTaken folder.now most_parts (S.seen store.old) }
-    ensures time { S.tells → Elapses (S.moment store.old) (S.moment store.new)
-        (S.left_since store.old) (S.left_since store.new)
-        (OldOrFree folder.now (S.seen store.old) (S.may_leave store.old)) }
-    ensures own { IfOk result (λ name. S.is_own store.new (path_in folder.now name.bytes)) }
-    ensures empty { S.tells_own → IfOk result (λ name.
-        (S.part store.new ≡ path_in folder.now name.bytes)
-        × IsEmpty (path_in folder.now name.bytes) (S.seen store.new)) }
-    ensures named { IfOk result (λ name. IsPartPath folder.now (path_in folder.now name.bytes)) }
-    ensures crash { NoMore (OrAnyPart folder.now (S.may_leave store.old)) (S.may_leave store.new) }
-    ensures any_time { Elapses (S.moment store.old) (S.moment store.new)
-        (S.left_since store.old) (S.left_since store.new)
-        (OrAnyPart folder.now (S.may_leave store.old)) }
-    ensures refusals { IfErr result (λ e. (e ≢ Unreplaced.LeftBehind) × (e ≢ Unreplaced.Unsynced)) }
+    ensures makes { MatchResult result
+        (λ name. Makes S.Store folder.now (path_in folder.now name.bytes) store.old store.new)
+        (NotMade S.Store folder.now store.old store.new) }
     ensures cause { MatchResult result (λ _. S.failures store.new ≡ S.failures store.old)
         (λ e. S.failures store.new ≡ failures_after e (S.failures store.old)) }
 {
@@ -187,37 +147,12 @@ fn make<S: Store>(store: &mut S, folder: &str) -> Result<ArrayString<20>, Unrepl
 /// Gives the new file all of the bytes, has it on the disk, and renames it.
 fn settle<S: Store>(store: &mut S, folder: &str, part: &str, bytes: &[u8]) -> Result<(), CallFailed>
     requires own { S.is_own store.old (path_in folder.now part.now) }
+    requires empty { S.tells_own → IsEmpty S.Store (path_in folder.now part.now) store.old }
     ensures own { OnErr result (S.is_own store.new (path_in folder.now part.now)) }
-    ensures there { S.tells_own → S.part store.old ≡ path_in folder.now part.now
-        → IsEmpty (path_in folder.now part.now) (S.seen store.old)
-        → OnOk result (S.seen store.new (path_in folder.now database_name)
-        ≡ Some (database_file bytes.now)) }
-    ensures put { S.tells_own → S.part store.old ≡ path_in folder.now part.now
-        → IsEmpty (path_in folder.now part.now) (S.seen store.old)
-        → OnOk result (S.may_leave store.new (path_in folder.now database_name)
-        (Some (database_file bytes.now))) }
-    ensures left { S.tells_own → S.part store.old ≡ path_in folder.now part.now
-        → IsEmpty (path_in folder.now part.now) (S.seen store.old)
-        → NoMore (OrFile (path_in folder.now part.now) (path_in folder.now database_name)
-        (database_file bytes.now) (S.may_leave store.old)) (S.may_leave store.new) }
-    ensures settled { S.tells → S.part store.old ≡ path_in folder.now part.now
-        → IsEmpty (path_in folder.now part.now) (S.seen store.old)
-        → path_in folder.now part.now ≢ path_in folder.now database_name
-        → OnOk result (Settled (path_in folder.now part.now) (path_in folder.now database_name)
-        bytes.now (S.seen store.old) (S.seen store.new)
-        (S.may_leave store.old) (S.may_leave store.new)) }
-    ensures others { S.tells → S.part store.old ≡ path_in folder.now part.now → OnErr result
-        (SameBut (path_in folder.now part.now) (S.seen store.old) (S.seen store.new)) }
-    ensures crash { S.part store.old ≡ path_in folder.now part.now → OnErr result
-        (NoMoreBut (path_in folder.now part.now) (S.may_leave store.old) (S.may_leave store.new)) }
-    ensures whole { S.part store.old ≡ path_in folder.now part.now
-        → OnOk result (S.is_whole store.new (path_in folder.now database_name)) }
-    ensures time { S.tells_own → S.part store.old ≡ path_in folder.now part.now
-        → IsEmpty (path_in folder.now part.now) (S.seen store.old)
-        → Elapses (S.moment store.old) (S.moment store.new)
-        (S.left_since store.old) (S.left_since store.new)
-        (OrFile (path_in folder.now part.now) (path_in folder.now database_name)
-        (database_file bytes.now) (S.may_leave store.old)) }
+    ensures leaves { S.tells_own → let path = path_in folder.now part.now in MatchResult result
+        (λ _. Settles S.Store path (path_in folder.now database_name) bytes.now
+        store.old store.new)
+        (λ _. Touches S.Store path store.old store.new) }
     ensures cause { CountsFailures (S.failures store.old) (S.failures store.new) result }
 {
     fill(store, bytes)?;
@@ -227,18 +162,10 @@ fn settle<S: Store>(store: &mut S, folder: &str, part: &str, bytes: &[u8]) -> Re
 
 /// Gives the new file all of the bytes and its mode, and has it on the disk.
 fn fill<S: Store>(store: &mut S, bytes: &[u8]) -> Result<(), CallFailed>
-    ensures own { (p : List ℕ) → S.is_own store.old p → S.is_own store.new p }
-    ensures own_whole { OnOk result
-        ((p : List ℕ) → S.is_own store.old p → S.is_whole store.new p) }
-    ensures filled { S.tells_own → IsEmpty (S.part store.old) (S.seen store.old) → OnOk result
-        (S.seen store.new (S.part store.old) ≡ Some (database_file bytes.now)) }
-    ensures whole { OnOk result (S.is_whole store.new (S.part store.old)) }
-    ensures others { S.tells → SameBut (S.part store.old) (S.seen store.old) (S.seen store.new) }
-    ensures part { S.part store.new ≡ S.part store.old }
-    ensures crash { NoMoreBut (S.part store.old) (S.may_leave store.old) (S.may_leave store.new) }
-    ensures time { Elapses (S.moment store.old) (S.moment store.new)
-        (S.left_since store.old) (S.left_since store.new)
-        (OrPart (S.part store.old) (S.may_leave store.old)) }
+    ensures fills { Fills S.Store store.old store.new }
+    ensures whole { OnOk result ((p : List ℕ) → S.is_own store.old p → S.is_whole store.new p) }
+    ensures filled { S.tells_own → (p : List ℕ) → IsEmpty S.Store p store.old → OnOk result
+        (S.seen store.new p ≡ Some (database_file bytes.now)) }
     ensures cause { CountsFailures (S.failures store.old) (S.failures store.new) result }
 {
     write_all(store, bytes)?;
@@ -249,15 +176,9 @@ fn fill<S: Store>(store: &mut S, bytes: &[u8]) -> Result<(), CallFailed>
 
 /// Adds all of the bytes to the new file.
 fn write_all<S: Store>(store: &mut S, bytes: &[u8]) -> Result<(), CallFailed>
-    ensures own { (p : List ℕ) → S.is_own store.old p → S.is_own store.new p }
+    ensures fills { Fills S.Store store.old store.new }
     ensures written { S.tells_own → OnOk result
         (Written (S.part store.old) bytes.now (S.seen store.old) (S.seen store.new)) }
-    ensures others { S.tells → SameBut (S.part store.old) (S.seen store.old) (S.seen store.new) }
-    ensures part { S.part store.new ≡ S.part store.old }
-    ensures crash { NoMoreBut (S.part store.old) (S.may_leave store.old) (S.may_leave store.new) }
-    ensures time { Elapses (S.moment store.old) (S.moment store.new)
-        (S.left_since store.old) (S.left_since store.new)
-        (OrPart (S.part store.old) (S.may_leave store.old)) }
     ensures cause { CountsFailures (S.failures store.old) (S.failures store.new) result }
 {
     let mut written = 0;

@@ -1,17 +1,20 @@
-use Rattle.std.proofs.Common.{◌∙◌}
+use Rattle.std.proofs.Common.{◌∙◌, rules}
 use Rattle.hwdb_replace.proofs.StepLemmas.{created, elapses_on_step}
 use Rattle.hwdb_replace.proofs.memory.MemoryStore.create_new.Goals as goal
 
-pub returns-in_ok-take-in-Ok-Some-clause-seen : goal.returns-in_ok-take-in-Ok-Some-clause-seen
-returns-in_ok-take-in-Ok-Some-clause-seen c = λ _. (created c.args.self.now.steps.items c.take.new.self.steps.items c.in-Ok-Some.step c.in_ok-take-in-Ok-Some.ensures.taken _ c.deref.result.now _ (c.deref.ensures.value ∙ c.in-Ok.ensures) (c.in_ok-take-in-Ok-Some.ensures.part ∙ c.in-Ok.ensures) (rw c.in-Ok-Some.field-0-is at c.in-Ok-Some.ensures)).0
-
-pub returns-in_ok-take-in-Ok-Some-clause-crash : goal.returns-in_ok-take-in-Ok-Some-clause-crash
-returns-in_ok-take-in-Ok-Some-clause-crash c = (created c.args.self.now.steps.items c.take.new.self.steps.items c.in-Ok-Some.step c.in_ok-take-in-Ok-Some.ensures.taken _ c.deref.result.now _ (c.deref.ensures.value ∙ c.in-Ok.ensures) (c.in_ok-take-in-Ok-Some.ensures.part ∙ c.in-Ok.ensures) (rw c.in-Ok-Some.field-0-is at c.in-Ok-Some.ensures)).1
-
-pub returns-in_ok-take-in-Ok-Some-clause-time : goal.returns-in_ok-take-in-Ok-Some-clause-time
-returns-in_ok-take-in-Ok-Some-clause-time c = elapses_on_step c.args.self.now.steps.items c.take.new.self.steps.items c.in-Ok-Some.step c.in_ok-take-in-Ok-Some.ensures.taken
-
-pub returns-in_ok-take-in-Ok-Some-clause-made : goal.returns-in_ok-take-in-Ok-Some-clause-made
-returns-in_ok-take-in-Ok-Some-clause-made c = λ _ _.
-    let made = (created c.args.self.now.steps.items c.take.new.self.steps.items c.in-Ok-Some.step c.in_ok-take-in-Ok-Some.ensures.taken _ c.deref.result.now _ (c.deref.ensures.value ∙ c.in-Ok.ensures) (c.in_ok-take-in-Ok-Some.ensures.part ∙ c.in-Ok.ensures) (rw c.in-Ok-Some.field-0-is at c.in-Ok-Some.ensures)).0 in
-    (made.1, made.2.there)
+pub returns-in_ok-take-in-Ok-Some : goal.returns-in_ok-take-in-Ok-Some
+returns-in_ok-take-in-Ok-Some c =
+    let xs = c.args.self.now.steps.items in
+    let ys = c.take.new.self.steps.items in
+    let took = c.in_ok-take-in-Ok-Some.ensures in
+    let made = created xs ys c.in-Ok-Some.step took.taken _ c.deref.result.now _
+    (c.deref.ensures.value ∙ c.in-Ok.ensures) (took.part ∙ c.in-Ok.ensures) (rw c.in-Ok-Some.field-0-is at c.in-Ok-Some.ensures) in
+    record {
+      folder = search rules;
+      own = search rules;
+      made = λ _ _. (made.0.1, made.0.2.there);
+      seen = λ _. made.0;
+      crash = made.1;
+      time = elapses_on_step xs ys c.in-Ok-Some.step took.taken;
+      cause = search rules;
+    }

@@ -6,20 +6,10 @@ use Rattle.hwdb_replace.proofs.others.SharedStore.set_mode.Goals as goal
 
 pub returns-clause-crash : goal.returns-clause-crash
 returns-clause-crash g c =
-    let whole = g.O.Others.whole in
-    let own = c.args.self.now.memory.part.items in
-    let xs = c.args.self.now.memory.steps.items in
-    let ys = c.wait.new.self.memory.steps.items in
+    let left = left_with g.O.Others.whole in
     let zs = c.set_mode.new.self.steps.items in
-    let went = c.wait.ensures.went in
-    subst (λ part. NoMoreBut part (left_with whole xs) (left_with whole zs)) c.wait.ensures.part (no_more_but_with whole own xs ys went _ zs c.set_mode.ensures.crash)
+    subst (λ part. NoMoreBut part (left c.args.self.now.memory.steps.items) (left zs)) c.wait.ensures.part
+    (no_more_but_with c.wait.ensures.went _ zs c.set_mode.ensures.crash)
 
 pub returns-clause-time : goal.returns-clause-time
-returns-clause-time g c =
-    let whole = g.O.Others.whole in
-    let own = c.args.self.now.memory.part.items in
-    let xs = c.args.self.now.memory.steps.items in
-    let ys = c.wait.new.self.memory.steps.items in
-    let zs = c.set_mode.new.self.steps.items in
-    let went = c.wait.ensures.went in
-    time_with whole own xs ys went zs _ _ c.set_mode.ensures.time (λ p v l. inl l)
+returns-clause-time g c = time_with c.wait.ensures.went c.set_mode.new.self.steps.items _ _ c.set_mode.ensures.time (λ p v l. inl l)

@@ -3,21 +3,7 @@ use Rattle.hwdb_replace.proofs.OthersLemmas.{no_more_with, time_with}
 use Rattle.hwdb_replace.proofs.others.SharedStore.sync.Goals as goal
 
 pub returns-clause-crash : goal.returns-clause-crash
-returns-clause-crash g c =
-    let whole = g.O.Others.whole in
-    let own = c.args.self.now.memory.part.items in
-    let xs = c.args.self.now.memory.steps.items in
-    let ys = c.wait.new.self.memory.steps.items in
-    let zs = c.sync.new.self.steps.items in
-    let went = c.wait.ensures.went in
-    no_more_with whole own xs ys went zs c.sync.ensures.crash
+returns-clause-crash g c = no_more_with c.wait.ensures.went c.sync.new.self.steps.items c.sync.ensures.crash
 
 pub returns-clause-time : goal.returns-clause-time
-returns-clause-time g c =
-    let whole = g.O.Others.whole in
-    let own = c.args.self.now.memory.part.items in
-    let xs = c.args.self.now.memory.steps.items in
-    let ys = c.wait.new.self.memory.steps.items in
-    let zs = c.sync.new.self.steps.items in
-    let went = c.wait.ensures.went in
-    time_with whole own xs ys went zs _ _ c.sync.ensures.time (λ p v l. inl l)
+returns-clause-time g c = time_with c.wait.ensures.went c.sync.new.self.steps.items _ _ c.sync.ensures.time (λ p v l. inl l)
