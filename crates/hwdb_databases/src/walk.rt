@@ -164,7 +164,8 @@ impl<'a> Walk<'a> {
             (self.new.entered ≡ self.old.entered + entered_one self.new.at) }
         ensures left { OnOk result (entered_one self.new.at + left (reverse self.new.stack.items)
             ≡ left (reverse self.old.stack.items)) }
-        ensures named { OnOk result (named_at self.new.at + named_left (reverse self.new.stack.items)
+        ensures named { OnOk result
+            (named_at self.new.at + named_left (reverse self.new.stack.items)
             ≡ named_left (reverse self.old.stack.items)) }
         ensures fewer { OnOk result
             (steps (reverse self.new.stack.items) < steps (reverse self.old.stack.items)) }
@@ -203,7 +204,8 @@ impl<'a> Walk<'a> {
         ensures end { OnOk result (IfNone self.new.at (self.new.stack.items ≡ [])) }
         ensures left { OnOk result
             (entered_one self.new.at + still_left self.new ≡ still_left self.old) }
-        ensures named { OnOk result (named_at self.new.at + named_left (reverse self.new.stack.items)
+        ensures named { OnOk result
+            (named_at self.new.at + named_left (reverse self.new.stack.items)
             ≡ named_left (reverse self.old.stack.items)) }
         ensures file { OnOk result
             ((f : List ℕ) → All (IsOpenIn f) self.old.stack.items → IsAtOne f self.new.at) }

@@ -46,7 +46,7 @@ returns-then-len-before-clause-patterns c =
     let all = c.values-i-end.ensures in
     let past = c.loop-i-test.false in
     let more = grown (λ f. f.position.key) (map (λ t. t.now) c.args.self.now.keys.items) (map (λ t. t.now) c.loop-i.self.keys.items) (own_members [] values) (own_members [] (drop c.loop-i.i values))
-        (own_after [] values c.loop-i.i (omega (arith, all, past))) (c.loop-i.invariant.keys []) in
+    (own_after [] values c.loop-i.i (omega (arith, all, past))) (c.loop-i.invariant.keys []) in
     let now = length-map c.loop-i.self.keys.items (λ t. t.now) in
     let was = length-map c.args.self.now.keys.items (λ t. t.now) in
     let read = c.len.ensures in
@@ -64,7 +64,7 @@ returns-then-len-before-clause-few c =
     let all = c.values-i-end.ensures in
     let past = c.loop-i-test.false in
     let more = grown (λ f. f.position.key) (map (λ t. t.now) c.args.self.now.keys.items) (map (λ t. t.now) c.loop-i.self.keys.items) (own_members [] values) (own_members [] (drop c.loop-i.i values))
-        (own_after [] values c.loop-i.i (omega (arith, all, past))) (c.loop-i.invariant.keys []) in
+    (own_after [] values c.loop-i.i (omega (arith, all, past))) (c.loop-i.invariant.keys []) in
     let now = length-map c.loop-i.self.keys.items (λ t. t.now) in
     let was = length-map c.args.self.now.keys.items (λ t. t.now) in
     let read = c.len.ensures in
@@ -98,7 +98,7 @@ returns-clause-patterns c =
     let all = c.values-i-end.ensures in
     let past = c.loop-i-test.false in
     let more = grown (λ f. f.position.key) (map (λ t. t.now) c.args.self.now.keys.items) (map (λ t. t.now) c.loop-i.self.keys.items) (own_members [] values) (own_members [] (drop c.loop-i.i values))
-        (own_after [] values c.loop-i.i (omega (arith, all, past))) (c.loop-i.invariant.keys []) in
+    (own_after [] values c.loop-i.i (omega (arith, all, past))) (c.loop-i.invariant.keys []) in
     let now = length-map c.loop-i.self.keys.items (λ t. t.now) in
     let was = length-map c.args.self.now.keys.items (λ t. t.now) in
     let read = c.len.ensures in
@@ -116,7 +116,7 @@ returns-clause-few c =
     let all = c.values-i-end.ensures in
     let past = c.loop-i-test.false in
     let more = grown (λ f. f.position.key) (map (λ t. t.now) c.args.self.now.keys.items) (map (λ t. t.now) c.loop-i.self.keys.items) (own_members [] values) (own_members [] (drop c.loop-i.i values))
-        (own_after [] values c.loop-i.i (omega (arith, all, past))) (c.loop-i.invariant.keys []) in
+    (own_after [] values c.loop-i.i (omega (arith, all, past))) (c.loop-i.invariant.keys []) in
     let now = length-map c.loop-i.self.keys.items (λ t. t.now) in
     let was = length-map c.args.self.now.keys.items (λ t. t.now) in
     let read = c.len.ensures in
