@@ -11,7 +11,6 @@ use Rattle.std.specs.Cmp.Lexicographic.{texts_ties}
 use Rattle.std.specs.declared.cmp.Ordering.{Ordering}
 use Rattle.std.specs.declared.cmp.Ordering.TheVariants.{Less, Equal, Greater}
 use Rattle.hwdb_spec.specs.Assignment.{Assignment, text_cmp}
-use Rattle.hwdb_spec.specs.Folders.{same}
 use Rattle.hwdb_spec.specs.Lemmas.Orders.{same_text, same_itself}
 use Rattle.hwdb_spec_commands.specs.Summary.{different}
 use Rattle.hwdb_spec.specs.Tree.{Tree, Value, IsTree, members_under, place_cmp, entry_of}
