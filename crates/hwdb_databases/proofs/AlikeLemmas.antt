@@ -2,7 +2,7 @@
 use Rattle.std.proofs.Common.{◌≡◌, ◌≢◌, ◌∙◌, ap, sym, refl, subst, eqb-true, eq-eqb, true≢false, not, Bool, true, false, List, [], ◌∷◌, ◌++◌, ℕ, ◌==◌, Option, None, Some, IfNone, map, is_some}
 use Rattle.std.specs.Prelude.{flat_map, if◌then◌else◌}
 use Rattle.std.specs.FinMap as finite
-use Rattle.hwdb_spec.specs.Assignment.{Assignment, Position}
+use Rattle.hwdb_spec.specs.Assignment.{Assignment}
 use Rattle.hwdb_spec_commands.specs.Differences.{Change, change_at, differences, places}
 use Rattle.hwdb_spec_commands.specs.Differences.Change.{Changed}
 use Rattle.hwdb_spec.specs.Folders.{same}

@@ -11,6 +11,7 @@ pub mod DiffLemmas
 pub mod DepthLemmas
 pub mod DifferentLemmas
 pub mod TallyLemmas
+pub mod NamedLemmas
 pub mod FewLemmas
 pub mod InventoryLemmas
 pub mod MeetingLemmas

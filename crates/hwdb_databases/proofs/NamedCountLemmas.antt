@@ -1,5 +1,5 @@
 -- Counts of changes, one change more at a time.
-use Rattle.std.proofs.Common.{◌≡◌, ◌∙◌, ◌||◌, ap, sym, refl, cond, Bool, true, false, ℕ, List, [], ◌∷◌, ◌++◌, flat_map, map, Option, Some, None, append_assoc}
+use Rattle.std.proofs.Common.{◌≡◌, ◌∙◌, ◌||◌, ap, sym, refl, cond, Bool, true, false, ℕ, List, [], ◌∷◌, ◌++◌, flat_map, map, Some, None, append_assoc}
 use Rattle.std.specs.Borrow.{Bor}
 use Rattle.std.specs.List.Sorted.{IsStrictlySortedBy}
 use Rattle.std.specs.Cmp.{IsTotalOrder}

@@ -11,14 +11,13 @@ use Rattle.std.specs.Cmp.Lexicographic.{texts_ties}
 use Rattle.std.specs.declared.cmp.Ordering.{Ordering}
 use Rattle.std.specs.declared.cmp.Ordering.TheVariants.{Less, Equal, Greater}
 use Rattle.hwdb_spec.specs.Assignment.{Assignment, text_cmp}
-use Rattle.hwdb_spec.specs.Folders.{same}
 use Rattle.hwdb_spec.specs.Lemmas.Orders.{same_text, same_itself}
 use Rattle.hwdb_spec_commands.specs.Summary.{different}
 use Rattle.hwdb_spec.specs.Tree.{Tree, Value, IsTree, members_under, place_cmp, entry_of}
 use Rattle.hwdb_text.specs.Lemmas.Ascending.{same_bytes}
 use Rattle.hwdb_reader.specs.Views.{shown}
 use Rattle.hwdb_query.specs.Internal.Members.{one_assignment, assignment_shown, own_members}
-use Rattle.hwdb_databases.specs.Internal.Counting.{last_of, one_more, turns}
+use Rattle.hwdb_databases.specs.Internal.Counting.{one_more, turns}
 use Rattle.hwdb_databases.proofs.DifferentLemmas.{different_are, texts_dedup}
 use Rattle.hwdb_databases.proofs.OrderLemmas.{members_sorted, and_first, and_second}
 
@@ -34,10 +33,14 @@ module _ {X : Type 0} (f : Assignment → X) where
   pub all_taken : (old : List X) (rest all : List Assignment) → rest ≡ [] → old ++ map f rest ≡ map f all → old ≡ map f all
   all_taken old rest all none is = sym (append-nil old) ∙ ap (λ r. old ++ map f r) (sym none) ∙ is
 
+  -- all of some were taken
+  pub taken_all : (old new : List X) (own rest : List Assignment) → rest ≡ [] → new ++ map f rest ≡ old ++ map f own → new ≡ old ++ map f own
+  taken_all old new own rest none is = sym (append-nil new) ∙ ap (λ r. new ++ map f r) (sym none) ∙ is
+
   -- how many were taken
   pub grown : (old new : List X) (own rest : List Assignment) → rest ≡ [] → new ++ map f rest ≡ old ++ map f own → length new ≡ length old + length own
   grown old new own rest none is =
-      ap length (sym (append-nil new) ∙ ap (λ r. new ++ map f r) (sym none) ∙ is) ∙ length-append old (map f own) ∙ ap (λ n. length old + n) (length-map own f)
+      ap length (taken_all old new own rest none is) ∙ length-append old (map f own) ∙ ap (λ n. length old + n) (length-map own f)
 
 -- ---- patterns, one after another
 
@@ -71,29 +74,6 @@ turns_own last p (v ∷ values) rest h = go (shown v).key (λ k. turns_own last 
 pub turns_none : (last : Option (List ℕ)) (own : List Assignment) (rest : List (List ℕ)) → length own ≤ 0 → turns last (map pattern_of own ++ rest) ≡ turns last rest
 turns_none last [] rest h = refl
 turns_none last (f ∷ own) rest h = absurd (omega (arith, h))
-
--- whether a pattern is the one that was counted last
-pub last_compared : (count : ℕ) (last pattern : List ℕ) (b : Bool) → (count ≡ 0 → ⊥) → b ≡ same pattern last → one_more (last_of count last) pattern ≡ (if b then 0 else 1)
-last_compared zero last pattern b some is = absurd (some refl)
-last_compared (suc n) last pattern b some is = ap (λ c. if c then 0 else 1) (sym is)
-
--- a pattern was counted, or was the last
-pub counted_new : (count : ℕ) (last kept pattern : List ℕ) (rest : List (List ℕ)) → one_more (last_of count last) pattern ≡ 1 → kept ≡ pattern
-    → suc count + turns (Some kept) rest ≡ count + turns (last_of count last) (pattern ∷ rest)
-counted_new count last kept pattern rest one is =
-    let same : turns (Some kept) rest ≡ turns (Some pattern) rest = ap (λ t. turns (Some t) rest) is in omega (arith, same, one)
-
-was_same : (b : Bool) → ◌≡◌ {A = ℕ} (if b then 0 else 1) 0 → b ≡ true
-was_same true h = refl
-was_same false h = absurd (omega (arith, h))
-
-pub counted_same : (count : ℕ) (last pattern : List ℕ) (rest : List (List ℕ)) → one_more (last_of count last) pattern ≡ 0
-    → count + turns (last_of count last) rest ≡ count + turns (last_of count last) (pattern ∷ rest)
-counted_same zero last pattern rest none = absurd (omega (arith, none))
-counted_same (suc n) last pattern rest none =
-    let is : pattern ≡ last = same_text pattern last (was_same (same pattern last) none) in
-    let same : turns (Some last) rest ≡ turns (Some pattern) rest = ap (λ t. turns (Some t) rest) (sym is) in
-    omega (arith, same, none)
 
 -- ---- patterns that don't descend are as many different ones
 

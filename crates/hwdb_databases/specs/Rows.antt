@@ -1,11 +1,10 @@
 -- Worked rows of what a path of `diff` means, and of what `diff --stat` counts and prints: what the definitions give when they are
 -- computed.
-use Rattle.std.specs.Prelude.{◌∷◌, ◌≡◌, Bool, List, None, Some, [], codes, false, map, true, ℕ}
+use Rattle.std.specs.Prelude.{◌∷◌, ◌≡◌, List, None, Some, [], codes, false, map, true, ℕ}
 use Rattle.hwdb_spec.specs.Assignment.{Assignment}
 use Rattle.hwdb_spec_commands.specs.ChangeCounts.{Stat, no_stat, stat_form, with_changes, with_device}
 use Rattle.hwdb_spec_commands.specs.Differences.{Change}
 use Rattle.hwdb_spec_commands.specs.Differences.Change.{Came, Went, Changed}
-use Rattle.hwdb_spec.specs.Folders.{Source}
 use Rattle.hwdb_spec_commands.specs.Sides.{as_etc, file_name, names_text}
 
 -- The last name of a path: after a slash at its end there is none.

@@ -12,7 +12,7 @@ pub fn depth_of(alloc: Global, db: &Db<'_>) -> Result<usize, AllocError>
     ensures { IfOk result (λ deepest. deepest ≡ depth db.now) }
 {
     let _root = db.root();
-    let mut walk = Walk::start(alloc, db)?;
+    let mut walk = Walk::start(alloc, false, db)?;
     'nodes: while let Some(_inside) = walk.at {
         walk.next()?;
     }

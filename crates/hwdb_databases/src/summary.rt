@@ -5,9 +5,8 @@ ghost use Rattle.hwdb_spec.specs.Tree.{values_of};
 ghost use Rattle.hwdb_reader.specs.Views.{entered_tree, entry_shows};
 ghost use Rattle.hwdb_query.specs.Internal.Members.{assignment_shown, own_members};
 ghost use Rattle.hwdb_databases.specs.Views.{summary_shown};
-ghost use Rattle.hwdb_databases.specs.Internal.Counting.{last_of, one_more, turns};
+ghost use Rattle.hwdb_databases.specs.Internal.Walks.{named_here};
 
-use crate::texts::is_same;
 use crate::walk::Walk;
 use hwdb_reader::{Db, Entry, Inside};
 use std::alloc::{AllocError, Global};
@@ -31,10 +30,8 @@ struct Tally<'a> {
     files: Vec<&'a [u8]>,
     /// The key of each assignment.
     keys: Vec<&'a [u8]>,
-    /// How many patterns have an assignment.
+    /// How many nodes assign something. No two nodes have one path, so that these are as many patterns.
     patterns: usize,
-    /// The last of them.
-    last: Vec<u8>,
 }
 
 impl<'a> Tally<'a> {
@@ -47,43 +44,10 @@ impl<'a> Tally<'a> {
             files: Vec::new(alloc),
             keys: Vec::new(alloc),
             patterns: 0,
-            last: Vec::new(alloc),
         }
     }
 
-    /// Whether a pattern is the one that was counted last.
-    fn is_last(&self, pattern: &[u8]) -> bool
-        ensures { one_more (last_of self.now.patterns self.now.last.items) pattern.now
-            ≡ (if result then 0 else 1) }
-    {
-        if self.patterns == 0 {
-            return false;
-        }
-        is_same(pattern, &self.last)
-    }
-
-    /// Counts a pattern that has an assignment, unless it is the one that was counted last. The only error, here and below,
-    /// is `AllocError`.
-    fn add_pattern(&mut self, pattern: &[u8]) -> Result<(), AllocError>
-        requires { self.old.patterns + 1 < 2 ^ 64 }
-        ensures counted { OnOk result ((rest : List (List ℕ))
-            → self.new.patterns + turns (last_of self.new.patterns self.new.last.items) rest
-            ≡ self.old.patterns
-            + turns (last_of self.old.patterns self.old.last.items) (pattern.now ∷ rest)) }
-        ensures few { OnOk result (self.new.patterns ≤ self.old.patterns + 1) }
-        ensures files { OnOk result (self.new.files.items ≡ self.old.files.items) }
-        ensures keys { OnOk result (self.new.keys.items ≡ self.old.keys.items) }
-    {
-        if self.is_last(pattern) {
-            return Ok(());
-        }
-        self.patterns += 1;
-        self.last.clear();
-        self.last.extend_from_slice(pattern)?;
-        Ok(())
-    }
-
-    /// Counts what a value assigns.
+    /// Counts what a value assigns. The only error, here and below, is `AllocError`.
     fn add_value(&mut self, entry: Entry<'a>) -> Result<(), AllocError>
         ensures files { OnOk result ((pattern : List ℕ) → map (λ t. t.now) self.new.files.items
             ≡ map (λ t. t.now) self.old.files.items
@@ -92,7 +56,6 @@ impl<'a> Tally<'a> {
             ≡ map (λ t. t.now) self.old.keys.items
             ++ map (λ f. f.position.key) (assignment_shown pattern (entry_shows entry.entry))) }
         ensures patterns { OnOk result (self.new.patterns ≡ self.old.patterns) }
-        ensures last { OnOk result (self.new.last.items ≡ self.old.last.items) }
     {
         let Some(key) = entry.key else {
             return Ok(());
@@ -102,29 +65,27 @@ impl<'a> Tally<'a> {
         Ok(())
     }
 
-    /// Counts what the values of a node assign at a pattern.
-    fn add(&mut self, inside: Inside<'a>, pattern: &[u8]) -> Result<(), AllocError>
+    /// Counts what the values of a node assign.
+    fn add(&mut self, inside: Inside<'a>) -> Result<(), AllocError>
         requires { self.old.patterns ≤ length self.old.keys.items }
-        ensures files { OnOk result (map (λ t. t.now) self.new.files.items
+        ensures files { OnOk result ((pattern : List ℕ) → map (λ t. t.now) self.new.files.items
             ≡ map (λ t. t.now) self.old.files.items ++ map (λ f. f.path)
-            (own_members pattern.now (values_of (entered_tree inside.entry)))) }
-        ensures keys { OnOk result (map (λ t. t.now) self.new.keys.items
+            (own_members pattern (values_of (entered_tree inside.entry)))) }
+        ensures keys { OnOk result ((pattern : List ℕ) → map (λ t. t.now) self.new.keys.items
             ≡ map (λ t. t.now) self.old.keys.items ++ map (λ f. f.position.key)
-            (own_members pattern.now (values_of (entered_tree inside.entry)))) }
-        ensures patterns { OnOk result ((rest : List (List ℕ))
-            → self.new.patterns + turns (last_of self.new.patterns self.new.last.items) rest
-            ≡ self.old.patterns + turns (last_of self.old.patterns self.old.last.items)
-            (map (λ f. f.position.pattern)
-            (own_members pattern.now (values_of (entered_tree inside.entry))) ++ rest)) }
+            (own_members pattern (values_of (entered_tree inside.entry)))) }
+        ensures patterns { OnOk result (self.new.patterns
+            ≡ self.old.patterns + named_here (values_of (entered_tree inside.entry))) }
         ensures few { OnOk result (self.new.patterns ≤ length self.new.keys.items) }
     {
         let before = self.keys.len();
         for i in 0..inside.values() {
             self.add_value(inside.value(i))?;
         }
-        if self.keys.len() > before {
-            self.add_pattern(pattern)?;
+        if self.keys.len() <= before {
+            return Ok(());
         }
+        self.patterns += 1;
         Ok(())
     }
 }
@@ -149,15 +110,15 @@ pub(crate) fn count_different(texts: Vec<&[u8]>) -> Result<usize, AllocError>
     Ok(ordered.len())
 }
 
-/// How much is in the database of so many bytes.
+/// How much is in the database of so many bytes. No path is read, however long it is.
 pub(crate) fn summarize(alloc: Global, bytes: usize, db: &Db<'_>) -> Result<Counts, AllocError>
     ensures { IfOk result (λ counts. summary_shown counts ≡ summary_of bytes db.now) }
 {
     let _root = db.root();
-    let mut walk = Walk::start(alloc, db)?;
+    let mut walk = Walk::start(alloc, false, db)?;
     let mut tally = Tally::new(alloc);
     'nodes: while let Some(inside) = walk.at {
-        tally.add(inside, walk.trail.path())?;
+        tally.add(inside)?;
         walk.next()?;
     }
     let assignments = tally.keys.len();

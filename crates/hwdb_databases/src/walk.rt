@@ -13,7 +13,7 @@ ghost use Rattle.hwdb_reader.specs.Unread.{file_at};
 ghost use Rattle.hwdb_reader.specs.Views.{tree_of, entered_tree};
 ghost use Rattle.hwdb_databases.specs.Views.{assignment_of};
 ghost use Rattle.hwdb_databases.specs.Internal.Trails.{Follows, IsCopied, IsLonger, IsSegmentIn, path_of};
-ghost use Rattle.hwdb_databases.specs.Internal.Walks.{IsAtOne, IsOf, IsOpenIn, to_come, StandsOn, left, steps, deepest_to_come, Opened, IsWalkOf, entered_one, own_of, rest_of, still_left};
+ghost use Rattle.hwdb_databases.specs.Internal.Walks.{IsAtOne, IsOf, IsOpenIn, to_come, StandsOn, left, steps, deepest_to_come, Opened, IsWalkOf, entered_one, named, named_at, named_left, own_of, rest_of, still_left};
 
 use crate::trail::Trail;
 use hwdb_query::{StoredAssignment, push_answers};
@@ -64,18 +64,21 @@ impl<'a> Walk<'a> {
         }
     }
 
-    /// A walk over a database that is at the root, and holds the bytes of its path. The only error, here and below, is `AllocError`.
-    pub(crate) fn start(alloc: Global, db: &Db<'a>) -> Result<Walk<'a>, AllocError>
+    /// A walk over a database that is at the root. Says whether the path's bytes are to be held. The only error, here and below, is
+    /// `AllocError`.
+    pub(crate) fn start(alloc: Global, copies: bool, db: &Db<'a>) -> Result<Walk<'a>, AllocError>
         ensures walk { IfOk result (λ walk. IsWalkOf db.now walk) }
         ensures all { IfOk result (λ walk.
             own_of (path_of walk.trail) walk.at ++ rest_of walk ≡ members_under [] db.now) }
         ensures end { IfOk result (λ walk. IfNone walk.at (walk.stack.items ≡ [])) }
-        ensures copied { IfOk result (λ walk. IsCopied walk.trail) }
+        ensures copied { copies ≡ true → IfOk result (λ walk. IsCopied walk.trail) }
+        ensures named { IfOk result (λ walk.
+            named_at walk.at + named_left (reverse walk.stack.items) ≡ named db.now) }
     {
-        Walk::start_at(alloc, true, db.root())
+        Walk::start_at(alloc, copies, db.root())
     }
 
-    /// A walk over the tree of a node. Says whether the path's bytes are to be held.
+    /// The same over the tree of a node.
     pub(crate) fn start_at(
         alloc: Global,
         copies: bool,
@@ -87,6 +90,8 @@ impl<'a> Walk<'a> {
         ensures end { IfOk result (λ walk. IfNone walk.at (walk.stack.items ≡ [])) }
         ensures file { IfOk result (λ walk. IsOf (file_at root.entry) walk) }
         ensures copied { copies ≡ true → IfOk result (λ walk. IsCopied walk.trail) }
+        ensures named { (t : Tree) → tree_of root.entry ≡ t → IfOk result (λ walk.
+            named_at walk.at + named_left (reverse walk.stack.items) ≡ named t) }
     {
         root.law_tree();
         let mut walk = Walk::new(alloc, copies);
@@ -159,6 +164,9 @@ impl<'a> Walk<'a> {
             (self.new.entered ≡ self.old.entered + entered_one self.new.at) }
         ensures left { OnOk result (entered_one self.new.at + left (reverse self.new.stack.items)
             ≡ left (reverse self.old.stack.items)) }
+        ensures named { OnOk result
+            (named_at self.new.at + named_left (reverse self.new.stack.items)
+            ≡ named_left (reverse self.old.stack.items)) }
         ensures fewer { OnOk result
             (steps (reverse self.new.stack.items) < steps (reverse self.old.stack.items)) }
         ensures deepest { OnOk result
@@ -196,6 +204,9 @@ impl<'a> Walk<'a> {
         ensures end { OnOk result (IfNone self.new.at (self.new.stack.items ≡ [])) }
         ensures left { OnOk result
             (entered_one self.new.at + still_left self.new ≡ still_left self.old) }
+        ensures named { OnOk result
+            (named_at self.new.at + named_left (reverse self.new.stack.items)
+            ≡ named_left (reverse self.old.stack.items)) }
         ensures file { OnOk result
             ((f : List ℕ) → All (IsOpenIn f) self.old.stack.items → IsAtOne f self.new.at) }
         ensures files { OnOk result ((f : List ℕ)
@@ -221,7 +232,7 @@ impl<'a> Walk<'a> {
 pub fn assignments<'a>(alloc: Global, db: &Db<'a>) -> Result<Vec<StoredAssignment<'a>>, AllocError>
     ensures list { IfOk result (λ list. map assignment_of list.items ≡ members_under [] db.now) }
 {
-    let mut walk = Walk::start(alloc, db)?;
+    let mut walk = Walk::start(alloc, true, db)?;
     let mut found = Vec::new(alloc);
     'nodes: while let Some(inside) = walk.at {
         push_answers(alloc, inside, walk.trail.path(), &mut found)?;

@@ -30,6 +30,25 @@ fn is_past(after: Option<Parts<'_>>, parts: Parts<'_>) -> bool
     }
 }
 
+/// At most how many values of a node are compared with one after them.
+const PROBES: usize = 16;
+
+/// Whether the origins of a node's values fall more often than not, from one to the next of a few of them. A wrong answer only
+/// costs time.
+fn mostly_fall(inside: Inside<'_>) -> bool {
+    let count = inside.values();
+    let step = count / PROBES + 1;
+    let mut falls = 0;
+    let mut i = 0;
+    'probing: while count - i > step {
+        if is_earlier(inside.origin(i + step), inside.origin(i)) {
+            falls += 1;
+        }
+        i += step;
+    }
+    falls > i / step / 2
+}
+
 /// A page that is filled: the least of the hits so far that come after a position.
 #[derive(Drop)]
 pub(crate) struct NextPage<'a, 'p> {
@@ -101,8 +120,8 @@ impl<'a, 'p> Collector<'a> for NextPage<'a, 'p> {
 
     ghost collects = { PageCollects };
 
-    /// The values are in order of their keys, and are gone over from the end whose origin comes first. A value that comes
-    /// before all so far is put into the page. One that comes after a full page is passed over by its origin.
+    /// The values are in order of their keys, and are gone over from the end whose origins likely come first. A value that
+    /// comes before all so far is put into the page. One that comes after a full page is passed over by its origin.
     fn collect(
         &mut self,
         alloc: Global,
@@ -111,7 +130,7 @@ impl<'a, 'p> Collector<'a> for NextPage<'a, 'p> {
     ) -> Result<(), AllocError> {
         inside.law_ascending();
         let count = inside.values();
-        let falls = count > 1 && is_earlier(inside.origin(count - 1), inside.origin(0));
+        let falls = mostly_fall(inside);
         for step in 0..count {
             let i = if falls { count - 1 - step } else { step };
             self.collect_one(alloc, inside, pattern, i)?;

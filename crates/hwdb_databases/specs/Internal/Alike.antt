@@ -1,5 +1,5 @@
 -- Whether two databases assign the same, one assignment after another.
-use Rattle.std.specs.Prelude.{◌==◌, ◌∷◌, ◌≡◌, ◌≢◌, [], Bool, List, false, if◌then◌else◌, true, ℕ}
+use Rattle.std.specs.Prelude.{◌==◌, ◌∷◌, ◌≡◌, ◌≢◌, [], Bool, List, false, if◌then◌else◌, true}
 use Rattle.hwdb_spec.specs.Assignment.{Assignment}
 use Rattle.hwdb_spec_commands.specs.Differences.{differences}
 use Rattle.hwdb_spec.specs.Folders.{same}

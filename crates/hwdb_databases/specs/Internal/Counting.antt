@@ -1,16 +1,11 @@
 -- What is counted of assignments.
-use Rattle.std.specs.Prelude.{List, Option, None, Some, IfSome, [], ◌∷◌, ◌++◌, ℕ, zero, suc, map, ◌+◌, ◌≡◌, if◌then◌else◌}
+use Rattle.std.specs.Prelude.{List, Option, None, Some, IfSome, [], ◌∷◌, ◌++◌, ℕ, map, ◌+◌, ◌≡◌, if◌then◌else◌}
 use Rattle.hwdb_spec_commands.specs.Differences.{Change}
 use Rattle.hwdb_spec.specs.Folders.{same}
 use Rattle.hwdb_spec_commands.specs.Status.{first_text}
 use Rattle.hwdb_reader.specs.Unread.{file_of, text_of}
 use Rattle.hwdb_reader.specs.declared.unread.StoredText.{StoredText}
 use Rattle.hwdb_databases.specs.declared.inventory.Inventory.{Inventory}
-
--- the text that was counted last, if one was
-abbrev pub last_of : (count : ℕ) → (last : List ℕ) → Option (List ℕ)
-last_of zero last = None
-last_of (suc n) last = Some last
 
 -- one, if a text isn't the one before it
 abbrev pub one_more : Option (List ℕ) → List ℕ → ℕ

@@ -2,7 +2,9 @@
 use Rattle.std.specs.Prelude.{All, IfSome, List, ℕ, Option, None, Some, [], ◌∷◌, ◌++◌, ◌+◌, ◌<◌, ◌≤◌, ◌≡◌, ◌^◌, ◌⊎◌, suc, take, drop, length, max, reverse}
 use Rattle.hwdb_spec.specs.Assignment.{Assignment}
 use Rattle.hwdb_spec_commands.specs.Summary.{depth}
-use Rattle.hwdb_spec.specs.Tree.{Tree, values_of}
+use Rattle.hwdb_spec.specs.Tree.{Tree, Children, Value, values_of}
+use Rattle.hwdb_spec.specs.Tree.Tree.{Node}
+use Rattle.hwdb_spec.specs.Tree.Children.{NoMore, Child}
 use Rattle.hwdb_reader.specs.Views.{children_of, entered_tree, node_count}
 use Rattle.hwdb_reader.specs.Unread.{file_in}
 use Rattle.hwdb_reader.specs.declared.view.Inside.{Inside}
@@ -43,6 +45,34 @@ abbrev pub steps : List OpenVisit → ℕ
 steps [] = 0
 steps (o ∷ below) = suc (nodes_in (kids_of o) + nodes_in (kids_of o)) + steps below
 
+-- one, if there is an assignment
+abbrev pub some_of : List Assignment → ℕ
+some_of [] = 0
+some_of (f ∷ more) = 1
+
+-- one, if a node with these values assigns something
+unfoldable pub named_here : List Value → ℕ
+named_here values = some_of (own_members [] values)
+
+unfoldable mutual
+  -- how many nodes of a tree assign something
+  pub named : Tree → ℕ
+  named (Node prefix values children) = named_here values + named_below children
+
+  -- the same of the trees of children
+  pub named_below : Children → ℕ
+  named_below NoMore = 0
+  named_below (Child byte tree more) = named tree + named_below more
+
+abbrev pub named_in : List (ℕ × Tree) → ℕ
+named_in [] = 0
+named_in (k ∷ kids) = named k.1 + named_in kids
+
+-- how many of the nodes that weren't entered assign something
+abbrev pub named_left : List OpenVisit → ℕ
+named_left [] = 0
+named_left (o ∷ below) = named_in (kids_of o) + named_left below
+
 -- the most nodes that will be on one path, those of the stack counted
 abbrev pub deepest_to_come : List OpenVisit → ℕ
 deepest_to_come [] = 0
@@ -75,6 +105,11 @@ rest_of w = to_come w.trail.segments.items (reverse w.stack.items)
 abbrev pub entered_one : Option Inside → ℕ
 entered_one None = 0
 entered_one (Some inside) = 1
+
+-- one, if a walk is at a node that assigns something
+abbrev pub named_at : Option Inside → ℕ
+named_at None = 0
+named_at (Some inside) = named_here (values_of (entered_tree inside))
 
 -- how many nodes a walk hasn't entered
 abbrev pub still_left : Walk → ℕ

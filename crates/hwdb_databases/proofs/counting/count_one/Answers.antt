@@ -1,9 +1,9 @@
-use Rattle.std.proofs.Common.{◌≡◌, sym, subst, List, ℕ, Some, None, Option}
+use Rattle.std.proofs.Common.{◌≡◌, sym, subst, List, ℕ, Some, None}
 use Rattle.std.specs.BTreeMap.{BTreeMap, get_by, insert_entry}
 use Rattle.std.specs.Borrow.{Bor}
 use Rattle.hwdb_spec.specs.Assignment.{text_cmp}
 use Rattle.hwdb_databases.specs.declared.counting.Count.{Count}
-use Rattle.hwdb_databases.specs.Internal.Counts.{count_shown, counts_shown, named_count}
+use Rattle.hwdb_databases.specs.Internal.Counts.{named_count}
 use Rattle.hwdb_spec_commands.specs.ChangeCounts as spec
 use Rattle.hwdb_databases.specs.Views.{change_shown}
 use Rattle.std.proofs.Common.{◌∙◌, ap, map}

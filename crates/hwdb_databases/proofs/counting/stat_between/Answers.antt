@@ -1,7 +1,6 @@
 use Rattle.std.proofs.Common.{ap, map, ◌∙◌}
 use Rattle.hwdb_spec_commands.specs.ChangeCounts.{no_stat, with_changes}
 use Rattle.hwdb_spec_commands.specs.Differences.{are_some}
-use Rattle.hwdb_databases.specs.Internal.Counts.{stat_shown}
 use Rattle.hwdb_databases.specs.Internal.Pairing.{to_tell}
 use Rattle.hwdb_databases.specs.Views.{assignment_of}
 use Rattle.hwdb_databases.proofs.MergeLemmas.{listed_differences}

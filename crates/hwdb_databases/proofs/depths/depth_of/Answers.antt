@@ -1,5 +1,4 @@
 use Rattle.std.proofs.Common.{◌≡◌, ap, subst, reverse, arith, List, [], IfNone}
-use Rattle.hwdb_spec_commands.specs.Summary.{depth}
 use Rattle.hwdb_databases.specs.Internal.Walks.{deepest_to_come}
 use Rattle.hwdb_databases.specs.declared.walk.OpenVisit.{OpenVisit}
 use Rattle.hwdb_databases.proofs.depths.depth_of.Goals as goal

@@ -1,5 +1,4 @@
 use Rattle.std.proofs.Common.{◌≡◌, ◌+◌, [], IfNone}
-use Rattle.hwdb_databases.specs.Internal.Trails.{IsCopied}
 use Rattle.hwdb_databases.specs.Internal.Walks.{IsWalkOf, entered_one, still_left}
 use Rattle.hwdb_databases.proofs.depths.depth_of.Given as goal
 
@@ -7,7 +6,6 @@ abbrev pub invariant-nodes : goal.invariant-nodes
 invariant-nodes l = record {
   walk : IsWalkOf l.db l.walk;
   end : IfNone l.walk.at (l.walk.stack.items ≡ []);
-  copied : IsCopied l.walk.trail;
 }
 
 abbrev pub decreases-nodes : goal.decreases-nodes

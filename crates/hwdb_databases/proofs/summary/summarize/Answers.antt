@@ -1,12 +1,14 @@
-use Rattle.std.proofs.Common.{◌≡◌, ◌∙◌, ap, subst, ◌++◌, map, length, reverse, arith, List, [], IfNone}
+use Rattle.std.proofs.Common.{◌≡◌, ◌∙◌, ap, sym, subst, ◌++◌, map, length, reverse, arith, List, [], IfNone}
 use Rattle.std.proofs.lemmas.List.{length-map}
 use Rattle.hwdb_spec_commands.specs.Summary.{different, depth, nodes}
-use Rattle.hwdb_spec.specs.Tree.{members_under}
-use Rattle.hwdb_databases.specs.Internal.Counting.{last_of, turns}
+use Rattle.hwdb_spec.specs.Tree.{members_under, values_of}
+use Rattle.hwdb_reader.specs.Views.{entered_tree}
+use Rattle.hwdb_query.specs.Internal.Members.{own_members}
 use Rattle.hwdb_databases.specs.Internal.Trails.{path_of}
-use Rattle.hwdb_databases.specs.Internal.Walks.{own_of, rest_of, left, deepest_to_come}
+use Rattle.hwdb_databases.specs.Internal.Walks.{own_of, rest_of, left, named_at, named_left, deepest_to_come}
 use Rattle.hwdb_databases.specs.declared.walk.OpenVisit.{OpenVisit}
-use Rattle.hwdb_databases.proofs.TallyLemmas.{all_taken, pattern_of, different_turns}
+use Rattle.hwdb_databases.proofs.TallyLemmas.{all_taken, pattern_of, taken}
+use Rattle.hwdb_databases.proofs.NamedLemmas.{different_named}
 use Rattle.hwdb_databases.proofs.DepthLemmas.{nodes_same}
 use Rattle.hwdb_databases.proofs.WalkLemmas.{walk_ended}
 use Rattle.hwdb_databases.proofs.summary.summarize.Goals as goal
@@ -21,11 +23,11 @@ returns c =
     let files = c.in_ok-count_different.ensures ∙ ap different (all_taken (λ f. f.path) _ rest all none c.nodes.invariant.files) in
     let keys_are = all_taken (λ f. f.position.key) _ rest all none c.nodes.invariant.keys in
     let keys = c.in_ok-count_different-2.ensures ∙ ap different keys_are in
-    let no_more : turns (last_of c.nodes.tally.patterns c.nodes.tally.last.items) (map pattern_of rest) ≡ 0 =
-    ap (λ r. turns (last_of c.nodes.tally.patterns c.nodes.tally.last.items) (map pattern_of r)) none in
-    let turned = c.nodes.invariant.patterns in
-    let alike_turns = different_turns c.args.db.now c.root-root.ensures.tree in
-    let patterns : c.nodes.tally.patterns ≡ different (map pattern_of all) = omega (arith, no_more, turned, alike_turns) in
+    let none_here : named_at w.at ≡ 0 = ap named_at c.in_default.is in
+    let none_left : named_left (reverse w.stack.items) ≡ 0 = ap (λ (b : List OpenVisit). named_left (reverse b)) empty in
+    let counted_all = c.nodes.invariant.patterns in
+    let alike_all = different_named c.args.db.now c.root-root.ensures.tree in
+    let patterns : c.nodes.tally.patterns ≡ different (map pattern_of all) = omega (arith, none_here, none_left, counted_all, alike_all) in
     let size = c.nodes.tally.keys.ok in
     let read = c.len-assignments.ensures in
     let same = length-map c.nodes.tally.keys.items (λ t. t.now) in
@@ -48,4 +50,23 @@ returns c =
       nodes = entered i;
       depth = deep i;
       bytes = c.args.bytes;
+    }
+
+pub nodes-preserved : goal.nodes-preserved
+nodes-preserved c =
+    let a = c.in_ok-add.ensures in
+    let e = c.in_ok-next.ensures in
+    let i = c.nodes.invariant in
+    let p = path_of c.nodes.walk.trail in
+    let own = own_members p (values_of (entered_tree c.in-Some.inside)) in
+    let here = ap named_at c.in-Some.is in
+    record {
+      files = taken (λ f. f.path) (map (λ t. t.now) c.nodes.tally.files.items) (map (λ t. t.now) c.add.new.self.files.items) own (rest_of c.nodes.walk) _ (a.files p) e.rest
+          ∙ ap (λ at. map (λ t. t.now) c.nodes.tally.files.items ++ map (λ f. f.path) (own_of p at ++ rest_of c.nodes.walk)) (sym c.in-Some.is) ∙ i.files;
+      keys = taken (λ f. f.position.key) (map (λ t. t.now) c.nodes.tally.keys.items) (map (λ t. t.now) c.add.new.self.keys.items) own (rest_of c.nodes.walk) _ (a.keys p) e.rest
+          ∙ ap (λ at. map (λ t. t.now) c.nodes.tally.keys.items ++ map (λ f. f.position.key) (own_of p at ++ rest_of c.nodes.walk)) (sym c.in-Some.is) ∙ i.keys;
+      patterns = omega (arith, a.patterns, e.named, here, i.patterns);
+      few = a.few;
+      walk = e.walk c.args.db.now i.walk;
+      end = e.end;
     }

@@ -10,6 +10,8 @@ use Rattle.hwdb_databases.proofs.DepthLemmas.{child_deepest}
 use Rattle.hwdb_databases.proofs.WalkLemmas.{gone_on, own_entered, one_entered, opened_size, some_left, child_comes, child_counted, child_steps, child_stands, top_of, set_is}
 use Rattle.std.proofs.lemmas.List.Elements.{All-get_or, All-push, All-take}
 use Rattle.hwdb_reader.specs.Unread.{file_in}
+use Rattle.hwdb_databases.specs.Internal.Walks.{named_left}
+use Rattle.hwdb_databases.proofs.NamedLemmas.{child_named, named_entered}
 use Rattle.hwdb_databases.proofs.walk.Walk.go_on.Goals as goal
 
 abbrev top : (c : goal.In_ok-enter) → OpenVisit
@@ -83,6 +85,14 @@ returns-clause-left c =
     let one = one_entered c.enter.new.self.at k.1 c.in_ok-enter.ensures.at in
     let same = ap left (on c) in
     omega (arith, left_now, one, same)
+
+pub returns-clause-named : goal.returns-clause-named
+returns-clause-named c =
+    let k : ℕ × Tree = (c.child_in_file-child.result.byte, tree_of c.child_in_file-child.result.node) in
+    let left_now = child_named (length c.enter.new.self.trail.segments.items) (top c) (below c) c.enter.new.self.stack.items k c.child_in_file-child.ensures.child (opened c) in
+    let at = named_entered c.enter.new.self.at k.1 c.in_ok-enter.ensures.at in
+    let same = ap named_left (on c) in
+    omega (arith, left_now, at, same)
 
 pub returns-clause-fewer : goal.returns-clause-fewer
 returns-clause-fewer c =

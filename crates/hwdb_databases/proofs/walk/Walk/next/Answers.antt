@@ -1,6 +1,6 @@
 use Rattle.std.proofs.Common.{◌≡◌, ◌∙◌, ◌++◌, ap, sym, arith, None, Option, reverse, refl}
 use Rattle.hwdb_reader.specs.declared.view.Inside.{Inside}
-use Rattle.hwdb_databases.specs.Internal.Walks.{entered_one, own_of, to_come}
+use Rattle.hwdb_databases.specs.Internal.Walks.{entered_one, named_at, own_of, to_come}
 use Rattle.hwdb_databases.specs.Internal.Trails.{path_of}
 use Rattle.hwdb_databases.proofs.TrailLemmas.{follows_itself, follows_on}
 use Rattle.hwdb_databases.proofs.WalkLemmas.{at_none}
@@ -26,6 +26,7 @@ nodes-init c = record {
   room = let small = c.requires.1.small in let counted = c.requires.1.counted in omega (arith, small, counted);
   counted = refl;
   left = refl;
+  named = refl;
   deepest = refl;
   reached = c.requires.1.reached;
   files = λ f all. all;
@@ -40,6 +41,7 @@ nodes-preserved c =
     let now = c.go_on.new.self in
     let none : now.at ≡ None = at_none now.at (sym e.found ∙ c.if-branch.false) in
     let zero = ap entered_one none in
+    let unnamed = ap named_at none in
     record {
       none = none;
       rest = sym (ap (λ (o : Option Inside). own_of (path_of now.trail) o ++ to_come now.trail.segments.items (reverse now.stack.items)) none) ∙ e.rest ∙ i.rest;
@@ -47,6 +49,7 @@ nodes-preserved c =
       room = omega (arith, e.counted, e.left, i.room);
       counted = omega (arith, e.counted, zero, i.counted);
       left = omega (arith, e.left, zero, i.left);
+      named = omega (arith, e.named, unnamed, i.named);
       deepest = e.deepest ∙ i.deepest;
       reached = e.reached;
       files = λ f all. e.files f (i.files f all);

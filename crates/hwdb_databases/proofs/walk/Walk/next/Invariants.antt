@@ -1,6 +1,6 @@
 use Rattle.std.proofs.Common.{All, List, ℕ, ◌≡◌, ◌<◌, ◌+◌, ◌≤◌, ◌^◌, None, max, reverse, length}
 use Rattle.hwdb_databases.specs.Internal.Trails.{Follows, IsSegmentIn}
-use Rattle.hwdb_databases.specs.Internal.Walks.{IsOpenIn, to_come, StandsOn, left, steps, deepest_to_come}
+use Rattle.hwdb_databases.specs.Internal.Walks.{IsOpenIn, to_come, StandsOn, left, named_left, steps, deepest_to_come}
 use Rattle.hwdb_databases.proofs.walk.Walk.next.Given as goal
 
 abbrev pub invariant-nodes : goal.invariant-nodes
@@ -11,6 +11,7 @@ invariant-nodes l = record {
   room : l.self.entered + left (reverse l.self.stack.items) < 2 ^ 64;
   counted : l.self.entered ≡ l.initial.self.entered;
   left : left (reverse l.self.stack.items) ≡ left (reverse l.initial.self.stack.items);
+  named : named_left (reverse l.self.stack.items) ≡ named_left (reverse l.initial.self.stack.items);
   deepest : max l.self.deepest (deepest_to_come (reverse l.self.stack.items)) ≡ max l.initial.self.deepest (deepest_to_come (reverse l.initial.self.stack.items));
   reached : length l.self.stack.items ≤ l.self.deepest;
   files : (f : List ℕ) → All (IsOpenIn f) l.initial.self.stack.items → All (IsOpenIn f) l.self.stack.items;

@@ -12,6 +12,8 @@ use Rattle.hwdb_databases.proofs.WalkLemmas.{own_entered, not_none, opened_size,
 use Rattle.std.proofs.lemmas.List.Elements.{All-nil}
 use Rattle.hwdb_reader.specs.Unread.{file_at}
 use Rattle.hwdb_databases.specs.Internal.Walks.{IsOpenIn}
+use Rattle.hwdb_databases.specs.Internal.Walks.{named}
+use Rattle.hwdb_databases.proofs.NamedLemmas.{named_and_below, named_entered, opened_named}
 use Rattle.hwdb_databases.proofs.walk.Walk.start_at.Goals as goal
 use Rattle.hwdb_query.specs.Lemmas.Parts.{members_split, node_and_below}
 
@@ -71,3 +73,12 @@ returns-clause-file c =
 
 pub returns-clause-copied : goal.returns-clause-copied
 returns-clause-copied c copies = c.in_ok-enter.ensures.follows.copied (c.new-walk.ensures.copied copies)
+
+pub returns-clause-named : goal.returns-clause-named
+returns-clause-named c t is =
+    let tree = tree_of c.args.root in
+    let at = named_entered c.enter.new.self.at tree c.in_ok-enter.ensures.at in
+    let below = opened_named [] c.enter.new.self.stack.items tree (length c.enter.new.self.trail.segments.items) (opened c) in
+    let all = named_and_below tree in
+    let same = ap named is in
+    omega (arith, at, below, all, same)

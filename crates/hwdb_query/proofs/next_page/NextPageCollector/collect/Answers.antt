@@ -8,13 +8,13 @@ use Rattle.hwdb_query.proofs.next_page.NextPageCollector.collect.Goals as goal
 use Rattle.hwdb_query.proofs.next_page.NextPageCollector.collect.Goals.{then-falls, else-falls}
 
 pub loop-step-init : goal.loop-step-init
-loop-step-init c = none_walked c.args.self.now c.args.pattern.now c.if-count-gt1.falls (values_of (entered_tree c.args.inside))
+loop-step-init c = none_walked c.args.self.now c.args.pattern.now c.mostly_fall-falls.result (values_of (entered_tree c.args.inside))
 
 pub loop-step-preserved : goal.loop-step-preserved
 loop-step-preserved c =
     let pattern = c.args.pattern.now in
     let values = values_of (entered_tree c.args.inside) in
-    let falls = c.if-count-gt1.falls in
+    let falls = c.mostly_fall-falls.result in
     let step = c.loop-step.step in
     let size = c.values-count.ensures in
     let within : step < length values = subst (λ n. step < n) size c.loop-step-test.true in
