@@ -1,7 +1,8 @@
 use Rattle.std.proofs.Common.{ap, map, string_bytes, sym, ◌∙◌}
 use Rattle.std.specs.Prelude.{is_some, option_map}
 use Rattle.hwdb_spec.specs.Lemmas.Calls.{each_error, each_value}
-use Rattle.hwdb_system.proofs.OverlayLemmas.{both_errors, folder_over, listing_reason, there_at, unlisted_over}
+use Rattle.hwdb_system.proofs.OverlayLemmas.{both_errors, listing_reason, unlisted_over}
+use Rattle.hwdb_system.specs.Lemmas.OverNames.{folder_over, there_at}
 use Rattle.hwdb_system.proofs.overlay.OverlaySystem.folder_names.Goals as goal
 
 pub returns-then-is_database-clause-names : goal.returns-then-is_database-clause-names

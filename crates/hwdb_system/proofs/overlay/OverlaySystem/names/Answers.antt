@@ -1,6 +1,7 @@
 use Rattle.std.proofs.Common.{map, string_bytes, sym, ◌∙◌}
 use Rattle.hwdb_spec.specs.Lemmas.Calls.{each_value}
-use Rattle.hwdb_system.proofs.OverlayLemmas.{both_errors, kept_value, listing_reason, names_over}
+use Rattle.hwdb_system.proofs.OverlayLemmas.{both_errors, kept_value, listing_reason}
+use Rattle.hwdb_system.specs.Lemmas.OverNames.{names_over}
 use Rattle.hwdb_system.proofs.overlay.OverlaySystem.names.Goals as goal
 
 pub returns-then-is_database-clause-names : goal.returns-then-is_database-clause-names
