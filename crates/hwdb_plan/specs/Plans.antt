@@ -90,6 +90,12 @@ Reaches path bytes w p result =
     MatchResult result (λ y. (next : Next) (e : End) → Ends w (next (path y) (bytes y)) e → Ends w (p next) e)
     (λ r. (r ≡ refusal.Plain error.Memory) ⊎ ((next : Next) → Ends w (p next) (Stops (stop_of r))))
 
+-- The result has a value, from which the plan goes on. Or it is what the plan ends in, whatever was to follow; or there was no memory.
+abbrev pub ReachesValue : {X Y : Type 0} (value : Y → X) → Reads → ((X → Plan) → Plan) → Result Y Refusal → Type 0
+ReachesValue {X} value w p result =
+    MatchResult result (λ y. (next : X → Plan) (e : End) → Ends w (next (value y)) e → Ends w (p next) e)
+    (λ r. (r ≡ refusal.Plain error.Memory) ⊎ ((next : X → Plan) → Ends w (p next) (Stops (stop_of r))))
+
 -- ---- other bytes in a place (`--text`)
 -- the plan over a file system whose files at some paths have these bytes: of these it asks nothing, and none of them is a folder
 unfoldable pub over : (is : List ℕ → Bool) (made : List ℕ) → Plan → Plan

@@ -79,13 +79,23 @@ names_more h xs i x old new lt at told put =
 abbrev bad : List ℕ → Bool
 bad name = not (is_utf8 name)
 
+none_here : (x : List ℕ) (a b : List (List ℕ)) → (first_misnamed a ≡ None → first_misnamed (a ++ b) ≡ first_misnamed b) → (t : Bool)
+    → cond t (Some x) (first_misnamed a) ≡ None → cond t (Some x) (first_misnamed (a ++ b)) ≡ first_misnamed b
+none_here x a b later true none = absurd (cc)
+none_here x a b later false none = later none
+
 none_before : (a b : List (List ℕ)) → first_misnamed a ≡ None → first_misnamed (a ++ b) ≡ first_misnamed b
 none_before [] b none = refl
-none_before (x ∷ a) b none = go (bad x) refl none
-  where
-    go : (t : Bool) → bad x ≡ t → cond t (Some x) (first_misnamed a) ≡ None → cond t (Some x) (first_misnamed (a ++ b)) ≡ first_misnamed b
-    go true e h = absurd (cc)
-    go false e h = none_before a b h
+none_before (x ∷ a) b none = none_here x a b (none_before a b) (bad x) none
+
+some_here : (x name : List ℕ) (a b : List (List ℕ)) → (first_misnamed a ≡ Some name → first_misnamed (a ++ b) ≡ Some name) → (t : Bool)
+    → cond t (Some x) (first_misnamed a) ≡ Some name → cond t (Some x) (first_misnamed (a ++ b)) ≡ Some name
+some_here x name a b later true is = is
+some_here x name a b later false is = later is
+
+some_before : (name : List ℕ) (a b : List (List ℕ)) → first_misnamed a ≡ Some name → first_misnamed (a ++ b) ≡ Some name
+some_before name [] b is = absurd (cc)
+some_before name (x ∷ a) b is = some_here x name a b (some_before name a b) (bad x) is
 
 one_good : (o : Option (List ℕ)) → IfSome o IsUtf8 → first_misnamed (option_to_list o) ≡ None
 one_good None utf8 = refl
@@ -95,25 +105,17 @@ pub good_more : (o : Option (List ℕ)) (old new : List (List ℕ)) → first_mi
 good_more o old new none utf8 put = ap first_misnamed put ∙ none_before old (option_to_list o) none ∙ one_good o utf8
 
 one_bad : (name : List ℕ) (after : List (List ℕ)) → is_utf8 name ≡ false → first_misnamed (name ∷ after) ≡ Some name
-one_bad name after no = ap (λ (b : Bool). cond (not b) (Some name) (first_misnamed after)) no
+one_bad name after none = ap (λ (b : Bool). cond (not b) (Some name) (first_misnamed after)) none
 
 first_bad : (h : Step → Option (List ℕ)) (xs : List Step) (i : ℕ) (x : Step) (name : List ℕ) (old : List (List ℕ)) → i < length xs → x ≡ get_or xs i x
     → old ≡ filter_map h (take i xs) → first_misnamed old ≡ None → h x ≡ Some name → is_utf8 name ≡ false → first_misnamed (filter_map h xs) ≡ Some name
-first_bad h xs i x name old lt at told none is no =
+first_bad h xs i x name old lt at told none is misnamed =
     let rest = filter_map h (drop (suc i) xs) in
     let more = names_more h xs i x old (old ++ name ∷ []) lt at told (ap (λ (o : Option (List ℕ)). old ++ option_to_list o) (sym is)) in
     let split : filter_map h xs ≡ (old ++ name ∷ []) ++ rest =
     ap (filter_map h) (sym (take-append-drop (suc i) xs)) ∙ filter_map-append h (take (suc i) xs) (drop (suc i) xs) ∙ ap (λ (l : List (List ℕ)). l ++ rest) (sym more) in
-    let one : first_misnamed (old ++ name ∷ []) ≡ Some name = none_before old (name ∷ []) none ∙ one_bad name [] no in
-    ap first_misnamed split ∙ some_before (old ++ name ∷ []) rest one
-  where
-    some_before : (a b : List (List ℕ)) → first_misnamed a ≡ Some name → first_misnamed (a ++ b) ≡ Some name
-    some_before [] b e = absurd (cc)
-    some_before (y ∷ a) b e = go (bad y) e
-      where
-        go : (t : Bool) → cond t (Some y) (first_misnamed a) ≡ Some name → cond t (Some y) (first_misnamed (a ++ b)) ≡ Some name
-        go true f = f
-        go false f = some_before a b f
+    let one : first_misnamed (old ++ name ∷ []) ≡ Some name = none_before old (name ∷ []) none ∙ one_bad name [] misnamed in
+    ap first_misnamed split ∙ some_before name (old ++ name ∷ []) rest one
 
 misnamed_as : (folder name : List ℕ) (r : Refusal) → IsMisnamedAt folder name r → (stop_of r ≡ unlisted_stop folder (Misnamed name)) × (is_utf8 name ≡ false)
 misnamed_as folder name (refusal.At error.Read at cause) is =

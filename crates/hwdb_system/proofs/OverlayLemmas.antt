@@ -9,6 +9,7 @@ use Rattle.hwdb_spec_commands.specs.Refusals.{HasReason, IsAt, IsUnlisted, IsUnr
 use Rattle.hwdb_spec.specs.declared.errors.ToolError.TheVariants.{Read, Write, TooLong, TooManyFiles, TooManyLines, TooLarge, BadPosition, BadDatabase, Replace, Memory}
 use Rattle.hwdb_spec_commands.specs.declared.refusals.Refusal.{Refusal}
 use Rattle.hwdb_spec_commands.specs.declared.refusals.Refusal.TheVariants.{At, InWords, NoDatabase, Plain}
+use Rattle.hwdb_spec_commands.specs.Told.{IsListedTo, Unlisted}
 use Rattle.hwdb_system.specs.Lemmas.OverNames.{is_database, same_at, shown, there_at}
 
 module _ (root made : List ℕ) (files : Contents) where
@@ -129,6 +130,11 @@ module _ (root made : List ℕ) (files : Contents) where
 pub kept_value : {T E : Type 0} (P Q : T → Type 0) (listed result : Result T E) → ((x : T) → P x → Q x) → IfOk result (λ x. listed ≡ Ok x) → IfOk listed P → IfOk result Q
 kept_value P Q listed (Ok x) f same p = f x (subst (λ l. IfOk l P) same p)
 kept_value P Q listed (Err e) f same p = tt
+
+pub kept_told : {Y : Type 0} (value : Y → List (List ℕ)) (answer : Result (List (List ℕ)) Unlisted) (folder : List ℕ) (listed result : Result Y Refusal)
+    → IfOk result (λ x. listed ≡ Ok x) → IfErr result (λ r. r ≡ Plain Memory) → IsListedTo value answer folder listed → IsListedTo value answer folder result
+kept_told value answer folder listed (Ok x) same memory told = subst (IsListedTo value answer folder) same told
+kept_told value answer folder listed (Err r) same memory told = inl memory
 
 pub both_errors : {T E : Type 0} (P Q R : E → Type 0) (r : Result T E) → ((e : E) → P e → Q e → R e) → IfErr r P → IfErr r Q → IfErr r R
 both_errors P Q R (Ok x) f p q = tt

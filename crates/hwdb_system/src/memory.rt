@@ -117,6 +117,7 @@ fn is_told_file(
 }
 
 /// The name of such a file that a step puts in a folder, if it is there after all steps.
+#[tactic(auto, using(crate::proofs::MemoryLemmas::unmade, crate::proofs::MemoryLemmas::unnamed, crate::proofs::MemoryLemmas::kept_name, crate::proofs::MemoryLemmas::left_name))]
 fn named_by<'a>(
     alloc: Global,
     steps: &[Step],
@@ -140,6 +141,7 @@ fn named_by<'a>(
 }
 
 /// Puts the name of the text file that a step has in a folder after the others.
+#[tactic(auto, using(crate::proofs::MemoryLemmas::put_name))]
 fn push_name(
     alloc: Global,
     steps: &[Step],
@@ -165,6 +167,7 @@ fn push_name(
 }
 
 /// Puts the name of the ignored file that a step has in a folder after the others.
+#[tactic(auto, using(crate::proofs::MemoryLemmas::put_name))]
 fn push_ignored(
     alloc: Global,
     steps: &[Step],

@@ -1,5 +1,5 @@
 -- The names that a store in memory tells of a folder are those of the files in it.
-use Rattle.std.proofs.Common.{◌≡◌, ◌∙◌, ◌⊎◌, ◌||◌, ◌+◌, inl, inr, ap, sym, refl, subst, bytes_eq, true, false, length, List, ℕ, [], ◌∷◌, ◌++◌, Option, Some, None, Result, Ok, Err, if◌then◌else◌, All, Bool}
+use Rattle.std.proofs.Common.{arith, ◌≡◌, ◌∙◌, ◌⊎◌, ◌||◌, ◌+◌, inl, inr, ap, sym, refl, subst, bytes_eq, true, false, length, List, ℕ, [], ◌∷◌, ◌++◌, Option, Some, None, Result, Ok, Err, if◌then◌else◌, All, Bool}
 use Rattle.std.specs.Prelude.{IsUtf8, is_some, option_and_then, option_map, option_to_list, not, drop, filter_map, Contains, IfSome}
 use Rattle.std.specs.List.{cons_option}
 use Rattle.std.specs.Str.{is_utf8}
@@ -117,29 +117,29 @@ module _ (ignored : Bool) (steps : List Step) (folder : List ℕ) where
       ap (λ b. if not b || has 47 name then false else is_some (bytes_after steps (path_in folder name))) is.told
       ∙ ap (λ b. if false || b then false else is_some (bytes_after steps (path_in folder name))) is.plain ∙ is.there
 
-  abbrev Kept : (path name : List ℕ) → Option (List ℕ)
-  Kept path name = if is_told_file ignored steps name path then Some name else None
+  abbrev Told : (path name : List ℕ) → Option (List ℕ)
+  Told path name = if is_told_file ignored steps name path then Some name else None
 
   kept_one : (path other name : List ℕ) (b : Bool) → is_told_file ignored steps other path ≡ b → (if b then Some other else None) ≡ Some name → (other ≡ name) × (is_told_file ignored steps other path ≡ true)
   kept_one path other name true e h = (cc, e)
   kept_one path other name false e h = absurd (cc)
 
-  step_in : (path name : List ℕ) (o : Option (List ℕ)) → name_in folder path ≡ o → option_and_then (Kept path) o ≡ Some name → IsToldIn ignored folder (seen_of steps) name
+  step_in : (path name : List ℕ) (o : Option (List ℕ)) → name_in folder path ≡ o → option_and_then (Told path) o ≡ Some name → IsToldIn ignored folder (seen_of steps) name
   step_in path name None named h = absurd (cc)
   step_in path name (Some other) named h =
       let both = kept_one path other name (is_told_file ignored steps other path) refl h in
       subst (IsToldIn ignored folder (seen_of steps)) both.0 (told_in other path (is_named_in folder path other named) both.1)
 
   -- a step's name is told
-  step_told : (name : List ℕ) (o : Option (List ℕ)) → option_and_then (λ path. option_and_then (Kept path) (name_in folder path)) o ≡ Some name → IsToldIn ignored folder (seen_of steps) name
+  step_told : (name : List ℕ) (o : Option (List ℕ)) → option_and_then (λ path. option_and_then (Told path) (name_in folder path)) o ≡ Some name → IsToldIn ignored folder (seen_of steps) name
   step_told name None h = absurd (cc)
   step_told name (Some path) h = step_in path name (name_in folder path) refl h
 
   -- a step that puts a file there that is told has its name
   told_step : (name : List ℕ) (x : Step) → IsToldIn ignored folder (seen_of steps) name → made_by x ≡ Some (path_in folder name) → step_name ignored steps folder x ≡ Some name
   told_step name x is made =
-      ap (option_and_then (λ path. option_and_then (Kept path) (name_in folder path))) made
-      ∙ ap (option_and_then (Kept (path_in folder name))) (named_in folder (path_in folder name) name refl)
+      ap (option_and_then (λ path. option_and_then (Told path) (name_in folder path))) made
+      ∙ ap (option_and_then (Told (path_in folder name))) (named_in folder (path_in folder name) name refl)
       ∙ ap (λ (b : Bool). if b then Some name else None) (is_one name is)
 
   cons_is : (o : Option (List ℕ)) (names : List (List ℕ)) → option_to_list o ++ names ≡ cons_option o names

@@ -90,16 +90,17 @@ untold : (m : Option (List ℕ)) (listing : List (List ℕ)) (u : Unlisted) → 
 untold None listing u is = absurd (cc)
 untold (Some name) listing u is = (name, refl, cc)
 
+first_here : (x name : List ℕ) (names : List (List ℕ)) → (first_misnamed names ≡ Some name → is_utf8 name ≡ false) → (b : Bool) → is_utf8 x ≡ b
+    → cond (not b) (Some x) (first_misnamed names) ≡ Some name → is_utf8 name ≡ false
+first_here x name names later true e is = later is
+first_here x name names later false e is = let same : x ≡ name = cc in ap is_utf8 (sym same) ∙ e
+
 first_is : (names : List (List ℕ)) (name : List ℕ) → first_misnamed names ≡ Some name → is_utf8 name ≡ false
 first_is [] name is = absurd (cc)
-first_is (x ∷ names) name is = go (is_utf8 x) refl is
-  where
-    go : (b : Bool) → is_utf8 x ≡ b → cond (not b) (Some x) (first_misnamed names) ≡ Some name → is_utf8 name ≡ false
-    go true e h = first_is names name h
-    go false e h = let same : x ≡ name = cc in ap is_utf8 (sym same) ∙ e
+first_is (x ∷ names) name is = first_here x name names (first_is names name) (is_utf8 x) refl is
 
 no_utf8 : (name : List ℕ) → is_utf8 name ≡ false → IsUtf8 name → ⊥
-no_utf8 name no utf8 = let given = is_utf8-from_IsUtf8 name utf8 in cc
+no_utf8 name none utf8 = let given = is_utf8-from_IsUtf8 name utf8 in cc
 
 module _ (steps : List Step) (folder : List ℕ) where
   names_ok : (names : List (List ℕ)) → names_told (names_after false steps folder) ≡ Ok names → AreNamesIn folder (seen_of steps) names
