@@ -1,5 +1,5 @@
 -- Each text of a narrower form is one of the forms that are asked.
-use Rattle.std.proofs.Common.{◌≡◌, ℕ, Bool, true, false, IsTrue, List, [], ◌∷◌, ◌++◌, ◌⊎◌, refl, subst, sym, inl, inr, arith, codes, drop, map, nat_le, suc, take, zero}
+use Rattle.std.proofs.Common.{◌≡◌, ℕ, ◌≤◌, Bool, true, false, IsTrue, List, [], ◌∷◌, ◌++◌, ◌⊎◌, refl, subst, sym, inl, inr, arith, codes, drop, map, nat_le, suc, take, zero}
 use Rattle.std.proofs.lemmas.Bool.{le-leb, leb-true}
 use Rattle.std.specs.List.{list_any}
 use Rattle.std.specs.Prelude.{if◌then◌else◌}
