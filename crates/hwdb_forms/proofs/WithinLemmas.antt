@@ -48,9 +48,9 @@ any_has : (span : ℕ × ℕ) (wide : List (ℕ × ℕ)) (b : ℕ) → IsTrue (s
 any_has span [] b w h = cc
 any_has span (first ∷ more) b w h =
     elim (either_true (if nat_le first.0 span.0 then nat_le span.1 first.1 else false) (span_within span more) w) [
-  | inl here ↦ or_first (in_span b first) (list_any (in_span b) more) (span_has span first b here h)
-  | inr later ↦ or_second (in_span b first) (list_any (in_span b) more) (any_has span more b later h)
-]
+      | inl here ↦ or_first (in_span b first) (list_any (in_span b) more) (span_has span first b here h)
+      | inr later ↦ or_second (in_span b first) (list_any (in_span b) more) (any_has span more b later h)
+    ]
 
 all_have : (spans wide : List (ℕ × ℕ)) (b : ℕ) → IsTrue (spans_within spans wide) → IsTrue (list_any (in_span b) spans) → IsTrue (list_any (in_span b) wide)
 all_have [] wide b w h = cc
@@ -170,6 +170,9 @@ field_taken (way ∷ more) w B C e k t h = elim h [
   | inr later ↦ field_taken more w B C (both_second (pieces_within way w) (ways_within more w) e) k t later
 ]
 
+taken : (field : List (List Piece)) (tail : List (List (List Piece))) (w : ByteSet) (C : List ℕ → Type 0) → IsTrue (ways_within field w) → Sub (Fields tail) (ManyThen w C) → Sub (Fields (field ∷ tail)) (ManyThen w C)
+taken field tail w C e k = field_taken field w (Fields tail) C e k
+
 -- the only way of a field
 only_way : (way : List Piece) (B D : List ℕ → Type 0) → Sub (PiecesThen way B) D → Sub (FieldThen (always way) B) D
 only_way way B D k t h = elim h [
@@ -253,43 +256,54 @@ machine_within set e tail rest k =
         (field_sub (optional (machine_pieces set (codes "sku"))) _ _
         (board set _ _ (case_within set e tail rest k)))))
 
-after_within : Sub (Fields machine_after) (Fields (always (fixed (codes "dmi:") ∷ []) ∷ dmi_fields DmiLeft))
+-- the machine's name after another text, and the tag of a case
+abbrev pub dmi_after : List (List (List Piece))
+dmi_after = always (fixed (codes "dmi:") ∷ []) ∷ dmi_fields DmiLeft
+
+abbrev pub tag : List (List (List Piece))
+tag = optional (fixed (codes "cat") ∷ repeated Left ∷ fixed (codes ":") ∷ []) ∷ []
+
+after_within : Sub (Fields machine_after) (Fields dmi_after)
 after_within = field_sub (always (fixed (codes "dmi:") ∷ [])) _ _ (machine_within DmiLeft (refl, refl) [] [] (λ t h. h))
 
 -- ---- names
-abbrev pub Name_ended : (after : List ℕ) (tail : List (List (List Piece))) → List ℕ → Type 0
-Name_ended after tail t = Fields (always (fixed after ∷ []) ∷ tail) t
-
 name_within : (before after : List ℕ) (tail rest : List (List (List Piece))) → Sub (Fields tail) (Fields rest) → Sub (Fields (likely_name before after ++ tail)) (Fields (name_field before after ∷ rest))
 name_within before after tail rest k =
-    only_way (fixed before ∷ repeated LeftButColon ∷ []) _ _ (λ t h. inl (fixed_sub before _ _ (λ u g. many_taken LeftButColon Left (FixedThen after (Fields rest)) refl u (many_sub LeftButColon _ _ parts u g)) t h))
+    only_way (fixed before ∷ repeated LeftButColon ∷ []) (Fields (name_part ∷ name_part ∷ name_part ∷ always (fixed after ∷ []) ∷ tail)) (Fields (name_field before after ∷ rest)) (λ t h. inl (fixed_sub before (ManyThen LeftButColon (Fields (name_part ∷ name_part ∷ name_part ∷ always (fixed after ∷ []) ∷ tail))) (ManyThen Left (FixedThen after (Fields rest))) (λ u g. many_taken LeftButColon Left (FixedThen after (Fields rest)) refl u (many_sub LeftButColon (Fields (name_part ∷ name_part ∷ name_part ∷ always (fixed after ∷ []) ∷ tail)) (ManyThen Left (FixedThen after (Fields rest))) parts u g)) t h))
   where
     end : Sub (Fields (always (fixed after ∷ []) ∷ tail)) (ManyThen Left (FixedThen after (Fields rest)))
-    end = only_way (fixed after ∷ []) (Fields tail) _ (many_start Left (FixedThen after (Fields tail)) (FixedThen after (Fields rest)) (fixed_sub after (Fields tail) (Fields rest) k))
+    end = only_way (fixed after ∷ []) (Fields tail) (ManyThen Left (FixedThen after (Fields rest))) (many_start Left (FixedThen after (Fields tail)) (FixedThen after (Fields rest)) (fixed_sub after (Fields tail) (Fields rest) k))
 
     parts : Sub (Fields (name_part ∷ name_part ∷ name_part ∷ always (fixed after ∷ []) ∷ tail)) (ManyThen Left (FixedThen after (Fields rest)))
-    parts = field_taken name_part Left _ _ refl (field_taken name_part Left _ _ refl (field_taken name_part Left _ _ refl end))
+    parts =
+        taken name_part (name_part ∷ name_part ∷ always (fixed after ∷ []) ∷ tail) Left (FixedThen after (Fields rest)) refl
+        (taken name_part (name_part ∷ always (fixed after ∷ []) ∷ tail) Left (FixedThen after (Fields rest)) refl
+        (taken name_part (always (fixed after ∷ []) ∷ tail) Left (FixedThen after (Fields rest)) refl end))
 
 -- a place and events
 abbrev pub placed : List Piece
 placed = fixed (codes "phys:") ∷ repeated Left ∷ fixed (codes ":ev:") ∷ repeated HexOrBlank ∷ fixed (codes ":") ∷ []
 
+abbrev pub event_pieces : List Piece
+event_pieces = fixed (codes ":ev:") ∷ repeated HexOrBlank ∷ fixed (codes ":") ∷ []
+
 place_within : (tail rest : List (List (List Piece))) → Sub (Fields tail) (Fields rest) → Sub (Fields (likely_place ++ tail)) (Fields (optional placed ∷ rest))
 place_within tail rest k =
-    only_way (fixed (codes "phys:") ∷ repeated LeftButColon ∷ []) _ _
-    (λ t h. inl (fixed_sub (codes "phys:") _ _ (λ u g. many_taken LeftButColon Left events refl u (many_sub LeftButColon _ _ parts u g)) t h))
+    only_way (fixed (codes "phys:") ∷ repeated LeftButColon ∷ []) (Fields (place_part ∷ place_part ∷ place_part ∷ place_part ∷ place_part ∷ always event_pieces ∷ tail)) (Fields (optional placed ∷ rest))
+    (λ t h. inl (fixed_sub (codes "phys:") (ManyThen LeftButColon (Fields (place_part ∷ place_part ∷ place_part ∷ place_part ∷ place_part ∷ always event_pieces ∷ tail))) (ManyThen Left (PiecesThen event_pieces (Fields rest))) (λ u g. many_taken LeftButColon Left (PiecesThen event_pieces (Fields rest)) refl u (many_sub LeftButColon (Fields (place_part ∷ place_part ∷ place_part ∷ place_part ∷ place_part ∷ always event_pieces ∷ tail)) (ManyThen Left (PiecesThen event_pieces (Fields rest))) parts u g)) t h))
   where
-    events : List ℕ → Type 0
-    events = PiecesThen (fixed (codes ":ev:") ∷ repeated HexOrBlank ∷ fixed (codes ":") ∷ []) (Fields rest)
+    end : Sub (Fields (always event_pieces ∷ tail)) (ManyThen Left (PiecesThen event_pieces (Fields rest)))
+    end =
+        only_way event_pieces (Fields tail) (ManyThen Left (PiecesThen event_pieces (Fields rest)))
+        (many_start Left (PiecesThen event_pieces (Fields tail)) (PiecesThen event_pieces (Fields rest)) (pieces_sub event_pieces (Fields tail) (Fields rest) k))
 
-    end : Sub (Fields (always (fixed (codes ":ev:") ∷ repeated HexOrBlank ∷ fixed (codes ":") ∷ []) ∷ tail)) (ManyThen Left events)
-    end = only_way (fixed (codes ":ev:") ∷ repeated HexOrBlank ∷ fixed (codes ":") ∷ []) (Fields tail) _
-        (many_start Left _ events (pieces_sub (fixed (codes ":ev:") ∷ repeated HexOrBlank ∷ fixed (codes ":") ∷ []) (Fields tail) (Fields rest) k))
-
-    parts : Sub (Fields (place_part ∷ place_part ∷ place_part ∷ place_part ∷ place_part ∷ always (fixed (codes ":ev:") ∷ repeated HexOrBlank ∷ fixed (codes ":") ∷ []) ∷ tail)) (ManyThen Left events)
+    parts : Sub (Fields (place_part ∷ place_part ∷ place_part ∷ place_part ∷ place_part ∷ always event_pieces ∷ tail)) (ManyThen Left (PiecesThen event_pieces (Fields rest)))
     parts =
-        field_taken place_part Left _ _ refl (field_taken place_part Left _ _ refl (field_taken place_part Left _ _ refl
-        (field_taken place_part Left _ _ refl (field_taken place_part Left _ _ refl end))))
+        taken place_part (place_part ∷ place_part ∷ place_part ∷ place_part ∷ always event_pieces ∷ tail) Left (PiecesThen event_pieces (Fields rest)) refl
+        (taken place_part (place_part ∷ place_part ∷ place_part ∷ always event_pieces ∷ tail) Left (PiecesThen event_pieces (Fields rest)) refl
+        (taken place_part (place_part ∷ place_part ∷ always event_pieces ∷ tail) Left (PiecesThen event_pieces (Fields rest)) refl
+        (taken place_part (place_part ∷ always event_pieces ∷ tail) Left (PiecesThen event_pieces (Fields rest)) refl
+        (taken place_part (always event_pieces ∷ tail) Left (PiecesThen event_pieces (Fields rest)) refl end))))
 
 -- ---- sensors
 abbrev pub colon : List Piece
@@ -323,14 +337,18 @@ sensed_within tail rest k =
     way_or_none (repeated LeftButColon ∷ fixed (codes ":") ∷ []) behind _ _ (λ t h. many_wide LeftButColon Left _ _ refl (fixed_sub (codes ":") _ _ named) t h) named
   where
     end : Sub (Fields (always colon ∷ tail)) (ManyThen Left (FixedThen (codes ":") (Fields rest)))
-    end = only_way colon (Fields tail) _ (many_start Left (FixedThen (codes ":") (Fields tail)) (FixedThen (codes ":") (Fields rest)) (fixed_sub (codes ":") (Fields tail) (Fields rest) k))
+    end = only_way colon (Fields tail) (ManyThen Left (FixedThen (codes ":") (Fields rest))) (many_start Left (FixedThen (codes ":") (Fields tail)) (FixedThen (codes ":") (Fields rest)) (fixed_sub (codes ":") (Fields tail) (Fields rest) k))
 
     parts : Sub (Fields (more_ids ∷ more_ids ∷ optional colon ∷ always colon ∷ tail)) (ManyThen Left (FixedThen (codes ":") (Fields rest)))
-    parts = field_taken more_ids Left _ _ refl (field_taken more_ids Left _ _ refl (field_taken (optional colon) Left _ _ refl end))
+    parts =
+        taken more_ids (more_ids ∷ optional colon ∷ always colon ∷ tail) Left (FixedThen (codes ":") (Fields rest)) refl
+        (taken more_ids (optional colon ∷ always colon ∷ tail) Left (FixedThen (codes ":") (Fields rest)) refl
+        (taken (optional colon) (always colon ∷ tail) Left (FixedThen (codes ":") (Fields rest)) refl end))
 
     named : Sub (Fields (map on_it (codes "acpi" ∷ codes "platform" ∷ codes "i2c" ∷ codes "of" ∷ codes "usb" ∷ []) ∷ more_ids ∷ more_ids ∷ optional colon ∷ always colon ∷ tail))
         (Fields (always modalias ∷ optional behind ∷ rest))
-    named = buses_within (codes "acpi" ∷ codes "platform" ∷ codes "i2c" ∷ codes "of" ∷ codes "usb" ∷ []) _ (Fields rest) refl parts
+    named =
+        buses_within (codes "acpi" ∷ codes "platform" ∷ codes "i2c" ∷ codes "of" ∷ codes "usb" ∷ []) (Fields (more_ids ∷ more_ids ∷ optional colon ∷ always colon ∷ tail)) (Fields rest) refl parts
 
 -- ---- two names
 names_within : (tail rest : List (List (List Piece))) → Sub (Fields tail) (Fields rest) → Sub (Fields (LikelyForms.likely_names ++ tail)) (Fields (FormTable.two_names ++ rest))
@@ -364,10 +382,37 @@ one_of (form ∷ more) e text h = elim h [
 
 kept_asked : Every Form IsAskedText kept
 unfolding kept known
-kept_asked =
-    (asked_at 0 FormTable.usb refl, (asked_at 1 FormTable.pci refl, (asked_at 2 FormTable.bluetooth refl, (asked_at 3 FormTable.acpi refl, (asked_at 5 FormTable.evdev_input refl,
-    (asked_at 7 FormTable.evdev_keyboard refl, (asked_at 10 FormTable.id_input refl, (asked_at 21 FormTable.ieee1394_node refl, (asked_at 22 FormTable.ieee1394_unit refl, (asked_at 23 FormTable.oui refl,
-    (asked_at 24 FormTable.net refl, (asked_at 25 FormTable.sdio refl, (asked_at 26 FormTable.vmbus refl, (asked_at 27 FormTable.fb refl, (asked_at 28 FormTable.tpm2 refl, (asked_at 29 FormTable.block refl, tt))))))))))))))))
+kept_asked = (
+  asked_at 0 FormTable.usb refl,
+  (
+    asked_at 1 FormTable.pci refl,
+    (
+      asked_at 2 FormTable.bluetooth refl,
+      (
+        asked_at 3 FormTable.acpi refl,
+        (
+          asked_at 5 FormTable.evdev_input refl,
+          (
+            asked_at 7 FormTable.evdev_keyboard refl,
+            (
+              asked_at 10 FormTable.id_input refl,
+              (
+                asked_at 21 FormTable.ieee1394_node refl,
+                (
+                  asked_at 22 FormTable.ieee1394_unit refl,
+                  (
+                    asked_at 23 FormTable.oui refl,
+                    (asked_at 24 FormTable.net refl, (asked_at 25 FormTable.sdio refl, (asked_at 26 FormTable.vmbus refl, (asked_at 27 FormTable.fb refl, (asked_at 28 FormTable.tpm2 refl, (asked_at 29 FormTable.block refl, tt)))))),
+                  ),
+                ),
+              ),
+            ),
+          ),
+        ),
+      ),
+    ),
+  ),
+)
 
 -- each of the wide ones is asked
 dmi_asked : IsAskedText FormTable.dmi
@@ -432,23 +477,52 @@ bus_within =
 
 narrow_asked : Every Form IsAskedText (map (λ k. k.form) narrow)
 unfolding narrow
-narrow_asked =
-    (within LikelyForms.dmi FormTable.dmi refl (machine_within Dmi (refl, refl) _ _ (λ t h. h)) dmi_asked,
-    (within LikelyForms.evdev_machine FormTable.evdev_machine refl (only_way (fixed (codes "atkbd:") ∷ []) _ _ (λ t h. inl (fixed_sub (codes "atkbd:") _ _ (only_way (fixed (codes "dmi:") ∷ []) _ _ (fixed_sub (codes "dmi:") _ _ (machine_within DmiLeft (refl, refl) [] [] (λ u g. g)))) t h))) evdev_machine_asked,
-    (within LikelyForms.evdev_name_machine FormTable.evdev_name_machine refl (name_within (codes "name:") (codes ":") machine_after _ (λ t h. inr (inl (after_within t h)))) evdev_name_machine_asked,
-    (within LikelyForms.evdev_place_machine FormTable.evdev_name_machine refl (name_within (codes "name:") (codes ":") (likely_place ++ machine_after) _ (place_within machine_after _ after_within)) evdev_name_machine_asked,
-    (within LikelyForms.evdev_name FormTable.evdev_name refl (name_within (codes "name:") (codes ":") [] _ (λ t h. inr (inl h))) evdev_name_asked,
-    (within LikelyForms.evdev_place FormTable.evdev_name refl (name_within (codes "name:") (codes ":") likely_place _ (place_within [] [] (λ t h. h))) evdev_name_asked,
-    (within LikelyForms.id_input_name FormTable.id_input_name refl bus_within id_input_name_asked,
-    (within LikelyForms.mouse FormTable.mouse refl (field_sub ((fixed (codes "usb:") ∷ pair LowerHex) ∷ (fixed (codes "bluetooth:") ∷ pair LowerHex) ∷ (fixed (codes "ps2:") ∷ []) ∷ []) _ _ (name_within (codes ":name:") (codes ":") [] [] (λ t h. h))) mouse_asked,
-    (within LikelyForms.touchpad FormTable.touchpad refl bus_within touchpad_asked,
-    (within LikelyForms.joystick FormTable.joystick refl bus_within joystick_asked,
-    (within LikelyForms.camera FormTable.camera refl (field_sub (always (fixed (codes "usb:") ∷ pair LowerHex)) _ _ (name_within (codes ":name:") (codes ":") [] [] (λ t h. h))) camera_asked,
-    (within LikelyForms.sensor_machine FormTable.sensor_machine refl (sensed_within machine_after _ after_within) sensor_machine_asked,
-    (within LikelyForms.sensor FormTable.sensor refl (sensed_within [] [] (λ t h. h)) sensor_asked,
-    (within LikelyForms.battery_machine FormTable.battery_machine refl (names_within machine_after _ after_within) battery_machine_asked,
-    (within LikelyForms.battery FormTable.battery refl (names_within [] [] (λ t h. h)) battery_asked,
-    (within LikelyForms.libwacom FormTable.libwacom refl (name_within (codes "name:") (codes ":") (always input_pieces ∷ []) (always input_pieces ∷ []) (λ t h. h)) libwacom_asked, tt))))))))))))))))
+narrow_asked = (
+  within LikelyForms.dmi FormTable.dmi refl (machine_within Dmi (refl, refl) tag tag (λ t h. h)) dmi_asked,
+  (
+    within LikelyForms.evdev_machine FormTable.evdev_machine refl (only_way (fixed (codes "atkbd:") ∷ []) _ _ (λ t h. inl (fixed_sub (codes "atkbd:") _ _ (only_way (fixed (codes "dmi:") ∷ []) _ _ (fixed_sub (codes "dmi:") _ _ (machine_within DmiLeft (refl, refl) [] [] (λ u g. g)))) t h))) evdev_machine_asked,
+    (
+      within LikelyForms.evdev_name_machine FormTable.evdev_name_machine refl (name_within (codes "name:") (codes ":") machine_after (optional placed ∷ dmi_after) (λ t h. inr (inl (after_within t h)))) evdev_name_machine_asked,
+      (
+        within LikelyForms.evdev_place_machine FormTable.evdev_name_machine refl (name_within (codes "name:") (codes ":") (likely_place ++ machine_after) (optional placed ∷ dmi_after) (place_within machine_after dmi_after after_within)) evdev_name_machine_asked,
+        (
+          within LikelyForms.evdev_name FormTable.evdev_name refl (name_within (codes "name:") (codes ":") [] (optional placed ∷ []) (λ t h. inr (inl h))) evdev_name_asked,
+          (
+            within LikelyForms.evdev_place FormTable.evdev_name refl (name_within (codes "name:") (codes ":") likely_place (optional placed ∷ []) (place_within [] [] (λ t h. h))) evdev_name_asked,
+            (
+              within LikelyForms.id_input_name FormTable.id_input_name refl bus_within id_input_name_asked,
+              (
+                within LikelyForms.mouse FormTable.mouse refl (field_sub ((fixed (codes "usb:") ∷ pair LowerHex) ∷ (fixed (codes "bluetooth:") ∷ pair LowerHex) ∷ (fixed (codes "ps2:") ∷ []) ∷ []) _ _ (name_within (codes ":name:") (codes ":") [] [] (λ t h. h))) mouse_asked,
+                (
+                  within LikelyForms.touchpad FormTable.touchpad refl bus_within touchpad_asked,
+                  (
+                    within LikelyForms.joystick FormTable.joystick refl bus_within joystick_asked,
+                    (
+                      within LikelyForms.camera FormTable.camera refl (field_sub (always (fixed (codes "usb:") ∷ pair LowerHex)) _ _ (name_within (codes ":name:") (codes ":") [] [] (λ t h. h))) camera_asked,
+                      (
+                        within LikelyForms.sensor_machine FormTable.sensor_machine refl (sensed_within machine_after dmi_after after_within) sensor_machine_asked,
+                        (
+                          within LikelyForms.sensor FormTable.sensor refl (sensed_within [] [] (λ t h. h)) sensor_asked,
+                          (
+                            within LikelyForms.battery_machine FormTable.battery_machine refl (names_within machine_after dmi_after after_within) battery_machine_asked,
+                            (
+                              within LikelyForms.battery FormTable.battery refl (names_within [] [] (λ t h. h)) battery_asked,
+                              (within LikelyForms.libwacom FormTable.libwacom refl (name_within (codes "name:") (codes ":") (always input_pieces ∷ []) (always input_pieces ∷ []) (λ t h. h)) libwacom_asked, tt),
+                            ),
+                          ),
+                        ),
+                      ),
+                    ),
+                  ),
+                ),
+              ),
+            ),
+          ),
+        ),
+      ),
+    ),
+  ),
+)
 
 -- of two lists of forms
 has_parted : (some others : List Form) (text : List ℕ) → HasOneOf (some ++ others) text → HasOneOf some text ⊎ HasOneOf others text
