@@ -17,7 +17,7 @@ machine_pieces set name = fixed name ∷ repeated set ∷ fixed (codes ":") ∷ 
 abbrev pub release_pieces : List ℕ → List Piece
 release_pieces name = fixed name ∷ repeated UpperHex ∷ fixed (codes ".") ∷ repeated UpperHex ∷ fixed (codes ":") ∷ []
 
--- what may come after the fields that were there first: `sku` is the last one since Linux 5.15
+-- the fields of the case, and after them `sku`, which is there since Linux 5.15
 abbrev pub case_fields : ByteSet → List (List (List Piece))
 case_fields set =
     always (machine_pieces set (codes "cvn")) ∷ always (fixed (codes "ct") ∷ repeated UpperHex ∷ fixed (codes ":") ∷ [])
@@ -84,33 +84,41 @@ likely_sensed =
 
 -- ---- the forms
 
+-- the machine by itself, with the tag of its case or without
 abbrev pub dmi : Form
 dmi = record {
   prefix = codes "dmi:";
   fields = machine_fields Dmi ++ optional (fixed (codes "cat") ∷ repeated Left ∷ fixed (codes ":") ∷ []) ∷ [];
 }
 
+-- a keyboard of the machine
 abbrev pub evdev_machine : Form
 evdev_machine = record { prefix = codes "evdev:"; fields = always (fixed (codes "atkbd:") ∷ []) ∷ machine_after }
 
+-- an input device by its name, with the machine
 abbrev pub evdev_name_machine : Form
 evdev_name_machine = record { prefix = codes "evdev:"; fields = likely_name (codes "name:") (codes ":") ++ machine_after }
 
+-- the same with its place and its events
 abbrev pub evdev_place_machine : Form
 evdev_place_machine = record {
   prefix = codes "evdev:";
   fields = likely_name (codes "name:") (codes ":") ++ (likely_place ++ machine_after);
 }
 
+-- an input device by its name alone
 abbrev pub evdev_name : Form
 evdev_name = record { prefix = codes "evdev:"; fields = likely_name (codes "name:") (codes ":") }
 
+-- the same with its place and its events
 abbrev pub evdev_place : Form
 evdev_place = record { prefix = codes "evdev:"; fields = likely_name (codes "name:") (codes ":") ++ likely_place }
 
+-- an input device by its bus, its numbers and its name
 abbrev pub id_input_name : Form
 id_input_name = record { prefix = codes "id-input:"; fields = likely_bus }
 
+-- a mouse: on PS/2 it has no numbers
 abbrev pub mouse : Form
 mouse = record {
   prefix = codes "mouse:";
@@ -118,21 +126,26 @@ mouse = record {
       ∷ likely_name (codes ":name:") (codes ":");
 }
 
+-- a touchpad
 abbrev pub touchpad : Form
 touchpad = record { prefix = codes "touchpad:"; fields = likely_bus }
 
+-- a joystick
 abbrev pub joystick : Form
 joystick = record { prefix = codes "joystick:"; fields = likely_bus }
 
+-- a camera
 abbrev pub camera : Form
 camera = record {
   prefix = codes "camera:";
   fields = always (fixed (codes "usb:") ∷ pair LowerHex) ∷ likely_name (codes ":name:") (codes ":");
 }
 
+-- a sensor, with the machine
 abbrev pub sensor_machine : Form
 sensor_machine = record { prefix = codes "sensor:"; fields = likely_sensed ++ machine_after }
 
+-- a sensor alone
 abbrev pub sensor : Form
 sensor = record { prefix = codes "sensor:"; fields = likely_sensed }
 
@@ -140,12 +153,15 @@ sensor = record { prefix = codes "sensor:"; fields = likely_sensed }
 abbrev pub likely_names : List (List (List Piece))
 likely_names = always (repeated LeftButColon ∷ fixed (codes ":") ∷ repeated LeftButColon ∷ fixed (codes ":") ∷ []) ∷ []
 
+-- a battery, with the machine
 abbrev pub battery_machine : Form
 battery_machine = record { prefix = codes "battery:"; fields = likely_names ++ machine_after }
 
+-- a battery alone
 abbrev pub battery : Form
 battery = record { prefix = codes "battery:"; fields = likely_names }
 
+-- a tablet
 abbrev pub libwacom : Form
 libwacom = record {
   prefix = codes "libwacom:";
