@@ -1,4 +1,5 @@
-use Rattle.std.proofs.Common.{◌-◌, ◌∙◌, arith, length, refl, sym}
+use Rattle.std.proofs.Common.{◌≡◌, ◌-◌, ◌∙◌, ℕ, ap, arith, false, length, refl, sym}
+use Rattle.std.specs.Prelude.{replicate}
 use Rattle.hwdb_spec.specs.Patterns.{token_at}
 use Rattle.hwdb_forms.specs.Internal.{places}
 use Rattle.hwdb_forms.proofs.StepLemmas.{place_told}
@@ -6,11 +7,13 @@ use Rattle.hwdb_forms.proofs.WalkLemmas.{all_left, left_place, made_long, passed
 use Rattle.hwdb_forms.proofs.walks.past_byte.Goals as goal
 
 pub loop-at-init : goal.loop-at-init
-loop-at-init c = record {
+loop-at-init c =
+    let long : c.len.result ≡ length c.args.now.items = omega arith in
+    let made = c.in_ok-next.ensures.items_if_clones_equal (λ y e. e) ∙ ap (λ (n : ℕ). replicate n false) long in record {
   within = omega arith;
   now = refl;
-  next = made_long c.in_ok-next.next.items (length c.args.now.items) (c.in_ok-next.ensures.items_if_clones_equal (λ y e. e));
-  left = λ us. all_left c.args.now.items c.in_ok-next.next.items (places c.args.steps.now) (length c.args.now.items) (token_at c.args.text.now) us refl (c.in_ok-next.ensures.items_if_clones_equal (λ y e. e));
+  next = made_long c.in_ok-next.next.items (length c.args.now.items) made;
+  left = λ us. all_left c.args.now.items c.in_ok-next.next.items (places c.args.steps.now) c.len-at.result (token_at c.args.text.now) us (omega arith) (made ∙ ap (λ (n : ℕ). replicate n false) (omega arith));
 }
 
 pub loop-at-preserved-then-index : goal.loop-at-preserved-then-index
