@@ -1,4 +1,4 @@
-use Rattle.std.proofs.Common.{arith, eqb-true, length, sym, ◌∙◌, ◌≤◌}
+use Rattle.std.proofs.Common.{arith, eqb-true, length, sym, ◌∙◌}
 use Rattle.std.proofs.lemmas.Bool.{le-ltb}
 use Rattle.hwdb_forms.proofs.expecting.known_after.Goals as goal
 
