@@ -83,7 +83,7 @@ _hwdb() {
         [--devices]='FILE'
     )
     local -A kinds_of=(
-        [KIND]='byte-order-mark leading-tab carriage-return open-bracket empty-range spaced-equals cut-value repeated-match replaced near-name old-name scan-code unknown-key unfit-value zero-row singular-matrix two-defaults unread unknown-property unpaired unknown-prefix dead-pattern too-long-for-udev'
+        [KIND]='byte-order-mark leading-tab carriage-return open-bracket empty-range spaced-equals cut-value repeated-match replaced near-name old-name scan-code unknown-key unfit-value zero-row singular-matrix two-defaults unread unknown-property unpaired unknown-prefix dead-pattern unlikely-pattern too-long-for-udev'
         [WHEN]='auto always never'
     )
     # Until here.

@@ -1,20 +1,25 @@
 -- The laws.
-use Rattle.std.proofs.Common.{◌≡◌, ◌∙◌, ◌⊎◌, ◌||◌, ◌+◌, ◌++◌, ◌-◌, ◌<◌, ◌≤◌, ◌==◌, ap, sym, refl, subst, inl, inr, arith, append_assoc, eqb-true, ℕ, zero, suc, Bool, true, false, List, [], ◌∷◌, length, get_or}
+use Rattle.std.proofs.Common.{◌≡◌, ◌∙◌, ◌⊎◌, ◌||◌, ◌+◌, ◌++◌, ◌-◌, ◌<◌, ◌≤◌, ◌==◌, ap, sym, refl, subst, ◌↔◌, inl, inr, arith, append_assoc, eqb-true, ℕ, zero, suc, Bool, true, false, List, [], ◌∷◌, length, get_or}
 use Rattle.std.specs.Prelude.{Contains, flat_map, nat_lt, if◌then◌else◌}
 use Rattle.std.specs.List.{list_any}
 use Rattle.std.specs.Ordering.{is_eq}
 use Rattle.std.proofs.lemmas.Bool.{le-ltb}
 use Rattle.std.proofs.lemmas.Cmp.{nat_list_cmp_total, tied_itself}
 use Rattle.hwdb_spec.specs.Folders.{same}
-use Rattle.hwdb_spec.specs.Forms.{all_bytes_from}
+use Rattle.hwdb_spec.specs.Forms.{CanMatch, Form, all_bytes_from, can_match, is_unknown, judged}
 use Rattle.hwdb_spec_commands.specs.Kinds.{warning_name}
 use Rattle.hwdb_spec.specs.Lines.{begins_with, byte, is_none, max_pattern, pieces}
-use Rattle.hwdb_spec_commands.specs.Unmatched.{compare_hint, expected_after, judgement_of, runs_from}
+use Rattle.hwdb_spec_commands.specs.Unmatched.{compare_hint, expected_after, is_unmatched, judgement_of, likelihood_of, likely_after, runs_from}
+use Rattle.hwdb_spec_commands.specs.FormTable.{asked}
+use Rattle.hwdb_spec_commands.specs.LikelyForms.{likely}
+use Rattle.hwdb_spec.specs.Patterns.{Token, tokens}
+use Rattle.hwdb_forms.specs.Laws.{FormsAreTested}
+use Rattle.hwdb_spec.specs.declared.Judgement.{Judgement}
 use Rattle.hwdb_spec.specs.declared.Judgement.TheVariants.{Dead, Fine, UnknownPrefix}
-use Rattle.hwdb_spec_commands.specs.declared.WarningKind.TheVariants.{ByteOrderMark, CarriageReturn, CutValue, EmptyRange, LeadingTab, MayBeTooDeep, Misused, OpenBracket, RepeatedMatch, Replaced, SpacedEquals, TooLongForUdev, Unmatched, Unpaired, Unread}
+use Rattle.hwdb_spec_commands.specs.declared.WarningKind.TheVariants.{ByteOrderMark, CarriageReturn, CutValue, EmptyRange, LeadingTab, MayBeTooDeep, Misused, OpenBracket, RepeatedMatch, Replaced, SpacedEquals, TooLongForUdev, Unlikely, Unmatched, Unpaired, Unread}
 use Rattle.hwdb_spec_commands.specs.declared.WarningKind.{WarningKind}
 use Rattle.hwdb_spec_commands.specs.declared.vocabulary.Misuse.TheVariants.{NearName, OldName, ScanCode, SingularMatrix, TwoDefaults, UnfitValue, UnknownKey, ZeroRow}
-use Rattle.hwdb_check.specs.Laws.{KindsAreNamed, PatternsAreJudged, RunsAreAll, TooDeepRows, TooLongRows, UnmatchedRows, kind_number, kinds, run_bytes}
+use Rattle.hwdb_check.specs.Laws.{KindsAreNamed, LikelihoodIsJudged, PatternsAreJudged, RunsAreAll, TooDeepRows, TooLongRows, UnmatchedRows, kind_number, kinds, run_bytes}
 
 -- ---- runs
 one_more : (n first : ℕ) → all_bytes_from (suc n) first ≡ all_bytes_from n first ++ (n + first) ∷ []
@@ -66,6 +71,72 @@ judged_patterns = record {
       ∙ if_false (nat_lt max_pattern (length text)) Fine _ (le-ltb max_pattern (length text) short);
   hints = λ front short. if_false (nat_lt 256 (length front)) compare_hint _ (le-ltb 256 (length front) short);
   place = λ place pattern. refl;
+  nothing = refl;
+  property = refl;
+  tab = refl;
+}
+
+-- whether something is said of a pattern, by its forms
+told_by : (b u : Bool) (n : ℕ) → is_unmatched (if b then Fine else (if u then UnknownPrefix else Dead n)) ≡ (if b then false else true)
+told_by true u n = refl
+told_by false true n = refl
+told_by false false n = refl
+
+told_is : (forms : List Form) (text : List ℕ) → is_unmatched (judged forms text) ≡ (if can_match forms (tokens text) then false else true)
+told_is forms text = told_by (can_match forms (tokens text)) (is_unknown forms text) _
+
+likelihood_is : (text : List ℕ) → is_none text ≡ false → begins_with (byte " ") text ≡ false → begins_with (byte "\t") text ≡ false
+    → length text ≤ max_pattern → likelihood_of text ≡ (if is_unmatched (judged asked text) then Fine else judged likely text)
+unfolding likelihood_of
+likelihood_is text none space tab short =
+    if_false (is_none text) Fine _ none ∙ if_false (begins_with (byte " ") text) Fine _ space ∙ if_false (begins_with (byte "\t") text) Fine _ tab
+    ∙ if_false (nat_lt max_pattern (length text)) Fine _ (le-ltb max_pattern (length text) short)
+
+-- told exactly if one is met and the other one isn't
+exactly_by : (a l : Bool) (fine other : Judgement) → is_unmatched fine ≡ (if l then false else true)
+    → (is_unmatched (if (if a then false else true) then Fine else fine) ≡ true) ↔ ((a ≡ true) × (l ≡ true → ⊥))
+exactly_by true true fine other e = (λ h. absurd (let no : true ≡ false = sym h ∙ e in cc), λ p. absurd (p.1 refl))
+exactly_by true false fine other e = (λ h. (refl, λ k. cc), λ p. e)
+exactly_by false l fine other e = (λ h. cc, λ p. (let no : false ≡ true = p.0 in cc))
+
+is_exact : FormsAreTested → (text : List ℕ)
+    → (is_unmatched (if is_unmatched (judged asked text) then Fine else judged likely text) ≡ true) ↔ (CanMatch asked (tokens text) × (CanMatch likely (tokens text) → ⊥))
+is_exact tested text =
+    let ts = tokens text in
+    let same : is_unmatched (judged asked text) ≡ (if can_match asked ts then false else true) = told_is asked text in
+    let both = exactly_by (can_match asked ts) (can_match likely ts) (judged likely text) Fine (told_is likely text) in (
+      λ h. (let p = both.0 (sym (ap (λ (b : Bool). is_unmatched (if b then Fine else judged likely text)) same) ∙ h) in ((tested asked ts).0 p.0, λ m. p.1 ((tested likely ts).1 m))),
+      λ p. ap (λ (b : Bool). is_unmatched (if b then Fine else judged likely text)) same ∙ both.1 ((tested asked ts).1 p.0, λ k. p.1 ((tested likely ts).0 k)),
+    )
+
+told_once_by : (n s t l u : Bool) (j k : Judgement) → is_unmatched j ≡ u
+    → is_unmatched (if n then Fine else (if s then Fine else (if t then Fine else (if l then Fine else j)))) ≡ true
+    → (if n then Fine else (if s then Fine else (if t then Fine else (if l then Fine else (if u then Fine else k))))) ≡ Fine
+told_once_by true s t l u j k e h = refl
+told_once_by false true t l u j k e h = refl
+told_once_by false false true l u j k e h = refl
+told_once_by false false false true u j k e h = refl
+told_once_by false false false false true j k e h = refl
+told_once_by false false false false false j k e h = absurd (let no : true ≡ false = sym h ∙ e in cc)
+
+once_told : (text : List ℕ) → is_unmatched (judgement_of text) ≡ true → likelihood_of text ≡ Fine
+unfolding judgement_of likelihood_of
+once_told text h =
+    told_once_by (is_none text) (begins_with (byte " ") text) (begins_with (byte "\t") text) (nat_lt max_pattern (length text)) (is_unmatched (judged asked text)) (judged asked text) (judged likely text) refl h
+
+pub judged_likelihood : FormsAreTested → LikelihoodIsJudged
+unfolding likelihood_of likely_after all_bytes_from
+judged_likelihood tested = record {
+  judges = λ text none space tab short fine. likelihood_is text none space tab short ∙ if_false (is_unmatched (judged asked text)) Fine (judged likely text) fine;
+  told_once = once_told;
+  exactly = λ text none space tab short. (
+    λ h. (is_exact tested text).0 (sym (ap is_unmatched (likelihood_is text none space tab short)) ∙ h),
+    λ p. ap is_unmatched (likelihood_is text none space tab short) ∙ (is_exact tested text).1 p,
+  );
+  hints = λ front short. if_false (nat_lt 256 (length front)) compare_hint _ (le-ltb 256 (length front) short);
+  long = refl;
+  begins = refl;
+  said = refl;
   nothing = refl;
   property = refl;
   tab = refl;
@@ -125,7 +196,7 @@ names = kinds ++ [] ∷ []
 
 -- where a kind's name is
 abbrev IsAt : WarningKind → Type 0
-IsAt kind = (kind_number kind < 24) × (warning_name kind ≡ get_or names (kind_number kind) [])
+IsAt kind = (kind_number kind < 25) × (warning_name kind ≡ get_or names (kind_number kind) [])
 
 are_distinct : distinct names ≡ true
 unfolding distinct pieces
@@ -156,18 +227,19 @@ at Unpaired = (omega arith, refl)
 at (Unmatched UnknownPrefix) = (omega arith, refl)
 at (Unmatched (Dead place)) = (omega arith, refl)
 at (Unmatched Fine) = (omega arith, refl)
+at (Unlikely told) = (omega arith, refl)
 at TooLongForUdev = (omega arith, refl)
 at MayBeTooDeep = (omega arith, refl)
 
-long : length names ≡ 24
+long : length names ≡ 25
 unfolding pieces
 long = refl
 
-among : (n : ℕ) (name : List ℕ) → n < 24 → name ≡ get_or names n [] → (n ≡ 23) ⊎ Contains kinds name
+among : (n : ℕ) (name : List ℕ) → n < 25 → name ≡ get_or names n [] → (n ≡ 24) ⊎ Contains kinds name
 unfolding pieces
-among n name lt is = by (n == 23) refl
+among n name lt is = by (n == 24) refl
   where
-    short : length kinds ≡ 23
+    short : length kinds ≡ 24
     short = refl
 
     in_front : (xs : List (List ℕ)) (i : ℕ) → i < length xs → get_or (xs ++ [] ∷ []) i [] ≡ get_or xs i name
@@ -175,10 +247,10 @@ among n name lt is = by (n == 23) refl
     in_front (x ∷ xs) zero h = refl
     in_front (x ∷ xs) (suc i) h = in_front xs i (omega (arith, h))
 
-    by : (c : Bool) → (n == 23) ≡ c → (n ≡ 23) ⊎ Contains kinds name
-    by true e = inl (eqb-true n 23 e)
+    by : (c : Bool) → (n == 24) ≡ c → (n ≡ 24) ⊎ Contains kinds name
+    by true e = inl (eqb-true n 24 e)
     by false e =
-        let other : n ≡ 23 → ⊥ = λ k. (let t : (n == 23) ≡ true = ap (λ (m : ℕ). m == 23) k in let both : true ≡ false = sym t ∙ e in cc) in
+        let other : n ≡ 24 → ⊥ = λ k. (let t : (n == 24) ≡ true = ap (λ (m : ℕ). m == 24) k in let both : true ≡ false = sym t ∙ e in cc) in
         let h : n < length kinds = subst (λ (m : ℕ). n < m) (sym short) (omega (arith, lt, other)) in
         inr (n, h, sym (in_front kinds n h) ∙ sym is)
 
@@ -212,7 +284,7 @@ named_kinds = record {
   all = (
     ByteOrderMark ∷ LeadingTab ∷ CarriageReturn ∷ OpenBracket ∷ EmptyRange ∷ SpacedEquals ∷ CutValue ∷ RepeatedMatch ∷ Replaced 0 ∷ Misused NearName ∷ Misused OldName
         ∷ Misused ScanCode ∷ Misused UnknownKey ∷ Misused UnfitValue ∷ Misused ZeroRow ∷ Misused SingularMatrix ∷ Misused TwoDefaults
-        ∷ Unread true ∷ Unread false ∷ Unpaired ∷ Unmatched UnknownPrefix ∷ Unmatched (Dead 0) ∷ TooLongForUdev ∷ [],
+        ∷ Unread true ∷ Unread false ∷ Unpaired ∷ Unmatched UnknownPrefix ∷ Unmatched (Dead 0) ∷ Unlikely Fine ∷ TooLongForUdev ∷ [],
     refl,
   );
   own = λ one two e.

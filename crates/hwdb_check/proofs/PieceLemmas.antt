@@ -2,7 +2,7 @@
 use Rattle.std.proofs.Common.{◌≡◌, ◌∙◌, ◌++◌, ℕ, List, ap, append_assoc, refl}
 use Rattle.hwdb_spec_commands.specs.Warnings.{warning_hint}
 use Rattle.hwdb_spec_commands.specs.declared.WarningKind.{WarningKind}
-use Rattle.hwdb_spec_commands.specs.declared.WarningKind.TheVariants.{ByteOrderMark, CarriageReturn, CutValue, EmptyRange, LeadingTab, MayBeTooDeep, Misused, OpenBracket, RepeatedMatch, Replaced, SpacedEquals, TooLongForUdev, Unmatched, Unpaired, Unread}
+use Rattle.hwdb_spec_commands.specs.declared.WarningKind.TheVariants.{ByteOrderMark, CarriageReturn, CutValue, EmptyRange, LeadingTab, MayBeTooDeep, Misused, OpenBracket, RepeatedMatch, Replaced, SpacedEquals, TooLongForUdev, Unlikely, Unmatched, Unpaired, Unread}
 use Rattle.hwdb_check.specs.Internal.{line_of}
 
 pub four_pieces : (a b c d one two three four : List ℕ) → b ≡ a ++ one → c ≡ b ++ two → d ≡ c ++ three → d ++ four ≡ a ++ (one ++ (two ++ (three ++ four)))
@@ -24,5 +24,6 @@ same_hint (Misused why) n m t = refl
 same_hint (Unread known) n m t = refl
 same_hint Unpaired n m t = refl
 same_hint (Unmatched told) n m t = refl
+same_hint (Unlikely told) n m t = refl
 same_hint TooLongForUdev n m t = refl
 same_hint MayBeTooDeep n m t = refl

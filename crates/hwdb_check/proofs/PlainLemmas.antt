@@ -18,7 +18,7 @@ use Rattle.hwdb_spec.specs.Lines.{Line, begins_with, byte, clean_line, has, has_
 use Rattle.hwdb_spec_commands.specs.Properties.{before, misuse}
 use Rattle.hwdb_spec.specs.Records.{assignments, faults}
 use Rattle.hwdb_spec_commands.specs.Surroundings.{is_alone, is_elsewhere, is_given, is_read_below, is_unpaired, is_unread, prefix_of}
-use Rattle.hwdb_spec_commands.specs.Unmatched.{is_unmatched, judgement_of}
+use Rattle.hwdb_spec_commands.specs.Unmatched.{is_unmatched, judgement_of, likelihood_of}
 use Rattle.hwdb_spec_commands.specs.Warnings.{all_warnings, greatest, is_cut, line_kinds, is_spaced, line_warnings, repeated_lines, replacing}
 use Rattle.hwdb_spec_commands.specs.declared.WarningKind.{WarningKind}
 use Rattle.hwdb_spec_commands.specs.declared.vocabulary.Misuse.{Misuse}
@@ -180,6 +180,14 @@ module _ (file : List ℕ) (f : IsFlat file) (l : Line) where
   unfolding judgement_of
   judged_none = refl
 
+  likely_none : is_unmatched (likelihood_of []) ≡ false
+  unfolding likelihood_of
+  likely_none = refl
+
+  likely_property : (t : List ℕ) → is_unmatched (likelihood_of (32 ∷ t)) ≡ false
+  unfolding likelihood_of
+  likely_property t = refl
+
   judged_property : (t : List ℕ) → is_unmatched (judgement_of (32 ∷ t)) ≡ false
   unfolding judgement_of
   judged_property t = refl
@@ -189,7 +197,7 @@ module _ (file : List ℕ) (f : IsFlat file) (l : Line) where
 
   silent_empty : Silent []
   silent_empty =
-      (refl, (refl, (refl, (refl, (refl, (refl, (refl, (not_repeated, (not_replaced, (refl, (f.unread l.number, (f.unpaired l.number, (judged_none, (refl, (refl, tt)))))))))))))))
+      (refl, (refl, (refl, (refl, (refl, (refl, (refl, (not_repeated, (not_replaced, (refl, (f.unread l.number, (f.unpaired l.number, (judged_none, (likely_none, (refl, (refl, tt))))))))))))))))
 
   silent_property : (t : List ℕ) → has 13 (32 ∷ t) ≡ false → is_cut l (line_of l.number (32 ∷ t)) ≡ false → IsGiven own IsOwn (line_of l.number (32 ∷ t)) → Silent (32 ∷ t)
   silent_property t h c g =
@@ -216,7 +224,7 @@ module _ (file : List ℕ) (f : IsFlat file) (l : Line) where
                         not_replaced,
                         (
                           misused_by true (has_equals clean) (has_key clean) (is_spaced clean) (misuse (key clean) (value clean)) (p.common.any (value clean)),
-                          (f.unread l.number, (f.unpaired l.number, (judged_property t, (refl, (refl, tt))))),
+                          (f.unread l.number, (f.unpaired l.number, (judged_property t, (likely_property t, (refl, (refl, tt)))))),
                         ),
                       ),
                     ),
@@ -252,7 +260,7 @@ module _ (file : List ℕ) (f : IsFlat file) (l : Line) where
                         not_replaced,
                         (
                           no_misuse (is_property clean) _ n,
-                          (f.unread l.number, (f.unpaired l.number, (p.judged, (p.short, (p.shallow, tt))))),
+                          (f.unread l.number, (f.unpaired l.number, (p.judged, (p.likely, (p.short, (p.shallow, tt)))))),
                         ),
                       ),
                     ),

@@ -16,10 +16,10 @@ use Rattle.hwdb_spec_commands.specs.FormTable.{prefixes}
 use Rattle.hwdb_spec_commands.specs.Properties.{before}
 use Rattle.hwdb_spec.specs.Records.{Origin}
 use Rattle.hwdb_spec_commands.specs.Surroundings.{companions_text, is_alone, is_elsewhere, is_given, is_read_below, is_unpaired, is_unread}
-use Rattle.hwdb_spec_commands.specs.Unmatched.{judgement_of}
+use Rattle.hwdb_spec_commands.specs.Unmatched.{judgement_of, likelihood_of}
 use Rattle.hwdb_spec_commands.specs.Warnings.{gives_value, greatest, last_with, misused, repeated_from, repeated_lines, replaces, replacing}
 use Rattle.hwdb_spec_commands.specs.declared.WarningKind.{WarningKind}
-use Rattle.hwdb_spec_commands.specs.declared.WarningKind.TheVariants.{Misused, Replaced, Unmatched, Unpaired, Unread}
+use Rattle.hwdb_spec_commands.specs.declared.WarningKind.TheVariants.{Misused, Replaced, Unlikely, Unmatched, Unpaired, Unread}
 use Rattle.hwdb_spec.specs.Lines.{Line, byte, clean_line, has, is, is_none, lines, numbered, pieces}
 use Rattle.hwdb_spec_commands.specs.Reports.{text_of_line}
 use Rattle.hwdb_text.specs.declared.outcome.Given.{Given}
@@ -53,6 +53,7 @@ pub record IsRead (r : Read) : Type 0 where
   pub unread : r.unread ≡ is_unread r.bytes.now r.number
   pub unpaired : r.unpaired ≡ is_unpaired r.bytes.now r.number
   pub judgement : r.judgement ≡ judgement_of (clean_of r).text
+  pub likelihood : r.likelihood ≡ likelihood_of (clean_of r).text
 
 -- a warning whose hint is the same for each line
 abbrev pub IsPlain : WarningKind → Type 0
@@ -60,6 +61,7 @@ IsPlain (Misused why) = ⊥
 IsPlain (Unread known) = ⊥
 IsPlain Unpaired = ⊥
 IsPlain (Unmatched told) = ⊥
+IsPlain (Unlikely told) = ⊥
 IsPlain kind = Unit {0}
 
 -- what is printed of a warning from the number in it on

@@ -1,13 +1,15 @@
 -- What the laws say of patterns that can't match, and of the names of warnings. A definition that said less would be noticed here.
-use Rattle.std.specs.Prelude.{◌-◌, ◌≡◌, ◌≤◌, ◌⊎◌, ◌++◌, Bool, Contains, List, None, Some, [], codes, false, flat_map, length, map, replicate, suc, true, ℕ}
-use Rattle.hwdb_spec.specs.Forms.{all_bytes_from, expected, judged}
+use Rattle.std.specs.Prelude.{◌-◌, ◌≡◌, ◌↔◌, ◌≤◌, ◌⊎◌, ◌++◌, Bool, Contains, List, None, Some, [], codes, false, flat_map, length, map, replicate, suc, true, ℕ}
+use Rattle.hwdb_spec.specs.Forms.{CanMatch, all_bytes_from, expected, judged}
+use Rattle.hwdb_spec.specs.Patterns.{tokens}
 use Rattle.hwdb_spec_commands.specs.FormTable.{asked}
+use Rattle.hwdb_spec_commands.specs.LikelyForms.{likely}
 use Rattle.hwdb_spec_commands.specs.Kinds.{warning_name}
 use Rattle.hwdb_spec.specs.Lines.{begins_with, byte, is, is_none, max_pattern, pieces}
-use Rattle.hwdb_spec_commands.specs.Unmatched.{compare_hint, is_unmatched, judgement_hint, judgement_of, judgement_place, judgement_text, place_hint, prefix_hint, runs, runs_hint}
+use Rattle.hwdb_spec_commands.specs.Unmatched.{compare_hint, is_unmatched, judgement_hint, judgement_of, judgement_place, judgement_text, likelihood_hint, likelihood_of, likely_place_hint, place_hint, prefix_hint, runs, runs_hint}
 use Rattle.hwdb_spec_commands.specs.Warnings.{is_too_long, may_be_too_deep, warning_place}
 use Rattle.hwdb_spec.specs.declared.Judgement.TheVariants.{Dead, Fine, UnknownPrefix}
-use Rattle.hwdb_spec_commands.specs.declared.WarningKind.TheVariants.{ByteOrderMark, CarriageReturn, CutValue, EmptyRange, LeadingTab, MayBeTooDeep, Misused, OpenBracket, RepeatedMatch, Replaced, SpacedEquals, TooLongForUdev, Unmatched, Unpaired, Unread}
+use Rattle.hwdb_spec_commands.specs.declared.WarningKind.TheVariants.{ByteOrderMark, CarriageReturn, CutValue, EmptyRange, LeadingTab, MayBeTooDeep, Misused, OpenBracket, RepeatedMatch, Replaced, SpacedEquals, TooLongForUdev, Unlikely, Unmatched, Unpaired, Unread}
 use Rattle.hwdb_spec_commands.specs.declared.WarningKind.{WarningKind}
 use Rattle.hwdb_spec_commands.specs.declared.vocabulary.Misuse.TheVariants.{NearName, OldName, ScanCode, SingularMatrix, TwoDefaults, UnfitValue, UnknownKey, ZeroRow}
 use Rattle.hwdb_spec_commands.specs.declared.vocabulary.Misuse.{Misuse}
@@ -31,6 +33,23 @@ pub record PatternsAreJudged : Type 0 where
   pub nothing : judgement_of [] ≡ Fine
   pub property : judgement_of (codes " A=b") ≡ Fine
   pub tab : judgement_of (codes "\tA=b") ≡ Fine
+
+-- The same of its likelihood, of a pattern that matches a text that udev asks. So it is told as unlikely exactly if such a text matches it,
+-- and none that udev likely asks.
+pub record LikelihoodIsJudged : Type 0 where
+  pub judges : (text : List ℕ) → is_none text ≡ false → begins_with (byte " ") text ≡ false → begins_with (byte "\t") text ≡ false
+      → length text ≤ max_pattern → is_unmatched (judged asked text) ≡ false → likelihood_of text ≡ judged likely text
+  pub told_once : (text : List ℕ) → is_unmatched (judgement_of text) ≡ true → likelihood_of text ≡ Fine
+  pub exactly : (text : List ℕ) → is_none text ≡ false → begins_with (byte " ") text ≡ false → begins_with (byte "\t") text ≡ false
+      → length text ≤ max_pattern
+      → (is_unmatched (likelihood_of text) ≡ true) ↔ (CanMatch asked (tokens text) × (CanMatch likely (tokens text) → ⊥))
+  pub hints : (front : List ℕ) → length front ≤ 256 → likely_place_hint front ≡ runs_hint (runs (expected likely front))
+  pub long : likely_place_hint (all_bytes_from 257 0) ≡ compare_hint
+  pub begins : likelihood_hint UnknownPrefix (codes "usb:") ≡ compare_hint
+  pub said : likelihood_hint Fine (codes "usb:") ≡ []
+  pub nothing : likelihood_of [] ≡ Fine
+  pub property : likelihood_of (codes " A=b") ≡ Fine
+  pub tab : likelihood_of (codes "\tA=b") ≡ Fine
 
 -- what is said of them, and what to do
 pub record UnmatchedRows : Type 0 where
@@ -112,13 +131,14 @@ kind_number (Unread false) = 18
 kind_number Unpaired = 19
 kind_number (Unmatched UnknownPrefix) = 20
 kind_number (Unmatched (Dead place)) = 21
-kind_number TooLongForUdev = 22
-kind_number MayBeTooDeep = 22
-kind_number (Unmatched Fine) = 23
+kind_number (Unlikely told) = 22
+kind_number TooLongForUdev = 23
+kind_number MayBeTooDeep = 23
+kind_number (Unmatched Fine) = 24
 
 -- Each kind of warning has its own name among these, and each of them is the name of one kind. Both kinds of what udev can't take count
 -- as one.
 pub record KindsAreNamed : Type 0 where
-  pub each : (kind : WarningKind) → (kind_number kind ≡ 23) ⊎ Contains kinds (warning_name kind)
+  pub each : (kind : WarningKind) → (kind_number kind ≡ 24) ⊎ Contains kinds (warning_name kind)
   pub all : (some : List WarningKind) × (map warning_name some ≡ kinds)
   pub own : (one two : WarningKind) → warning_name one ≡ warning_name two → kind_number one ≡ kind_number two

@@ -4,7 +4,7 @@ use Rattle.std.specs.List.{list_any, starts_with}
 use Rattle.hwdb_spec.specs.Assignment.{Assignment}
 use Rattle.hwdb_spec.specs.Lines.{Line, begins_with, byte, clean_line, has, is_blank, is_dropped, is_indent, lines}
 use Rattle.hwdb_spec_commands.specs.Surroundings.{is_unpaired, is_unread}
-use Rattle.hwdb_spec_commands.specs.Unmatched.{is_unmatched, judgement_of}
+use Rattle.hwdb_spec_commands.specs.Unmatched.{is_unmatched, judgement_of, likelihood_of}
 use Rattle.hwdb_spec_commands.specs.Warnings.{all_warnings, greatest, is_cut, is_too_long, may_be_too_deep, repeated_lines, replacing}
 use Rattle.hwdb_properties.specs.Internal.{IsCommon}
 
@@ -14,6 +14,7 @@ pub record IsPlainPattern (pattern : List ℕ) : Type 0 where
   pub tab : begins_with (byte "\t") pattern ≡ false
   pub bracket : has (byte "[") pattern ≡ false
   pub judged : is_unmatched (judgement_of pattern) ≡ false
+  pub likely : is_unmatched (likelihood_of pattern) ≡ false
   pub short : is_too_long (record { number = 0; text = pattern }) ≡ false
   pub shallow : may_be_too_deep (record { number = 0; text = pattern }) ≡ false
 

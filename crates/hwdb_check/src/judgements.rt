@@ -1,12 +1,13 @@
 //! Patterns that match no text that udev asks.
-ghost use Rattle.std.specs.Prelude.{◌≡◌, ◌++◌, List, ℕ, ◌∷◌, filter, map, take, IfOk, OnOk};
+ghost use Rattle.std.specs.Prelude.{◌≡◌, ◌++◌, List, ℕ, ◌∷◌, filter, if◌then◌else◌, map, take, IfOk, OnOk};
 ghost use Rattle.std.specs.Option.{option_map};
 ghost use Rattle.hwdb_spec_commands.specs.FormTable.{asked};
-ghost use Rattle.hwdb_spec.specs.Forms.{all_bytes_from, is_expected};
+ghost use Rattle.hwdb_spec_commands.specs.LikelyForms.{likely};
+ghost use Rattle.hwdb_spec.specs.Forms.{all_bytes_from, is_expected, judged};
 ghost use Rattle.hwdb_spec_commands.specs.Unmatched;
 
-use crate::runs::{push_runs, runs_of};
-use hwdb_forms::{expected, judge, likely_prefix};
+use crate::runs::{push_compare, push_runs, runs_of};
+use hwdb_forms::{Judged, expected, expected_likely, judge_both, likely_prefix};
 use hwdb_spec::Judgement;
 use hwdb_text::{LONGEST_MATCH, begins_with};
 use std::alloc::{AllocError, Global};
@@ -14,25 +15,81 @@ use std::alloc::{AllocError, Global};
 /// A front of more bytes isn't looked at for what could come after it (our choice).
 const LONGEST_FRONT: usize = 256;
 
-/// What is said of a clean text, if it is a pattern. The only error, here and below, is `AllocError`.
-#[tactic(auto, unfolding(hwdb_spec_commands::specs::Unmatched::judgement_of))]
-pub fn judgement_of(alloc: Global, clean: &[u8]) -> Result<Judgement, AllocError>
-    ensures { IfOk result (λ told. told ≡ Unmatched.judgement_of clean.now) }
+/// What is said of a clean text.
+#[derive(Clone, Copy)]
+pub struct Said {
+    /// Whether it is a pattern that matches no text that udev asks.
+    pub judgement: Judgement,
+    /// Whether it is one that matches such a text, and none that udev likely asks.
+    pub likelihood: Judgement,
+}
+
+/// What is said of a clean text that is no pattern, or one of which nothing is to say.
+fn nothing_said() -> Said
+    ensures judgement { result.judgement ≡ Judgement.Fine }
+    ensures likelihood { result.likelihood ≡ Judgement.Fine }
+{
+    Said {
+        judgement: Judgement::Fine,
+        likelihood: Judgement::Fine,
+    }
+}
+
+/// Whether a pattern matches no text that udev asks, or none that it likely asks, by what is said of it.
+pub fn is_unmatched(judgement: Judgement) -> bool
+    ensures { result ≡ Unmatched.is_unmatched judgement }
+{
+    !matches!(judgement, Judgement::Fine)
+}
+
+/// What is said of a pattern's likelihood: nothing, if no text that udev asks matches it.
+fn likelihood_of(judged: Judged) -> Judgement
+    ensures { result
+        ≡ (if Unmatched.is_unmatched judged.asked then Judgement.Fine else judged.likely) }
+{
+    if is_unmatched(judged.asked) {
+        Judgement::Fine
+    } else {
+        judged.likely
+    }
+}
+
+/// What is said of a pattern. The only error, here and below, is `AllocError`.
+fn said_of_pattern(alloc: Global, clean: &[u8]) -> Result<Said, AllocError>
+    ensures judgement { IfOk result (λ said. said.judgement ≡ judged asked clean.now) }
+    ensures likelihood { IfOk result (λ said. said.likelihood
+        ≡ (if Unmatched.is_unmatched (judged asked clean.now) then Judgement.Fine
+        else judged likely clean.now)) }
+{
+    let judged = judge_both(alloc, clean)?;
+    Ok(Said {
+        judgement: judged.asked,
+        likelihood: likelihood_of(judged),
+    })
+}
+
+/// What is said of a clean text, if it is a pattern.
+#[tactic(auto, unfolding(hwdb_spec_commands::specs::Unmatched::judgement_of, hwdb_spec_commands::specs::Unmatched::likelihood_of))]
+pub fn said_of(alloc: Global, clean: &[u8]) -> Result<Said, AllocError>
+    ensures judgement { IfOk result
+        (λ said. said.judgement ≡ Unmatched.judgement_of clean.now) }
+    ensures likelihood { IfOk result
+        (λ said. said.likelihood ≡ Unmatched.likelihood_of clean.now) }
 {
     if clean.is_empty() {
-        return Ok(Judgement::Fine);
+        return Ok(nothing_said());
     }
     if begins_with(b' ', clean) {
-        return Ok(Judgement::Fine);
+        return Ok(nothing_said());
     }
     if begins_with(b'\t', clean) {
-        return Ok(Judgement::Fine);
+        return Ok(nothing_said());
     }
     if clean.len() > LONGEST_MATCH {
-        return Ok(Judgement::Fine);
+        return Ok(nothing_said());
     }
-    let told = judge(alloc, clean)?;
-    Ok(told)
+    let said = said_of_pattern(alloc, clean)?;
+    Ok(said)
 }
 
 /// What is printed of a judgement.
@@ -146,5 +203,44 @@ pub fn push_judgement_hint(
         Judgement::Fine => Ok(()),
         Judgement::UnknownPrefix => push_prefix_hint(alloc, text, pattern),
         Judgement::Dead(place) => push_place_hint(alloc, text, front_of(pattern, place)),
+    }
+}
+
+/// Adds what to do about a pattern that likely goes wrong after this front, which isn't too long.
+#[tactic(auto, unfolding(hwdb_spec_commands::specs::Unmatched::likely_after))]
+fn push_likely(alloc: Global, text: &mut Vec<u8>, front: &[u8]) -> Result<(), AllocError>
+    ensures { OnOk result (text.new.items ≡ text.old.items
+        ++ Unmatched.runs_hint (Unmatched.runs (Unmatched.likely_after front.now))) }
+{
+    let bytes = expected_likely(alloc, front)?;
+    let runs = runs_of(alloc, &bytes)?;
+    push_runs(text, &runs)
+}
+
+/// Adds what to do about a pattern that likely goes wrong after this front.
+fn push_likely_place_hint(alloc: Global, text: &mut Vec<u8>, front: &[u8]) -> Result<(), AllocError>
+    ensures { OnOk result
+        (text.new.items ≡ text.old.items ++ Unmatched.likely_place_hint front.now) }
+{
+    if front.len() > LONGEST_FRONT {
+        return push_compare(text);
+    }
+    push_likely(alloc, text, front)
+}
+
+/// Adds what to do about a pattern of which this is said.
+pub fn push_likelihood_hint(
+    alloc: Global,
+    text: &mut Vec<u8>,
+    likelihood: Judgement,
+    pattern: &[u8],
+) -> Result<(), AllocError>
+    ensures { OnOk result (text.new.items
+        ≡ text.old.items ++ Unmatched.likelihood_hint likelihood pattern.now) }
+{
+    match likelihood {
+        Judgement::Fine => Ok(()),
+        Judgement::UnknownPrefix => push_compare(text),
+        Judgement::Dead(place) => push_likely_place_hint(alloc, text, front_of(pattern, place)),
     }
 }

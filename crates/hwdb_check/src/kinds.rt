@@ -31,6 +31,7 @@ unknown-property
 unpaired
 unknown-prefix
 dead-pattern
+unlikely-pattern
 too-long-for-udev";
 
 /// How findings are told.
@@ -103,6 +104,7 @@ pub fn warning_name(kind: WarningKind) -> &'static str
         WarningKind::Unread(false) => "unknown-property",
         WarningKind::Unpaired => "unpaired",
         WarningKind::Unmatched(judgement) => judgement_name(judgement),
+        WarningKind::Unlikely(_) => "unlikely-pattern",
         WarningKind::TooLongForUdev | WarningKind::MayBeTooDeep => "too-long-for-udev",
     }
 }

@@ -1,5 +1,7 @@
 //! Laws over the definitions alone. Each function does nothing: its contract is the law.
-ghost use Rattle.hwdb_check.specs.Laws.{KindsAreNamed, PatternsAreJudged, RunsAreAll, TooDeepRows, TooLongRows, UnmatchedRows};
+ghost use Rattle.hwdb_check.specs.Laws.{KindsAreNamed, LikelihoodIsJudged, PatternsAreJudged, RunsAreAll, TooDeepRows, TooLongRows, UnmatchedRows};
+
+use hwdb_forms::forms_are_tested;
 
 /// A pattern that can match nothing is told, with the bytes that can follow the place where it goes wrong.
 #[tactic(auto, using(crate::proofs::LawLemmas::judged_patterns, crate::proofs::LawLemmas::all_runs, crate::proofs::LawLemmas::unmatched_rows))]
@@ -8,6 +10,15 @@ pub fn patterns_are_judged()
     ensures runs { RunsAreAll }
     ensures rows { UnmatchedRows }
 {}
+
+/// A pattern that matches a text that udev asks is told as unlikely exactly if it matches none that udev likely asks, with the bytes that
+/// can likely follow.
+#[tactic(auto, using(crate::proofs::LawLemmas::judged_likelihood))]
+pub fn likelihood_is_judged()
+    ensures { LikelihoodIsJudged }
+{
+    forms_are_tested();
+}
 
 /// Which match lines are told as too long for udev, and where.
 #[tactic(auto, using(crate::proofs::LawLemmas::too_long_rows))]

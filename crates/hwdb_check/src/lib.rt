@@ -53,7 +53,7 @@ mod warnings;
 pub use files::{Checked, TextFile, check_files, reports_of};
 pub use hwdb_show::push_shown;
 pub use kinds::{KINDS, Telling};
-pub use laws::{deep_lines_are_told, kinds_are_named, patterns_are_judged};
+pub use laws::{deep_lines_are_told, kinds_are_named, likelihood_is_judged, patterns_are_judged};
 pub use line_texts::{LineStart, find_line, first_start};
 pub use tallies::push_count;
 pub use too_long::push_too_long;

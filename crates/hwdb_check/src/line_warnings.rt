@@ -10,6 +10,7 @@ ghost use Rattle.hwdb_spec_commands.specs.Warnings;
 ghost use Rattle.hwdb_spec_commands.specs.Warnings.{warns};
 ghost use Rattle.hwdb_check.specs.Internal.{clean_of, line_of, read_line, IsRead};
 
+use crate::judgements::is_unmatched;
 use crate::misuses::has_known_key;
 use hwdb_pattern::{open_place, range_place};
 use hwdb_spec::Judgement;
@@ -39,6 +40,8 @@ pub struct Read<'a> {
     pub unpaired: bool,
     /// What is said of it as a pattern.
     pub judgement: Judgement,
+    /// What is said of its likelihood, if it is a pattern that matches a text that udev asks.
+    pub likelihood: Judgement,
 }
 
 /// Whether a text begins with a byte order mark.
@@ -201,13 +204,6 @@ fn has_cut_value(text: &[u8], clean: &[u8]) -> bool
     has_equals(clean)
 }
 
-/// Whether a pattern matches no text that udev asks.
-pub fn is_unmatched(judgement: Judgement) -> bool
-    ensures { result ≡ Unmatched.is_unmatched judgement }
-{
-    !matches!(judgement, Judgement::Fine)
-}
-
 /// How many bytes of a pattern udev can take from its first wildcard on.
 const LONGEST_REST: usize = 2046;
 
@@ -297,6 +293,7 @@ pub fn is_warned(kind: WarningKind, line: &Read<'_>) -> bool
         WarningKind::Unread(_) => line.unread,
         WarningKind::Unpaired => line.unpaired,
         WarningKind::Unmatched(_) => is_unmatched(line.judgement),
+        WarningKind::Unlikely(_) => is_unmatched(line.likelihood),
         WarningKind::TooLongForUdev => is_too_long(line.clean),
         WarningKind::MayBeTooDeep => may_be_too_deep(line.clean),
     }
@@ -327,6 +324,9 @@ pub fn is_warned_at_all(line: &Read<'_>) -> bool
     if is_unmatched(line.judgement) {
         return true;
     }
+    if is_unmatched(line.likelihood) {
+        return true;
+    }
     if begins_with_mark(line.clean) {
         return true;
     }
@@ -355,7 +355,7 @@ pub fn is_warned_at_all(line: &Read<'_>) -> bool
 }
 
 /// The kinds of warnings that a line may get.
-pub fn kinds_of(line: &Read<'_>) -> [WarningKind; 15]
+pub fn kinds_of(line: &Read<'_>) -> [WarningKind; 16]
     requires { IsRead line.now }
     ensures { result ≡ Warnings.line_kinds line.now.bytes.now (clean_of line.now) }
 {
@@ -373,6 +373,7 @@ pub fn kinds_of(line: &Read<'_>) -> [WarningKind; 15]
         WarningKind::Unread(has_known_key(line.clean)),
         WarningKind::Unpaired,
         WarningKind::Unmatched(line.judgement),
+        WarningKind::Unlikely(line.likelihood),
         WarningKind::TooLongForUdev,
         WarningKind::MayBeTooDeep,
     ]

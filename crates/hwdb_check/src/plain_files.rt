@@ -12,10 +12,10 @@ ghost use Rattle.hwdb_text.specs.Views.{given_in};
 ghost use Rattle.hwdb_check.specs.Internal.{own};
 ghost use Rattle.hwdb_check.specs.Plain.{AreSteady, IsPlainAssignment, IsPlainFile, IsPlainPattern, IsPlainProperty, IsTame};
 
-use crate::judgements::judgement_of;
+use crate::judgements::{is_unmatched, said_of};
 use crate::line_warnings::{
     begins_with_mark, begins_with_tab, has_return, holds_bracket, is_spaced, is_too_long,
-    is_unmatched, may_be_too_deep,
+    may_be_too_deep,
 };
 use crate::replacements::ascend;
 use hwdb_properties::is_common;
@@ -42,8 +42,11 @@ fn is_plain_pattern(alloc: Global, pattern: &[u8]) -> Result<bool, AllocError>
     if may_be_too_deep(pattern) {
         return Ok(false);
     }
-    let judgement = judgement_of(alloc, pattern)?;
-    Ok(!is_unmatched(judgement))
+    let said = said_of(alloc, pattern)?;
+    if is_unmatched(said.judgement) {
+        return Ok(false);
+    }
+    Ok(!is_unmatched(said.likelihood))
 }
 
 /// Whether a property is a common one, with no blank beside its `=`.

@@ -62,7 +62,7 @@ fn push_more(text: &mut Vec<u8>, more: &[ByteRun]) -> Result<(), AllocError>
 }
 
 /// Adds what to do if no byte is named.
-fn push_compare(text: &mut Vec<u8>) -> Result<(), AllocError>
+pub fn push_compare(text: &mut Vec<u8>) -> Result<(), AllocError>
     ensures { OnOk result (text.new.items ≡ text.old.items ++ Unmatched.compare_hint) }
 {
     let hint = "compare it byte by byte with a string that udev asks, upper and lower case too";

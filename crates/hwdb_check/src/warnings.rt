@@ -12,7 +12,9 @@ ghost use Rattle.hwdb_check.specs.Internal.{IsKnown, IsPlain, IsRead, clean_of, 
 ghost use Rattle.hwdb_check.specs.Plain.{IsPlainFile, IsQuiet, IsTame};
 
 use crate::json_lines::{Finding, finding_line};
-use crate::judgements::{judgement_of, judgement_place, judgement_text, push_judgement_hint};
+use crate::judgements::{
+    judgement_place, judgement_text, push_judgement_hint, push_likelihood_hint, said_of,
+};
 use crate::kinds::{Telling, is_told, warning_name};
 use crate::known::{Known, known_of, nothing_known};
 use crate::line_warnings::{
@@ -48,6 +50,7 @@ fn text_of(kind: WarningKind) -> &'static str
         WarningKind::Unread(false) => "a property that nothing is known to read",
         WarningKind::Unpaired => "a property that is read with others alone",
         WarningKind::Unmatched(judgement) => judgement_text(judgement),
+        WarningKind::Unlikely(_) => "a string that udev asks hardly goes on like this",
         WarningKind::TooLongForUdev => {
             "udev takes at most 2046 bytes from the first *, ? or [ on"
         }
@@ -92,7 +95,8 @@ fn hint_of(kind: WarningKind) -> &'static str
         WarningKind::Misused(_)
         | WarningKind::Unread(_)
         | WarningKind::Unpaired
-        | WarningKind::Unmatched(_) => "",
+        | WarningKind::Unmatched(_)
+        | WarningKind::Unlikely(_) => "",
     }
 }
 
@@ -119,6 +123,7 @@ fn push_hint(
         WarningKind::Unread(known) => push_unread_hint(text, known, clean),
         WarningKind::Unpaired => push_unpaired_hint(text, clean),
         WarningKind::Unmatched(judgement) => push_judgement_hint(alloc, text, judgement, clean),
+        WarningKind::Unlikely(told) => push_likelihood_hint(alloc, text, told, clean),
         _ => push_words(text, hint_of(kind)),
     }
 }
@@ -156,7 +161,9 @@ fn warning_place(kind: WarningKind, line: &[u8], clean: &[u8]) -> usize
         }
         WarningKind::Misused(_) => end_of(b'=', line) + 1,
         WarningKind::Unread(_) | WarningKind::Unpaired => indent_of(line),
-        WarningKind::Unmatched(judgement) => judgement_place(judgement),
+        WarningKind::Unmatched(judgement) | WarningKind::Unlikely(judgement) => {
+            judgement_place(judgement)
+        }
         WarningKind::TooLongForUdev => wild_place(clean),
         WarningKind::MayBeTooDeep => LONGEST_LINE,
     }
@@ -372,6 +379,7 @@ impl Warned {
             ++ all_warnings (map string_bytes telling.now.allowed.now) known.now.bytes.now
             (line_of number text.now) (clean_line (line_of number text.now))) }
     {
+        let said = said_of(alloc, clean)?;
         let line = Read {
             bytes: known.bytes,
             number,
@@ -382,7 +390,8 @@ impl Warned {
             misuse: misuse_in(clean),
             unread: known.unread.has(number),
             unpaired: known.unpaired.contains(&number),
-            judgement: judgement_of(alloc, clean)?,
+            judgement: said.judgement,
+            likelihood: said.likelihood,
         };
         self.put_all(alloc, telling, path, &line)
     }

@@ -14,8 +14,11 @@ use Rattle.hwdb_spec.specs.Patterns.{Token, literal, one, star, token_at, tokens
 use Rattle.hwdb_spec.specs.Forms.{Form, Piece, can_begin, can_match, fields_row, head, is_in, is_wild, meets_form}
 use Rattle.hwdb_pattern.specs.Laws.{StaysClosed, TokensAreThePattern}
 use Rattle.hwdb_spec_commands.specs.FormTable.{asked, free, free_prefixes, known}
+use Rattle.hwdb_spec_commands.specs.LikelyForms.{kept, likely, narrow}
+use Rattle.hwdb_forms.specs.declared.pieces.Table.{Table}
+use Rattle.hwdb_forms.specs.declared.pieces.Table.TheVariants.{Asked, Likely}
 use Rattle.hwdb_forms.specs.declared.bytes.Bytes.{Bytes}
-use Rattle.hwdb_forms.specs.Internal.{AreAfter, Every, HasWays, Stays, bytes_of, followed, has_bit, has_byte}
+use Rattle.hwdb_forms.specs.Internal.{AreAfter, Every, HasWays, Stays, bytes_of, followed, forms_of, has_bit, has_byte}
 use Rattle.hwdb_forms.proofs.MeetLemmas.{own_in, own_span}
 use Rattle.hwdb_forms.proofs.KeptLemmas.{kept_front}
 
@@ -164,17 +167,17 @@ plain_token : (b : ℕ) → is_wild b ≡ false → token_at (b ∷ []) ≡ lite
 unfolding token_at
 plain_token b e = plain_by (b == 42) (b == 63) (b == 91) b _ e
 
-begun_by : (front : List ℕ) (ts : List Token) (b : ℕ) → tokens (front ++ b ∷ []) ≡ ts ++ token_at (b ∷ []) ∷ [] → is_wild b ≡ false → can_begin asked (tokens (front ++ b ∷ [])) ≡ can_match asked (ts ++ literal b ∷ star ∷ [])
-begun_by front ts b kept w =
-    ap (can_begin asked) (kept ∙ ap (λ (t : Token). ts ++ t ∷ []) (plain_token b w))
-    ∙ ap (can_match asked) (append_assoc ts (literal b ∷ []) (star ∷ []))
+begun_by : (all : List Form) (front : List ℕ) (ts : List Token) (b : ℕ) → tokens (front ++ b ∷ []) ≡ ts ++ token_at (b ∷ []) ∷ [] → is_wild b ≡ false → can_begin all (tokens (front ++ b ∷ [])) ≡ can_match all (ts ++ literal b ∷ star ∷ [])
+begun_by all front ts b kept w =
+    ap (can_begin all) (kept ∙ ap (λ (t : Token). ts ++ t ∷ []) (plain_token b w))
+    ∙ ap (can_match all) (append_assoc ts (literal b ∷ []) (star ∷ []))
 
-pub bytes_told : StaysClosed → TokensAreThePattern → (forms : List Form) (front : List ℕ) (ts : List Token) (bytes : Bytes) → forms ≡ asked → ts ≡ tokens front
-    → ((b : ℕ) → b < 256 → has_byte bytes b ≡ can_match forms (followed ts b)) → AreAfter front bytes
-bytes_told stays cut forms front ts bytes e same told = λ b h w k.
+pub bytes_told : StaysClosed → TokensAreThePattern → (forms all : List Form) (front : List ℕ) (ts : List Token) (bytes : Bytes) → forms ≡ all → ts ≡ tokens front
+    → ((b : ℕ) → b < 256 → has_byte bytes b ≡ can_match forms (followed ts b)) → AreAfter all front bytes
+bytes_told stays cut forms all front ts bytes e same told = λ b h w k.
     told b h
     ∙ ap (λ (fs : List Form). can_match fs (followed ts b)) e
-    ∙ sym (begun_by front ts b (kept_front stays cut front ts b same k) w)
+    ∙ sym (begun_by all front ts b (kept_front stays cut front ts b same k) w)
 
 -- ---- each form has ways
 every_joined : (A : Type 0) (Told : A → Type 0) (a b : List A) → Every A Told a → Every A Told b → Every A Told (a ++ b)
@@ -189,8 +192,24 @@ known_ways : Every Form HasWays (map (λ k. k.form) known)
 unfolding known
 known_ways = (tt, (tt, (tt, (tt, (tt, (tt, (tt, (tt, (tt, (tt, (tt, (tt, (tt, (tt, (tt, (tt, (tt, (tt, (tt, (tt, (tt, (tt, (tt, (tt, (tt, (tt, (tt, (tt, (tt, (tt, tt))))))))))))))))))))))))))))))
 
-pub asked_ways : Every Form HasWays asked
+asked_ways : Every Form HasWays asked
 asked_ways = every_joined Form HasWays (map (λ k. k.form) known) (map free free_prefixes) known_ways (free_ways free_prefixes)
+
+kept_ways : Every Form HasWays kept
+unfolding kept
+kept_ways = (tt, (tt, (tt, (tt, (tt, (tt, (tt, (tt, (tt, (tt, (tt, (tt, (tt, (tt, (tt, (tt, tt))))))))))))))))
+
+narrow_ways : Every Form HasWays (map (λ k. k.form) narrow)
+unfolding narrow
+narrow_ways = (tt, (tt, (tt, (tt, (tt, (tt, (tt, (tt, (tt, (tt, (tt, (tt, (tt, (tt, (tt, (tt, tt))))))))))))))))
+
+likely_ways : Every Form HasWays likely
+likely_ways =
+    every_joined Form HasWays (kept ++ map (λ k. k.form) narrow) (map free free_prefixes) (every_joined Form HasWays kept (map (λ k. k.form) narrow) kept_ways narrow_ways) (free_ways free_prefixes)
+
+pub table_ways : (table : Table) → Every Form HasWays (forms_of table)
+table_ways Asked = asked_ways
+table_ways Likely = likely_ways
 
 -- ---- one bit
 pub one_bit : (k : ℕ) → k < 128 → 1 * 2 ^ k % 340282366920938463463374607431768211456 ≡ 2 ^ k

@@ -5,6 +5,7 @@ use Rattle.hwdb_spec.specs.declared.ByteSet.{ByteSet}
 use Rattle.hwdb_spec.specs.declared.ByteSet.TheVariants.{Only}
 use Rattle.hwdb_spec.specs.Forms.{Piece, Form, fixed, counted, repeated, is_in, HasForm}
 use Rattle.hwdb_spec_commands.specs.FormTable.{Known, known}
+use Rattle.hwdb_spec_commands.specs.LikelyForms.{narrow}
 use Rattle.hwdb_forms.specs.Internal.{ByteThen, ManyThen, FixedThen, CountedThen, PieceThen, PiecesThen, FieldThen, Fields}
 use Rattle.hwdb_forms.specs.Laws.{EachFits}
 use Rattle.hwdb_forms.proofs.MeetLemmas.{either_true, both_first, both_second}
@@ -124,3 +125,7 @@ each_fits (k ∷ more) h =
 pub known_fit : EachFits known
 unfolding known all_fit form_fits fields_fit at_end field_then pieces_then piece_then counted_then fixed_then many_then byte_then
 known_fit = each_fits known refl
+
+pub narrow_fit : EachFits narrow
+unfolding narrow all_fit form_fits fields_fit at_end field_then pieces_then piece_then counted_then fixed_then many_then byte_then
+narrow_fit = each_fits narrow refl

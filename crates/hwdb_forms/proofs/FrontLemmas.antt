@@ -3,9 +3,8 @@ use Rattle.std.proofs.Common.{◌≡◌, ℕ, ◌+◌, ◌<◌, ◌≤◌, Bool,
 use Rattle.std.proofs.lemmas.Bool.{leb-true, leb-false, lt-ltb}
 use Rattle.std.specs.Prelude.{if◌then◌else◌}
 use Rattle.hwdb_spec.specs.Patterns.{Token, Matches, star, token_at, tokens}
-use Rattle.hwdb_spec_commands.specs.FormTable.{asked}
 use Rattle.hwdb_spec.specs.declared.Judgement.{Judgement}
-use Rattle.hwdb_spec.specs.declared.Judgement.TheVariants.{Fine}
+use Rattle.hwdb_spec.specs.declared.Judgement.TheVariants.{Dead, Fine, UnknownPrefix}
 use Rattle.hwdb_spec.specs.Forms.{CanBegin, CanMatch, Form, HasOneOf, can_begin, can_match, front_from, is_unknown, judged, prefix_size}
 use Rattle.hwdb_forms.specs.Internal.{views}
 use Rattle.hwdb_forms.specs.Laws.{FrontsAreLongest}
@@ -103,28 +102,28 @@ not_false : (b : Bool) (a : Bool) → b ≡ true → a ≡ (if b then a else fal
 not_false true a e = refl
 not_false false a e = cc
 
-pub unknown_told : (pattern : List ℕ) (texts : List (Bor (List ℕ))) (size m : ℕ) (begins : Bool) → size ≡ prefix_size pattern → (size ≡ 0 → ⊥) → m ≡ min size (length texts) → views texts ≡ tokens pattern
-    → begins ≡ can_begin asked (views (take m texts)) → not begins ≡ is_unknown asked pattern
-unknown_told pattern texts size m begins e n k v b =
+pub unknown_told : (forms : List Form) (pattern : List ℕ) (texts : List (Bor (List ℕ))) (size m : ℕ) (begins : Bool) → size ≡ prefix_size pattern → (size ≡ 0 → ⊥) → m ≡ min size (length texts) → views texts ≡ tokens pattern
+    → begins ≡ can_begin forms (views (take m texts)) → not begins ≡ is_unknown forms pattern
+unknown_told forms pattern texts size m begins e n k v b =
     let some : nat_lt 0 (prefix_size pattern) ≡ true = ap (nat_lt 0) (sym e) ∙ lt-ltb 0 size (omega (arith, n)) in
     let front : views (take m texts) ≡ take (prefix_size pattern) (tokens pattern) =
     ap views (lesser_take texts m size k (nat_le size (length texts)) refl) ∙ views_take texts size ∙ ap (take size) v ∙ ap (λ (i : ℕ). take i (tokens pattern)) e in
-    ap not (b ∙ ap (can_begin asked) front) ∙ not_false (nat_lt 0 (prefix_size pattern)) (not (can_begin asked (take (prefix_size pattern) (tokens pattern)))) some
+    ap not (b ∙ ap (can_begin forms) front) ∙ not_false (nat_lt 0 (prefix_size pattern)) (not (can_begin forms (take (prefix_size pattern) (tokens pattern)))) some
 
 -- what is said of a pattern that matches, and of one that doesn't
-pub is_fine : (ts : List Token) (met : Bool) → met ≡ can_match asked ts → met ≡ true → (Fine ≡ Fine) ↔ CanMatch asked ts
-is_fine ts met e t = (λ same. (forms_tested asked ts).0 (sym e ∙ t), λ m. refl)
+pub is_fine : (forms : List Form) (ts : List Token) (met : Bool) → met ≡ can_match forms ts → met ≡ true → (Fine ≡ Fine) ↔ CanMatch forms ts
+is_fine forms ts met e t = (λ same. (forms_tested forms ts).0 (sym e ∙ t), λ m. refl)
 
-pub fine_told : (pattern : List ℕ) → can_match asked (tokens pattern) ≡ true → Fine ≡ judged asked pattern
-fine_told pattern e = by (can_match asked (tokens pattern)) _ e
+pub fine_told : (forms : List Form) (pattern : List ℕ) → can_match forms (tokens pattern) ≡ true → Fine ≡ judged forms pattern
+fine_told forms pattern e = by (can_match forms (tokens pattern)) _ e
   where
     by : (b : Bool) (other : Judgement) → b ≡ true → Fine ≡ (if b then Fine else other)
     by true other e = refl
     by false other e = cc
 
-pub not_fine : (told : Judgement) (ts : List Token) (met : Bool) → (told ≡ Fine → ⊥) → met ≡ can_match asked ts → met ≡ false → (told ≡ Fine) ↔ CanMatch asked ts
-not_fine told ts met n e f =
-    (λ same. absurd (n same), λ m. let shown : can_match asked ts ≡ true = (forms_tested asked ts).1 m in let no : can_match asked ts ≡ false = sym e ∙ f in cc)
+pub not_fine : (forms : List Form) (told : Judgement) (ts : List Token) (met : Bool) → (told ≡ Fine → ⊥) → met ≡ can_match forms ts → met ≡ false → (told ≡ Fine) ↔ CanMatch forms ts
+not_fine forms told ts met n e f =
+    (λ same. absurd (n same), λ m. let shown : can_match forms ts ≡ true = (forms_tested forms ts).1 m in let no : can_match forms ts ≡ false = sym e ∙ f in cc)
 
 -- the front that is found is one, and no longer one is
 picked : (b : Bool) (x y : ℕ) → (b ≡ true → (if b then x else y) ≡ x) × (b ≡ false → (if b then x else y) ≡ y)
@@ -160,3 +159,17 @@ longest forms ts = (
   λ h. (fronts_tested forms (take (front_from forms ts (length ts)) ts)).0 (found_met forms ts (length ts) h),
   λ n h m. found_longest forms ts (length ts) n h ((fronts_tested forms (take n ts)).1 m),
 )
+
+-- a pattern of which nothing is said by fewer texts
+fine_matched : (forms : List Form) (pattern : List ℕ) → Fine ≡ judged forms pattern → can_match forms (tokens pattern) ≡ true
+fine_matched forms pattern e = by (can_match forms (tokens pattern)) (is_unknown forms pattern) _ e
+  where
+    by : (b u : Bool) (n : ℕ) → Fine ≡ (if b then Fine else (if u then UnknownPrefix else Dead n)) → b ≡ true
+    by true u n e = refl
+    by false true n e = cc
+    by false false n e = cc
+
+pub fine_both : (fewer all : List Form) → ((text : List ℕ) → HasOneOf fewer text → HasOneOf all text) → (pattern : List ℕ) → Fine ≡ judged fewer pattern → Fine ≡ judged all pattern
+fine_both fewer all sub pattern e =
+    let m : CanMatch fewer (tokens pattern) = (forms_tested fewer (tokens pattern)).0 (fine_matched fewer pattern e) in
+    fine_told all pattern ((forms_tested all (tokens pattern)).1 (m.0, sub m.0 m.1, m.2))

@@ -5,7 +5,8 @@ use Rattle.hwdb_spec.specs.Patterns.{Token}
 use Rattle.hwdb_spec.specs.Forms.{Form, can_match, meets_form}
 use Rattle.hwdb_spec_commands.specs.FormTable.{asked, free_prefixes, known}
 use Rattle.hwdb_spec_commands.specs.FormTable
-use Rattle.hwdb_forms.specs.Internal.{IsAsked}
+use Rattle.hwdb_spec_commands.specs.LikelyForms.{kept, likely}
+use Rattle.hwdb_forms.specs.Internal.{IsAsked, IsLikely}
 
 or_true : (b : Bool) → (b || true) ≡ true
 or_true true = refl
@@ -37,6 +38,25 @@ bluetooth_asked = asked_at 2 FormTable.bluetooth refl
 pub oui_asked : IsAsked FormTable.oui
 unfolding known
 oui_asked = asked_at 23 FormTable.oui refl
+
+likely_at : (n : ℕ) (form : Form) → likely ≡ take n likely ++ form ∷ drop (suc n) likely → IsLikely form
+likely_at n form place ts e = ap (λ (fs : List Form). can_match fs ts) place ∙ found (meets_form ts) (take n likely) form (drop (suc n) likely) e
+
+pub usb_likely : IsLikely FormTable.usb
+unfolding kept
+usb_likely = likely_at 0 FormTable.usb refl
+
+pub pci_likely : IsLikely FormTable.pci
+unfolding kept
+pci_likely = likely_at 1 FormTable.pci refl
+
+pub bluetooth_likely : IsLikely FormTable.bluetooth
+unfolding kept
+bluetooth_likely = likely_at 2 FormTable.bluetooth refl
+
+pub oui_likely : IsLikely FormTable.oui
+unfolding kept
+oui_likely = likely_at 9 FormTable.oui refl
 
 -- one of some forms, which Rust's values mean
 pub form_among : (A : Type 0) (f : A → Form) (l : List A) (i : ℕ) (d : A) (ts : List Token) → i < length l → meets_form ts (f (get_or l i d)) ≡ true → can_match (map f l) ts ≡ true

@@ -18,3 +18,4 @@ pub mod KeptLemmas
 pub mod WalkLemmas
 pub mod AfterLemmas
 pub mod LongestLemmas
+pub mod WithinLemmas

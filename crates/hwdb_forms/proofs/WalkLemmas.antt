@@ -351,7 +351,7 @@ any_at (true ∷ marks) (l ∷ ls) (suc n) us d h m e = ap (λ (b : Bool). if l 
     or_true false = refl
 any_at (false ∷ marks) (l ∷ ls) (suc n) us d h m e = any_at marks ls n us d (omega arith) m e
 
-pub some_met : (marks : List Bool) (ls : List (List Token → Bool)) (n : ℕ) (d : Bool) → n < length marks → get_or marks n d ≡ true → length ls ≡ length marks → AreLive ls → any_met marks ls (star ∷ []) ≡ true
+pub some_met : (marks : List Bool) (ls : List (List Token → Bool)) (n : ℕ) (d : Bool) → n < length marks → get_or marks n d ≡ true → length marks ≤ length ls → AreLive ls → any_met marks ls (star ∷ []) ≡ true
 some_met marks ls n d h m e l = any_at marks ls n (star ∷ []) d h m (l n (omega (arith, e)))
 
 unmarked : (marks : List Bool) (ls : List (List Token → Bool)) (us : List Token) → ((i : ℕ) → i < length marks → get_or marks i false ≡ false) → any_met marks ls us ≡ false
@@ -592,3 +592,10 @@ far_as told other ts n same f = record {
   met = λ h. sym (same (take n ts ++ star ∷ [])) ∙ f.met h;
   none = λ more h k. sym (same (take more ts ++ star ∷ [])) ∙ f.none more h k;
 }
+
+-- ---- the marks up to the last one
+pub trim_begun : (marks : List Bool) (ls : List (List Token → Bool)) (us : List Token) → any_met (take (length marks) marks) ls us ≡ any_met marks ls us
+trim_begun marks ls us = all_taken marks ls (length marks) us refl
+
+pub trim_more : (marks : List Bool) (ls : List (List Token → Bool)) (n at : ℕ) (us : List Token) (d whole : Bool) → n ≡ suc at → at < length marks → get_or marks at d ≡ false → any_met (take n marks) ls us ≡ whole → any_met (take at marks) ls us ≡ whole
+trim_more marks ls n at us d whole e h m before = sym (at_unmarked marks ls n at us d e h m) ∙ before

@@ -5,6 +5,7 @@ use Rattle.std.specs.List.{list_any}
 use Rattle.std.specs.Int.{bit_at}
 use Rattle.std.specs.Int.Bits.{bit_or}
 use Rattle.hwdb_spec_commands.specs.FormTable.{asked}
+use Rattle.hwdb_spec_commands.specs.LikelyForms.{likely}
 use Rattle.hwdb_spec.specs.Tree.{is_open}
 use Rattle.hwdb_spec.specs.Patterns.{Token, admits_byte, literal, Matches, star, token_at, tokens}
 use Rattle.hwdb_spec.specs.Forms.{Piece, Form, fixed, counted, repeated, is_in, is_star}
@@ -14,6 +15,8 @@ use Rattle.hwdb_spec.specs.declared.ByteSet.TheVariants.{AnyHex, Only, UpperHex}
 use Rattle.hwdb_forms.specs.declared.pieces.Piece.TheVariants.{Fixed, Counted, Repeated}
 use Rattle.hwdb_forms.specs.declared.pieces.Piece
 use Rattle.hwdb_forms.specs.declared.pieces.FormRow
+use Rattle.hwdb_forms.specs.declared.pieces.Table.{Table}
+use Rattle.hwdb_forms.specs.declared.pieces.Table.TheVariants.{Asked, Likely}
 use Rattle.hwdb_forms.specs.declared.leads.Passed.TheVariants.{No, Unknown, Yes}
 use Rattle.hwdb_forms.specs.declared.leads.Passed.{Passed}
 use Rattle.hwdb_forms.specs.declared.leads.Lead.{Lead}
@@ -30,6 +33,11 @@ piece_of (Repeated set) = repeated set
 
 abbrev pub form_of : FormRow.FormRow → Forms.Form
 form_of f = record { prefix = f.prefix.now; fields = map (λ field. map (λ way. map piece_of way.now) field.now) f.fields.now }
+
+-- the forms of a table
+abbrev pub forms_of : Table → List Form
+forms_of Asked = asked
+forms_of Likely = likely
 
 -- the tokens that the texts begin with
 abbrev pub views : List (Bor (List ℕ)) → List Token
@@ -211,6 +219,10 @@ IsOfMany set b = (b ≡ 42) ⊎ ((is_in set b ≡ true) × (Forms.is_wild b ≡ 
 abbrev pub IsAsked : Forms.Form → Type 0
 IsAsked form = (ts : List Token) → Forms.meets_form ts form ≡ true → Forms.can_match asked ts ≡ true
 
+-- the same of those that are likely asked
+abbrev pub IsLikely : Forms.Form → Type 0
+IsLikely form = (ts : List Token) → Forms.meets_form ts form ≡ true → Forms.can_match likely ts ≡ true
+
 -- whether a number has a bit
 abbrev pub has_bit : ℕ → ℕ → Bool
 has_bit n i = bit_at n i == 1
@@ -220,8 +232,8 @@ abbrev pub has_byte : Bytes → ℕ → Bool
 has_byte bytes b = if nat_lt b 128 then has_bit bytes.low b else has_bit bytes.high (b - 128)
 
 -- Bytes are those that may be written after a front, as far as they mean themselves and close no bracket.
-abbrev pub AreAfter : (front : List ℕ) → Bytes → Type 0
-AreAfter front bytes = (b : ℕ) → b < 256 → Forms.is_wild b ≡ false → Stays front b → has_byte bytes b ≡ Forms.can_begin asked (tokens (front ++ b ∷ []))
+abbrev pub AreAfter : List Form → (front : List ℕ) → Bytes → Type 0
+AreAfter forms front bytes = (b : ℕ) → b < 256 → Forms.is_wild b ≡ false → Stays front b → has_byte bytes b ≡ Forms.can_begin forms (tokens (front ++ b ∷ []))
 
 -- Pieces are led through by the first tokens to a place among both.
 abbrev pub LedTo : List Forms.Piece → List Token → ℕ → ℕ → Type 0

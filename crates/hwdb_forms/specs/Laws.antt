@@ -1,8 +1,9 @@
 -- What the laws say.
 use Rattle.std.specs.Prelude.{ℕ, List, [], ◌∷◌, ◌↔◌, ◌<◌, ◌≤◌, IsTrue, ⊤, length, take}
 use Rattle.hwdb_spec.specs.Patterns.{Token}
-use Rattle.hwdb_spec.specs.Forms.{CanBegin, CanMatch, Form, HasForm, can_begin, can_match, front_length}
-use Rattle.hwdb_spec_commands.specs.FormTable.{Known}
+use Rattle.hwdb_spec.specs.Forms.{CanBegin, CanMatch, Form, HasForm, HasOneOf, can_begin, can_match, front_length}
+use Rattle.hwdb_spec_commands.specs.FormTable.{Known, asked}
+use Rattle.hwdb_spec_commands.specs.LikelyForms.{likely}
 
 -- the test that computes is true exactly if some text of one of the forms is matched
 abbrev pub FormsAreTested : Type 0
@@ -23,3 +24,7 @@ FrontsAreLongest =
     (forms : List Form) (ts : List Token)
     → (0 < front_length forms ts → CanBegin forms (take (front_length forms ts) ts))
     × ((n : ℕ) → n ≤ length ts → CanBegin forms (take n ts) → n ≤ front_length forms ts)
+
+-- what udev likely asks is asked: each text of the narrower forms is one of the others
+abbrev pub LikelyTextsAreAsked : Type 0
+LikelyTextsAreAsked = (text : List ℕ) → HasOneOf likely text → HasOneOf asked text

@@ -3,13 +3,14 @@ ghost use Rattle.std.specs.Prelude.{◌≡◌, ◌↔◌, ◌<◌, ◌≤◌, �
 ghost use Rattle.hwdb_spec.specs.Patterns.{tokens as tokens_of};
 ghost use Rattle.hwdb_spec.specs.Forms.{CanMatch, judged};
 ghost use Rattle.hwdb_spec.specs.Forms;
-ghost use Rattle.hwdb_spec_commands.specs.FormTable;
+ghost use Rattle.hwdb_spec_commands.specs.FormTable.{asked as asked_forms};
+ghost use Rattle.hwdb_spec_commands.specs.LikelyForms.{likely as likely_forms};
 ghost use Rattle.hwdb_spec_commands.specs.Surroundings;
-ghost use Rattle.hwdb_forms.specs.Internal.{Every, HasWays, IsFront, form_of, views};
+ghost use Rattle.hwdb_forms.specs.Internal.{Every, HasWays, IsFront, form_of, forms_of, views};
 
 use crate::expecting::all_forms;
 use crate::guesses::is_fine_at_once;
-use crate::pieces::FormRow;
+use crate::pieces::{FormRow, Table};
 use crate::walks::{Far, far_along, is_dead_at_once};
 use hwdb_pattern::{front_size, token_texts};
 use hwdb_spec::Judgement;
@@ -71,25 +72,25 @@ fn reach(alloc: Global, forms: &[FormRow], tokens: &[&[u8]]) -> Result<Far, Allo
     })
 }
 
-/// How far the tokens go along the forms that are asked.
-fn reach_asked(alloc: Global, tokens: &[&[u8]]) -> Result<Far, AllocError>
+/// How far the tokens go along the forms of the table.
+fn reach_all(alloc: Global, table: Table, tokens: &[&[u8]]) -> Result<Far, AllocError>
     ensures met { IfOk result (λ far. far.is_met
-        ≡ Forms.can_match FormTable.asked (views tokens.now)) }
+        ≡ Forms.can_match (forms_of table) (views tokens.now)) }
     ensures front { IfOk result (λ far. far.is_met ≡ false → far.front
-        ≡ Forms.front_length FormTable.asked (views tokens.now)) }
+        ≡ Forms.front_length (forms_of table) (views tokens.now)) }
 {
-    let forms = all_forms(alloc)?;
+    let forms = all_forms(alloc, table)?;
     let far = reach(alloc, &forms, tokens)?;
     Ok(far)
 }
 
-/// Whether a text that is asked begins with what the tokens match.
-pub(crate) fn can_begin(alloc: Global, front: &[&[u8]]) -> Result<bool, AllocError>
-    ensures { IfOk result (λ met. met ≡ Forms.can_begin FormTable.asked (views front.now)) }
+/// Whether a text of the table begins with what the tokens match.
+pub(crate) fn can_begin(alloc: Global, table: Table, front: &[&[u8]]) -> Result<bool, AllocError>
+    ensures { IfOk result (λ met. met ≡ Forms.can_begin (forms_of table) (views front.now)) }
 {
     let mut tokens = front.to_vec(alloc)?;
     tokens.push(b"*")?;
-    let far = reach_asked(alloc, &tokens)?;
+    let far = reach_all(alloc, table, &tokens)?;
     Ok(far.is_met)
 }
 
@@ -124,33 +125,50 @@ pub fn prefix_of(pattern: &[u8]) -> &[u8]
 }
 
 /// Whether the pattern has a prefix, and no text of one of the forms begins with it.
-fn is_unknown(alloc: Global, pattern: &[u8], tokens: &[&[u8]]) -> Result<bool, AllocError>
+fn is_unknown(
+    alloc: Global,
+    table: Table,
+    pattern: &[u8],
+    tokens: &[&[u8]],
+) -> Result<bool, AllocError>
     requires { views tokens.now ≡ tokens_of pattern.now }
-    ensures { IfOk result (λ unknown. unknown ≡ Forms.is_unknown FormTable.asked pattern.now) }
+    ensures { IfOk result (λ unknown. unknown ≡ Forms.is_unknown (forms_of table) pattern.now) }
 {
     let size = prefix_size(pattern);
     if size == 0 {
         return Ok(false);
     }
-    let begins = can_begin(alloc, &tokens[..size.min(tokens.len())])?;
+    let begins = can_begin(alloc, table, &tokens[..size.min(tokens.len())])?;
     Ok(!begins)
 }
 
-/// As `judge`, by the pattern's tokens.
-fn judge_tokens(alloc: Global, pattern: &[u8]) -> Result<Judgement, AllocError>
+/// As `judge_by`, by the pattern's tokens.
+fn judge_tokens(alloc: Global, table: Table, pattern: &[u8]) -> Result<Judgement, AllocError>
     ensures fine { IfOk result (λ told. (told ≡ Judgement.Fine)
-        ↔ CanMatch FormTable.asked (tokens_of pattern.now)) }
-    ensures told { IfOk result (λ told. told ≡ judged FormTable.asked pattern.now) }
+        ↔ CanMatch (forms_of table) (tokens_of pattern.now)) }
+    ensures told { IfOk result (λ told. told ≡ judged (forms_of table) pattern.now) }
 {
     let tokens = token_texts(alloc, pattern)?;
-    let far = reach_asked(alloc, &tokens)?;
+    let far = reach_all(alloc, table, &tokens)?;
     if far.is_met {
         return Ok(Judgement::Fine);
     }
-    if is_unknown(alloc, pattern, &tokens)? {
+    if is_unknown(alloc, table, pattern, &tokens)? {
         return Ok(Judgement::UnknownPrefix);
     }
     Ok(Judgement::Dead(front_size(pattern, far.front)))
+}
+
+/// What is said of a pattern: whether it matches a text of the table, and else why not.
+fn judge_by(alloc: Global, table: Table, pattern: &[u8]) -> Result<Judgement, AllocError>
+    ensures fine { IfOk result (λ told. (told ≡ Judgement.Fine)
+        ↔ CanMatch (forms_of table) (tokens_of pattern.now)) }
+    ensures told { IfOk result (λ told. told ≡ judged (forms_of table) pattern.now) }
+{
+    if is_fine_at_once(table, pattern) {
+        return Ok(Judgement::Fine);
+    }
+    judge_tokens(alloc, table, pattern)
 }
 
 /// What is said of a pattern: whether it matches a text that udev asks, and else why not.
@@ -158,11 +176,44 @@ fn judge_tokens(alloc: Global, pattern: &[u8]) -> Result<Judgement, AllocError>
 /// The only error is want of memory.
 pub fn judge(alloc: Global, pattern: &[u8]) -> Result<Judgement, AllocError>
     ensures fine { IfOk result (λ told. (told ≡ Judgement.Fine)
-        ↔ CanMatch FormTable.asked (tokens_of pattern.now)) }
-    ensures told { IfOk result (λ told. told ≡ judged FormTable.asked pattern.now) }
+        ↔ CanMatch asked_forms (tokens_of pattern.now)) }
+    ensures told { IfOk result (λ told. told ≡ judged asked_forms pattern.now) }
 {
-    if is_fine_at_once(pattern) {
-        return Ok(Judgement::Fine);
+    judge_by(alloc, Table::Asked, pattern)
+}
+
+/// What is said of a pattern, by the texts that udev asks and by those that it likely asks.
+#[derive(Clone, Copy)]
+pub struct Judged {
+    /// Whether it matches a text that udev asks, and else why not.
+    pub asked: Judgement,
+    /// The same of the texts that it likely asks.
+    pub likely: Judgement,
+}
+
+/// What is said of a pattern, of which it is known what is said by likely texts.
+#[tactic(auto, using(crate::proofs::WithinLemmas::fine_likely))]
+fn judged_after(alloc: Global, likely: Judgement, pattern: &[u8]) -> Result<Judgement, AllocError>
+    requires { likely ≡ judged likely_forms pattern.now }
+    ensures { IfOk result (λ told. told ≡ judged asked_forms pattern.now) }
+{
+    match likely {
+        Judgement::Fine => Ok(Judgement::Fine),
+        _ => judge(alloc, pattern),
     }
-    judge_tokens(alloc, pattern)
+}
+
+/// What is said of a pattern, by the texts that udev asks and by those that it likely asks. What matches one of these matches one of
+/// those, so that most patterns are judged once.
+///
+/// The only error is want of memory.
+pub fn judge_both(alloc: Global, pattern: &[u8]) -> Result<Judged, AllocError>
+    ensures fine { IfOk result (λ told. (told.likely ≡ Judgement.Fine)
+        ↔ CanMatch likely_forms (tokens_of pattern.now)) }
+    ensures asked { IfOk result (λ told. told.asked ≡ judged asked_forms pattern.now) }
+    ensures likely { IfOk result (λ told. told.likely ≡ judged likely_forms pattern.now) }
+{
+    let likely = judge_by(alloc, Table::Likely, pattern)?;
+    let asked = judged_after(alloc, likely, pattern)?;
+    Ok(Judged { asked, likely })
 }

@@ -1,7 +1,8 @@
 //! Laws over the definitions alone. Each function does nothing: its contract is the law, for callers whose proofs need
 //! it.
-ghost use Rattle.hwdb_forms.specs.Laws.{EachFits, FormsAreTested, FrontsAreLongest, FrontsAreTested};
+ghost use Rattle.hwdb_forms.specs.Laws.{EachFits, FormsAreTested, FrontsAreLongest, FrontsAreTested, LikelyTextsAreAsked};
 ghost use Rattle.hwdb_spec_commands.specs.FormTable.{known};
+ghost use Rattle.hwdb_spec_commands.specs.LikelyForms.{narrow};
 
 /// The computing test `can_match` is true exactly if the tokens match some text of one of the forms.
 #[tactic(auto, using(crate::proofs::AnswerLemmas::forms_tested))]
@@ -24,4 +25,16 @@ pub fn fronts_are_longest()
 #[tactic(auto, using(crate::proofs::ExampleLemmas::known_fit))]
 pub fn examples_fit()
     ensures { EachFits known }
+{}
+
+/// Each narrower form has a text.
+#[tactic(auto, using(crate::proofs::ExampleLemmas::narrow_fit))]
+pub fn narrow_examples_fit()
+    ensures { EachFits narrow }
+{}
+
+/// What udev likely asks is asked: no narrower form has a text that the others haven't.
+#[tactic(auto, using(crate::proofs::WithinLemmas::likely_asked))]
+pub fn likely_texts_are_asked()
+    ensures { LikelyTextsAreAsked }
 {}

@@ -1,7 +1,8 @@
 //! Which patterns can never match: no text that udev asks has them match it.
 //!
 //! Which texts are asked is known by forms (`Forms` of `hwdb_spec`, `FormTable` of `hwdb_spec_commands`): `usb:v`, four digits, `p`,
-//! four digits and so on. A pattern is judged against all of them, so that a wildcard in its prefix needs no case of its own.
+//! four digits and so on. A pattern is judged against all of them, so that a wildcard in its prefix needs no case of its own. Those that
+//! are likely asked are known by narrower forms (`LikelyForms`), and one function judges by either.
 //!
 //! [`judge`] walks through a form, token by token. A form is a list of steps, and the walk keeps the places among them that it can be
 //! at. So the time is at most the pattern's length times the forms'. One walk says whether the pattern matches a text of the form,
@@ -11,6 +12,7 @@
 //! |---|---|
 //! | `pieces` | forms as data |
 //! | `table` | the forms that udev asks |
+//! | `likely` | the forms that udev likely asks |
 //! | `beginnings` | how their texts begin |
 //! | `sets` | sets of bytes, and which tokens take one of theirs |
 //! | `leads` | how pieces begin, before the first star |
@@ -33,6 +35,7 @@ mod guesses;
 mod judging;
 mod laws;
 mod leads;
+mod likely;
 mod likeness;
 mod pieces;
 mod plain;
@@ -43,7 +46,10 @@ mod templates;
 mod walks;
 
 pub use beginnings::is_asked;
-pub use expecting::expected;
-pub use judging::{judge, prefix_of};
-pub use laws::{examples_fit, forms_are_tested, fronts_are_longest, fronts_are_tested};
+pub use expecting::{expected, expected_likely};
+pub use judging::{Judged, judge, judge_both, prefix_of};
+pub use laws::{
+    examples_fit, forms_are_tested, fronts_are_longest, fronts_are_tested, likely_texts_are_asked,
+    narrow_examples_fit,
+};
 pub use likeness::likely_prefix;

@@ -12,6 +12,15 @@ pub(crate) enum Piece {
     Repeated(ByteSet),
 }
 
+/// Which forms.
+#[derive(Clone, Copy)]
+pub(crate) enum Table {
+    /// Those of the texts that udev asks.
+    Asked,
+    /// Those of the texts that it likely asks.
+    Likely,
+}
+
 /// A form: the bytes that its texts begin with, and then fields, each one of several ways.
 #[derive(Clone, Copy)]
 pub(crate) struct FormRow {

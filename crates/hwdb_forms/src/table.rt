@@ -88,7 +88,7 @@ pub(crate) fn bluetooth() -> FormRow
     }
 }
 
-fn acpi() -> FormRow
+pub(crate) fn acpi() -> FormRow
     ensures { form_of result ≡ FormTable.acpi }
 {
     FormRow {
@@ -124,7 +124,7 @@ fn dmi() -> FormRow
     }
 }
 
-fn evdev_input() -> FormRow
+pub(crate) fn evdev_input() -> FormRow
     ensures { form_of result ≡ FormTable.evdev_input }
 {
     FormRow {
@@ -171,7 +171,7 @@ fn evdev_machine() -> FormRow
     }
 }
 
-fn evdev_keyboard() -> FormRow
+pub(crate) fn evdev_keyboard() -> FormRow
     ensures { form_of result ≡ FormTable.evdev_keyboard }
 {
     FormRow {
@@ -239,7 +239,7 @@ fn evdev_name() -> FormRow
     }
 }
 
-fn id_input() -> FormRow
+pub(crate) fn id_input() -> FormRow
     ensures { form_of result ≡ FormTable.id_input }
 {
     FormRow {
@@ -473,7 +473,7 @@ fn libwacom() -> FormRow
     }
 }
 
-fn ieee1394_node() -> FormRow
+pub(crate) fn ieee1394_node() -> FormRow
     ensures { form_of result ≡ FormTable.ieee1394_node }
 {
     FormRow {
@@ -486,7 +486,7 @@ fn ieee1394_node() -> FormRow
     }
 }
 
-fn ieee1394_unit() -> FormRow
+pub(crate) fn ieee1394_unit() -> FormRow
     ensures { form_of result ≡ FormTable.ieee1394_unit }
 {
     FormRow {
@@ -513,7 +513,7 @@ pub(crate) fn oui() -> FormRow
     }
 }
 
-fn net() -> FormRow
+pub(crate) fn net() -> FormRow
     ensures { form_of result ≡ FormTable.net }
 {
     FormRow {
@@ -522,7 +522,7 @@ fn net() -> FormRow
     }
 }
 
-fn sdio() -> FormRow
+pub(crate) fn sdio() -> FormRow
     ensures { form_of result ≡ FormTable.sdio }
 {
     FormRow {
@@ -538,7 +538,7 @@ fn sdio() -> FormRow
     }
 }
 
-fn vmbus() -> FormRow
+pub(crate) fn vmbus() -> FormRow
     ensures { form_of result ≡ FormTable.vmbus }
 {
     FormRow {
@@ -547,7 +547,7 @@ fn vmbus() -> FormRow
     }
 }
 
-fn fb() -> FormRow
+pub(crate) fn fb() -> FormRow
     ensures { form_of result ≡ FormTable.fb }
 {
     FormRow {
@@ -583,7 +583,7 @@ fn fb() -> FormRow
     }
 }
 
-fn tpm2() -> FormRow
+pub(crate) fn tpm2() -> FormRow
     ensures { form_of result ≡ FormTable.tpm2 }
 {
     FormRow {
@@ -592,7 +592,7 @@ fn tpm2() -> FormRow
     }
 }
 
-fn block() -> FormRow
+pub(crate) fn block() -> FormRow
     ensures { form_of result ≡ FormTable.block }
 {
     FormRow {

@@ -165,15 +165,15 @@ fn pass_byte(
 
 /// The places after a star.
 fn past_star(alloc: Global, steps: &[Step], now: Vec<bool>) -> Result<Vec<bool>, AllocError>
-    requires { length now.items ≡ length steps.now }
-    ensures long { IfOk result (λ next. length next.items ≡ length steps.now) }
+    requires { length now.items ≤ length steps.now }
+    ensures long { IfOk result (λ next. length next.items ≤ length steps.now) }
     ensures met { IfOk result (λ next. (us : List Token)
         → any_met next.items (places steps.now) us
         ≡ any_met now.items (places steps.now) (star ∷ us)) }
 {
     let mut now = now;
-    let mut next = vec![in alloc; false; steps.len()]?;
-    let mut at = steps.len();
+    let mut next = vec![in alloc; false; now.len()]?;
+    let mut at = now.len();
     while at > 0 {
         at -= 1;
         if now[at] {
@@ -190,17 +190,17 @@ fn past_byte(
     text: &[u8],
     now: Vec<bool>,
 ) -> Result<Vec<bool>, AllocError>
-    requires long { length now.items ≡ length steps.now }
+    requires long { length now.items ≤ length steps.now }
     requires star { Forms.is_star (token_at text.now) ≡ false }
-    ensures long { IfOk result (λ next. length next.items ≡ length steps.now) }
+    ensures long { IfOk result (λ next. length next.items ≤ length steps.now) }
     ensures met { IfOk result (λ next. (us : List Token)
         → any_met next.items (places steps.now) us
         ≡ any_met now.items (places steps.now) (token_at text.now ∷ us)) }
 {
     let own = own_byte(text);
     let mut now = now;
-    let mut next = vec![in alloc; false; steps.len()]?;
-    let mut at = steps.len();
+    let mut next = vec![in alloc; false; now.len()]?;
+    let mut at = now.len();
     while at > 0 {
         at -= 1;
         if now[at] {
@@ -210,25 +210,41 @@ fn past_byte(
     Ok(next)
 }
 
+/// The marks up to the last place that is marked. A step leads to no later place, so that later ones need no look.
+fn trimmed(marks: Vec<bool>) -> Vec<bool>
+    ensures long { length result.items ≤ length marks.items }
+    ensures met { (ls : List (List Token → Bool)) (us : List Token)
+        → any_met result.items ls us ≡ any_met marks.items ls us }
+{
+    let mut size = marks.len();
+    while size > 0 && !marks[size - 1] {
+        size -= 1;
+    }
+    let mut marks = marks;
+    marks.truncate(size);
+    marks
+}
+
 /// The places after a token.
 fn past(alloc: Global, steps: &[Step], text: &[u8], now: Vec<bool>) -> Result<Vec<bool>, AllocError>
-    requires { length now.items ≡ length steps.now }
-    ensures long { IfOk result (λ next. length next.items ≡ length steps.now) }
+    requires { length now.items ≤ length steps.now }
+    ensures long { IfOk result (λ next. length next.items ≤ length steps.now) }
     ensures met { IfOk result (λ next. (us : List Token)
         → any_met next.items (places steps.now) us
         ≡ any_met now.items (places steps.now) (token_at text.now ∷ us)) }
 {
-    if begins_star(text) {
-        past_star(alloc, steps, now)
+    let next = if begins_star(text) {
+        past_star(alloc, steps, now)?
     } else {
-        past_byte(alloc, steps, text, now)
-    }
+        past_byte(alloc, steps, text, now)?
+    };
+    Ok(trimmed(next))
 }
 
 /// The place that a walk begins at.
 fn begun(alloc: Global, steps: &[Step], entry: usize) -> Result<Vec<bool>, AllocError>
     requires { entry < length steps.now }
-    ensures long { IfOk result (λ now. length now.items ≡ length steps.now) }
+    ensures long { IfOk result (λ now. length now.items ≤ length steps.now) }
     ensures met { IfOk result (λ now. (us : List Token)
         → any_met now.items (places steps.now) us ≡ met_at (places steps.now) entry us) }
 {
@@ -242,7 +258,7 @@ fn is_none(marks: &[bool]) -> bool
     ensures none { result ≡ true → (ls : List (List Token → Bool)) (us : List Token)
         → any_met marks.now ls us ≡ false }
     ensures some { result ≡ false → (ls : List (List Token → Bool))
-        → length ls ≡ length marks.now → AreLive ls → any_met marks.now ls (star ∷ []) ≡ true }
+        → length marks.now ≤ length ls → AreLive ls → any_met marks.now ls (star ∷ []) ≡ true }
 {
     for mark in marks {
         if *mark {
@@ -256,7 +272,7 @@ fn is_none(marks: &[bool]) -> bool
 fn go(alloc: Global, steps: &[Step], entry: usize, tokens: &[&[u8]]) -> Result<Gone, AllocError>
     requires entry { entry < length steps.now }
     requires live { AreLive (places steps.now) }
-    ensures long { IfOk result (λ gone. length gone.now.items ≡ length steps.now) }
+    ensures long { IfOk result (λ gone. length gone.now.items ≤ length steps.now) }
     ensures met { IfOk result (λ gone. (us : List Token)
         → any_met gone.now.items (places steps.now) us
         ≡ met_at (places steps.now) entry (views tokens.now ++ us)) }
@@ -278,7 +294,7 @@ fn go(alloc: Global, steps: &[Step], entry: usize, tokens: &[&[u8]]) -> Result<G
 /// A walk through the steps of a form.
 fn walk(alloc: Global, form: FormRow, tokens: &[&[u8]]) -> Result<Walked, AllocError>
     requires { HasWays (form_of form) }
-    ensures long { IfOk result (λ w. length w.now.items ≡ length w.steps.items) }
+    ensures long { IfOk result (λ w. length w.now.items ≤ length w.steps.items) }
     ensures live { IfOk result (λ w. AreLive (places w.steps.items)) }
     ensures met { IfOk result (λ w. (us : List Token)
         → any_met w.now.items (places w.steps.items) us
@@ -318,11 +334,11 @@ fn is_end(step: Step) -> bool
 
 /// Whether a text may end at one of the places.
 fn ends(steps: &[Step], now: Vec<bool>) -> bool
-    requires { length now.items ≡ length steps.now }
+    requires { length now.items ≤ length steps.now }
     ensures { result ≡ any_met now.items (places steps.now) [] }
 {
     let mut now = now;
-    let mut at = steps.len();
+    let mut at = now.len();
     while at > 0 {
         at -= 1;
         if now[at] {
@@ -350,14 +366,14 @@ fn step_bytes(step: Step) -> Bytes
 
 /// Which bytes may be at one of the places.
 fn bytes_at(steps: &[Step], now: Vec<bool>) -> Bytes
-    requires now { length now.items ≡ length steps.now }
+    requires now { length now.items ≤ length steps.now }
     requires live { AreLive (places steps.now) }
     ensures { (byte : ℕ) → byte < 256 → has_byte result byte
         ≡ any_met now.items (places steps.now) (literal byte ∷ star ∷ []) }
 {
     let mut now = now;
     let mut bytes = no_bytes();
-    let mut at = steps.len();
+    let mut at = now.len();
     while at > 0 {
         at -= 1;
         if now[at] {

@@ -1,6 +1,7 @@
 pub mod MapLemmas
 pub mod ComputedSysfsRows
 pub mod ComputedFormRows
+pub mod ComputedLikelyRows
 pub mod ComputedCheckRows
 pub mod ComputedChangeRows
 pub mod ComputedWantedRows

@@ -1,5 +1,6 @@
 pub mod SysfsRows
 pub mod FormRows
+pub mod LikelyRows
 pub mod CheckRows
 pub mod ChangeRows
 pub mod WantedRows

@@ -29,6 +29,6 @@ mod rows;
 
 pub use rows::{
     answer_rows, change_rows, check_rows, colour_rows, compare_rows, device_rows, error_rows,
-    explain_rows, form_rows, near_rows, over_text_rows, place_rows, status_rows, sysfs_rows,
-    task_rows, update_rows, verify_rows, wanted_rows, word_rows,
+    explain_rows, form_rows, likely_rows, near_rows, over_text_rows, place_rows, status_rows,
+    sysfs_rows, task_rows, update_rows, verify_rows, wanted_rows, word_rows,
 };

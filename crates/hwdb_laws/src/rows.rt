@@ -7,6 +7,7 @@ ghost use Rattle.hwdb_laws.specs.CompareRows;
 ghost use Rattle.hwdb_laws.specs.DeviceRows;
 ghost use Rattle.hwdb_laws.specs.ErrorRows;
 ghost use Rattle.hwdb_laws.specs.FormRows;
+ghost use Rattle.hwdb_laws.specs.LikelyRows;
 ghost use Rattle.hwdb_laws.specs.OverTextRows;
 ghost use Rattle.hwdb_laws.specs.PlaceRows;
 ghost use Rattle.hwdb_laws.specs.SaidRows;
@@ -48,6 +49,26 @@ pub fn form_rows()
     ensures oui { FormRows.OuiRows }
     ensures screen { FormRows.ScreenRows }
     ensures single { FormRows.SingleRows }
+{}
+
+/// The forms of strings that udev likely asks.
+pub fn likely_rows()
+    ensures machine { LikelyRows.MachineRows }
+    ensures dmi { LikelyRows.DmiRows }
+    ensures name { LikelyRows.NameRows }
+    ensures name_machine { LikelyRows.NameMachineRows }
+    ensures place { LikelyRows.PlaceRows }
+    ensures place_machine { LikelyRows.PlaceMachineRows }
+    ensures bus { LikelyRows.BusRows }
+    ensures mouse { LikelyRows.MouseRows }
+    ensures camera { LikelyRows.CameraRows }
+    ensures touchpad { LikelyRows.TouchpadRows }
+    ensures joystick { LikelyRows.JoystickRows }
+    ensures sensor { LikelyRows.SensorRows }
+    ensures sensor_machine { LikelyRows.SensorMachineRows }
+    ensures battery { LikelyRows.BatteryRows }
+    ensures battery_machine { LikelyRows.BatteryMachineRows }
+    ensures tablet { LikelyRows.TabletRows }
 {}
 
 /// What `check` says.

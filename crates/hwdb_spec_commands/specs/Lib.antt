@@ -1,4 +1,5 @@
 pub mod FormTable
+pub mod LikelyForms
 pub mod Differences
 pub mod DeviceDifferences
 pub mod Dump

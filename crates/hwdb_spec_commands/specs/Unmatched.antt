@@ -1,7 +1,9 @@
--- What is said of a pattern that matches no text that udev asks: where it goes wrong, and what could be there. Our choice.
+-- What is said of a pattern that matches no text that udev asks, or none that it likely asks: where it goes wrong, and what could be there.
+-- Our choice.
 use Rattle.std.specs.Prelude.{Bool, true, false, ℕ, List, [], ◌∷◌, ◌++◌, ◌+◌, ◌==◌, Option, None, Some, if◌then◌else◌, codes, flat_map, length, nat_lt, take}
 use Rattle.hwdb_spec.specs.Forms.{expected, judged}
 use Rattle.hwdb_spec_commands.specs.FormTable.{asked, likely_prefix}
+use Rattle.hwdb_spec_commands.specs.LikelyForms.{likely}
 use Rattle.hwdb_spec.specs.Lines.{begins_with, byte, is_none, max_pattern}
 use Rattle.hwdb_spec_commands.specs.Reports.{shown_byte}
 use Rattle.hwdb_spec.specs.declared.Judgement.{Judgement}
@@ -21,6 +23,16 @@ abbrev pub is_unmatched : Judgement → Bool
 is_unmatched Fine = false
 is_unmatched UnknownPrefix = true
 is_unmatched (Dead place) = true
+
+-- What is said of a pattern that matches a text that udev asks: it is fine if it matches one that udev likely asks. Nothing is said of
+-- any other text.
+unfoldable pub likelihood_of : List ℕ → Judgement
+likelihood_of text =
+    if is_none text then Fine else
+    (if begins_with (byte " ") text then Fine else
+    (if begins_with (byte "\t") text then Fine else
+    (if nat_lt max_pattern (length text) then Fine else
+    (if is_unmatched (judged asked text) then Fine else judged likely text))))
 
 -- what is printed of it
 abbrev pub judgement_text : Judgement → List ℕ
@@ -86,3 +98,17 @@ abbrev pub judgement_hint : Judgement → List ℕ → List ℕ
 judgement_hint Fine pattern = []
 judgement_hint UnknownPrefix pattern = prefix_hint (meant_prefix pattern)
 judgement_hint (Dead place) pattern = place_hint (take place pattern)
+
+-- the bytes that could likely be after the front of a pattern
+unfoldable pub likely_after : List ℕ → List ℕ
+likely_after front = expected likely front
+
+-- what to do about a pattern that likely goes wrong after this front
+abbrev pub likely_place_hint : List ℕ → List ℕ
+likely_place_hint front = if nat_lt 256 (length front) then compare_hint else runs_hint (runs (likely_after front))
+
+-- what to do about a pattern of which this is said
+abbrev pub likelihood_hint : Judgement → List ℕ → List ℕ
+likelihood_hint Fine pattern = []
+likelihood_hint UnknownPrefix pattern = compare_hint
+likelihood_hint (Dead place) pattern = likely_place_hint (take place pattern)

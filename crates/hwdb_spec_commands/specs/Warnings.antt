@@ -16,11 +16,11 @@ use Rattle.hwdb_spec_commands.specs.Properties.{misuse, misuse_hint, misuse_text
 use Rattle.hwdb_spec_commands.specs.Kinds.{is_told}
 use Rattle.hwdb_spec_commands.specs.Reports.{hint_line, mark_line, shown_line}
 use Rattle.hwdb_spec_commands.specs.Surroundings.{is_unpaired, is_unread, unpaired_hint, unread_hint}
-use Rattle.hwdb_spec_commands.specs.Unmatched.{is_unmatched, judgement_hint, judgement_of, judgement_place, judgement_text}
+use Rattle.hwdb_spec_commands.specs.Unmatched.{is_unmatched, judgement_hint, judgement_of, judgement_place, judgement_text, likelihood_hint, likelihood_of}
 use Rattle.hwdb_spec_commands.specs.declared.WarningKind.{WarningKind}
 use Rattle.hwdb_spec_commands.specs.declared.vocabulary.Misuse.{Misuse}
 use Rattle.hwdb_spec_commands.specs.declared.vocabulary.Misuse.TheVariants.{NearName, OldName, ScanCode, SingularMatrix, TwoDefaults, UnfitValue, UnknownKey, ZeroRow}
-use Rattle.hwdb_spec_commands.specs.declared.WarningKind.TheVariants.{ByteOrderMark, CarriageReturn, CutValue, EmptyRange, LeadingTab, MayBeTooDeep, Misused, OpenBracket, RepeatedMatch, Replaced, SpacedEquals, TooLongForUdev, Unmatched, Unpaired, Unread}
+use Rattle.hwdb_spec_commands.specs.declared.WarningKind.TheVariants.{ByteOrderMark, CarriageReturn, CutValue, EmptyRange, LeadingTab, MayBeTooDeep, Misused, OpenBracket, RepeatedMatch, Replaced, SpacedEquals, TooLongForUdev, Unlikely, Unmatched, Unpaired, Unread}
 
 -- whether the key of a property ends with a space or a tab, or its value begins with one
 abbrev pub is_spaced : Line → Bool
@@ -113,8 +113,8 @@ is_known l = not (is_none (property_row (key l)))
 -- a match line: a `[` of it begins no closed bracket; before the first such `[` a range has no members. Of a property that has a
 -- key: a blank is beside its first `=`. Of a property with a `=`: a `#` cuts it, before which no blank is. It is a match line that
 -- is in its record already. Lines after it replace what it gives. What is known of properties doesn't fit it, or the patterns of
--- its record don't, or the other properties that these are given. It is a pattern that matches no text that udev asks, or one that
--- udev can't take, or with which a database may be too deep.
+-- its record don't, or the other properties that these are given. It is a pattern that matches no text that udev asks, or none that it
+-- likely asks, or one that udev can't take, or with which a database may be too deep.
 abbrev pub warns : (file : List ℕ) → WarningKind → (line clean : Line) → Bool
 warns file ByteOrderMark line l = starts_with nat_eq l.text (239 ∷ 187 ∷ 191 ∷ [])
 warns file LeadingTab line l = begins_with (byte "\t") l.text
@@ -130,16 +130,17 @@ warns file (Misused why) line l = is_some (misused l)
 warns file (Unread known) line l = is_unread file l.number
 warns file Unpaired line l = is_unpaired file l.number
 warns file (Unmatched told) line l = is_unmatched (judgement_of l.text)
+warns file (Unlikely told) line l = is_unmatched (likelihood_of l.text)
 warns file TooLongForUdev line l = is_too_long l
 warns file MayBeTooDeep line l = may_be_too_deep l
 
 -- The kinds of warnings that a line may get. That of a replaced one names the last line that replaces. That of a misused one says
--- how, that of an unread one whether it is known, and that of a pattern what is said of it.
+-- how, that of an unread one whether it is known, and those of a pattern what is said of it.
 abbrev pub line_kinds : (file : List ℕ) → (clean : Line) → List WarningKind
 line_kinds file clean =
     ByteOrderMark ∷ LeadingTab ∷ CarriageReturn ∷ OpenBracket ∷ EmptyRange ∷ SpacedEquals ∷ CutValue ∷ RepeatedMatch
     ∷ Replaced (greatest (replacing file clean.number)) ∷ Misused (unwrap_or (misused clean) NearName) ∷ Unread (is_known clean) ∷ Unpaired
-    ∷ Unmatched (judgement_of clean.text) ∷ TooLongForUdev ∷ MayBeTooDeep ∷ []
+    ∷ Unmatched (judgement_of clean.text) ∷ Unlikely (likelihood_of clean.text) ∷ TooLongForUdev ∷ MayBeTooDeep ∷ []
 
 -- whether a line gets a warning that is told
 abbrev pub gets : (allowed : List (List ℕ)) → (file : List ℕ) → (line clean : Line) → WarningKind → Bool
@@ -173,6 +174,7 @@ warning_text (Unread true) = codes "a property that isn't read below its pattern
 warning_text (Unread false) = codes "a property that nothing is known to read"
 warning_text Unpaired = codes "a property that is read with others alone"
 warning_text (Unmatched told) = judgement_text told
+warning_text (Unlikely told) = codes "a string that udev asks hardly goes on like this"
 warning_text TooLongForUdev = codes "udev takes at most 2046 bytes from the first *, ? or [ on"
 warning_text MayBeTooDeep = codes "with other lines, more than 2047 bytes may be too deep for udev"
 
@@ -198,6 +200,7 @@ warning_place (Misused TwoDefaults) text clean = position_or_len (is (byte "="))
 warning_place (Unread known) text clean = prefix_len is_indent text
 warning_place Unpaired text clean = prefix_len is_indent text
 warning_place (Unmatched told) text clean = judgement_place told
+warning_place (Unlikely told) text clean = judgement_place told
 warning_place TooLongForUdev text clean = position_or_len is_wild clean
 warning_place MayBeTooDeep text clean = longest_line
 
@@ -216,6 +219,7 @@ warning_hint (Misused why) clean = misuse_hint why (key clean) (value clean)
 warning_hint (Unread known) clean = unread_hint known (key clean)
 warning_hint Unpaired clean = unpaired_hint (key clean)
 warning_hint (Unmatched told) clean = judgement_hint told clean.text
+warning_hint (Unlikely told) clean = likelihood_hint told clean.text
 warning_hint TooLongForUdev clean = codes "shorten it: systemd 252 and 257 crash at it, and 262 finds nothing"
 warning_hint MayBeTooDeep clean = codes "shorten it: systemd 262 refuses a depth of more than 2048, which hwdb verify tells"
 

@@ -5,6 +5,7 @@
 //! | File | Says |
 //! |---|---|
 //! | `FormTable` | the forms of the texts that udev asks |
+//! | `LikelyForms` | the forms of the texts that udev likely asks |
 //! | `Differences` | what came, went and changed between two databases, and its lines |
 //! | `DeviceDifferences` | the same of what they give a device |
 //! | `Dump` | a database as text of the form that hwdb(7) describes, and whether the text says what the database assigns |
@@ -13,7 +14,7 @@
 //! | `Json` | each line of JSON that is printed, and what is read of one |
 //! | `Reports` | the reports of a file's faults |
 //! | `Properties` | which properties are known, which values they take, and what is said of others |
-//! | `Unmatched` | what is said of a pattern that matches no text that udev asks |
+//! | `Unmatched` | what is said of a pattern that matches no text that udev asks, or none that it likely asks |
 //! | `Surroundings` | what is said of a property because of the patterns and properties around it |
 //! | `Kinds` | the names of faults and warnings, and which warnings are told |
 //! | `Warnings` | the warnings of a file, and their reports |
@@ -129,6 +130,8 @@ pub enum WarningKind {
     Unpaired,
     /// It is a pattern that matches no text that udev asks.
     Unmatched(Judgement),
+    /// It is a pattern that matches a text that udev asks, and none that it likely asks.
+    Unlikely(Judgement),
     /// It is a pattern that udev can't take.
     TooLongForUdev,
     /// It is a match line with which a database may be too deep for udev.

@@ -1,6 +1,6 @@
 use Rattle.std.proofs.Common.{◌≡◌, ◌∙◌, ap, subst, sym, nat_lt, List, ℕ, []}
 use Rattle.std.specs.Option.{is_some}
-use Rattle.hwdb_spec_commands.specs.Unmatched.{is_unmatched, judgement_of}
+use Rattle.hwdb_spec_commands.specs.Unmatched.{is_unmatched, judgement_of, likelihood_of}
 use Rattle.hwdb_spec_commands.specs.Warnings.{all_warnings, misused}
 use Rattle.hwdb_check.specs.Internal.{line_of, read_line}
 use Rattle.hwdb_check.proofs.ReplaceLemmas.{some_replaces}
@@ -39,7 +39,10 @@ returns c = λ e allowed.
                             sym c.requires.unpaired ∙ c.if-line-3.false,
                             (
                               ap (λ (t : List ℕ). is_unmatched (judgement_of t)) c.requires.clean ∙ ap is_unmatched (sym c.requires.judgement) ∙ sym c.is_unmatched.ensures ∙ c.if-is_unmatched.false,
-                              (sym c.is_too_long.ensures ∙ c.if-is_too_long.false, (sym c.may_be_too_deep.ensures ∙ c.if-may_be_too_deep.false, tt)),
+                              (
+                                ap (λ (t : List ℕ). is_unmatched (likelihood_of t)) c.requires.clean ∙ ap is_unmatched (sym c.requires.likelihood) ∙ sym c.is_unmatched-2.ensures ∙ c.if-is_unmatched-2.false,
+                                (sym c.is_too_long.ensures ∙ c.if-is_too_long.false, (sym c.may_be_too_deep.ensures ∙ c.if-may_be_too_deep.false, tt)),
+                              ),
                             ),
                           ),
                         ),

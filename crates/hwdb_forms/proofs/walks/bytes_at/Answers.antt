@@ -10,7 +10,7 @@ loop-at-preserved-then-index c = record {
   within = omega arith;
   long = c.lead.ensures.long ∙ c.loop-at.invariant.long;
   met = λ b h. bytes_led c.loop-at.now.items _ (places c.args.steps.now) c.loop-at.at (c.loop-at.at - 1) b _ _ (has_byte c.loop-at.bytes b) (has_byte c.step_bytes.result b) _ _ (omega arith) (omega (arith, c.loop-at.invariant.long)) (sym c.index.ensures ∙ c.if-index.true)
-      (omega (arith, places_long c.args.steps.now)) c.requires.live (place_told c.args.steps.now (c.loop-at.at - 1) _ _ (omega arith) refl) c.lead.ensures.led (c.step_bytes.ensures b h) (c.joined-bytes.ensures b) (c.loop-at.invariant.met b h);
+      (omega (arith, places_long c.args.steps.now, c.loop-at.invariant.within, c.requires.now)) c.requires.live (place_told c.args.steps.now (c.loop-at.at - 1) _ _ (omega (arith, c.loop-at.invariant.within, c.requires.now)) refl) c.lead.ensures.led (c.step_bytes.ensures b h) (c.joined-bytes.ensures b) (c.loop-at.invariant.met b h);
 }
 
 pub loop-at-preserved : goal.loop-at-preserved

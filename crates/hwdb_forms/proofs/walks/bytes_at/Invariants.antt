@@ -6,8 +6,8 @@ use Rattle.hwdb_forms.proofs.walks.bytes_at.Given as goal
 
 abbrev pub invariant-loop-at : goal.invariant-loop-at
 invariant-loop-at l = record {
-  within : l.at ≤ length l.steps;
-  long : length l.now.items ≡ length l.steps;
+  within : l.at ≤ length l.fn.now.items;
+  long : length l.now.items ≡ length l.fn.now.items;
   met : (b : ℕ) → b < 256 → (if has_byte l.bytes b then true else any_met (take l.at l.now.items) (places l.steps) (literal b ∷ star ∷ [])) ≡ any_met l.fn.now.items (places l.steps) (literal b ∷ star ∷ []);
 }
 

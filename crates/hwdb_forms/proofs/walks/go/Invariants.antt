@@ -6,7 +6,7 @@ use Rattle.hwdb_forms.proofs.walks.go.Given as goal
 abbrev pub invariant-loop-at : goal.invariant-loop-at
 invariant-loop-at l = record {
   within : l.at ≤ length l.tokens;
-  long : length l.now.items ≡ length l.steps;
+  long : length l.now.items ≤ length l.steps;
   met : (us : List Token) → any_met l.now.items (places l.steps) us ≡ met_at (places l.steps) l.entry (take l.at (views l.tokens) ++ us);
   some : 0 < l.at → any_met l.now.items (places l.steps) (star ∷ []) ≡ true;
 }

@@ -1,5 +1,5 @@
-use Rattle.std.proofs.Common.{◌+◌, ◌∙◌, List, Bool, ap, arith, subst}
-use Rattle.hwdb_spec.specs.Patterns.{star, token_at}
+use Rattle.std.proofs.Common.{◌∙◌, arith, subst}
+use Rattle.hwdb_spec.specs.Patterns.{token_at}
 use Rattle.hwdb_forms.specs.declared.steps.Step.{Step}
 use Rattle.hwdb_forms.specs.Internal.{IsPlace}
 use Rattle.hwdb_forms.proofs.WalkLemmas.{byte_met, byte_unmet, either_way, end_unmet, left_as, many_met_by, many_unmet, marked_twice, one_met_by, one_unmet}

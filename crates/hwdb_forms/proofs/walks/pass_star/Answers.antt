@@ -1,5 +1,5 @@
-use Rattle.std.proofs.Common.{◌+◌, ◌∙◌, List, Bool, ap, arith, subst}
-use Rattle.hwdb_spec.specs.Patterns.{star, token_at}
+use Rattle.std.proofs.Common.{◌∙◌, arith, subst}
+use Rattle.hwdb_spec.specs.Patterns.{star}
 use Rattle.hwdb_forms.specs.declared.steps.Step.{Step}
 use Rattle.hwdb_forms.specs.Internal.{IsPlace}
 use Rattle.hwdb_forms.proofs.WalkLemmas.{either_way, left_as, marked_twice, star_byte, star_end, star_many, star_one}

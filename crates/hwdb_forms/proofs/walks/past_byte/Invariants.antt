@@ -5,9 +5,9 @@ use Rattle.hwdb_forms.proofs.walks.past_byte.Given as goal
 
 abbrev pub invariant-loop-at : goal.invariant-loop-at
 invariant-loop-at l = record {
-  within : l.at ≤ length l.steps;
-  now : length l.now.items ≡ length l.steps;
-  next : length l.next.items ≡ length l.steps;
+  within : l.at ≤ length l.fn.now.items;
+  now : length l.now.items ≡ length l.fn.now.items;
+  next : length l.next.items ≡ length l.fn.now.items;
   left : (us : List Token) → left l.at l.now.items l.next.items (places l.steps) (token_at l.text) us ≡ any_met l.fn.now.items (places l.steps) ((token_at l.text) ∷ us);
 }
 

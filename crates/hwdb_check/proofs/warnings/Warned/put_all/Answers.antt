@@ -10,7 +10,7 @@ pub returns-clause-text : goal.returns-clause-text
 returns-clause-text c =
     let line = c.args.line.now in
     let test = gets (map string_bytes c.args.telling.now.allowed.now) line.bytes.now (read_line line) (clean_of line) in
-    let count : length c.kinds_of-kinds.result ≡ 15 = ap length c.kinds_of-kinds.ensures in
+    let count : length c.kinds_of-kinds.result ≡ 16 = ap length c.kinds_of-kinds.ensures in
     c.loop-kind.invariant.text
     ∙ ap (λ ks. c.args.self.now.text.items ++ flat_map (told_warning c.args.telling.now.json c.args.path.now (read_line line)) (filter test ks))
     (take_all c.loop-kind.kind-index c.kinds_of-kinds.result (omega (arith, count, c.loop-kind-test.false)) ∙ c.kinds_of-kinds.ensures)
@@ -19,6 +19,6 @@ pub returns-clause-found : goal.returns-clause-found
 returns-clause-found c =
     let line = c.args.line.now in
     let test = gets (map string_bytes c.args.telling.now.allowed.now) line.bytes.now (read_line line) (clean_of line) in
-    let count : length c.kinds_of-kinds.result ≡ 15 = ap length c.kinds_of-kinds.ensures in
+    let count : length c.kinds_of-kinds.result ≡ 16 = ap length c.kinds_of-kinds.ensures in
     c.loop-kind.invariant.found
     ∙ ap (λ ks. c.args.self.now.found.items ++ filter test ks) (take_all c.loop-kind.kind-index c.kinds_of-kinds.result (omega (arith, count, c.loop-kind-test.false)) ∙ c.kinds_of-kinds.ensures)

@@ -2,7 +2,7 @@ use Rattle.std.proofs.Common.{◌∙◌, ◌++◌, ap, map, List}
 use Rattle.hwdb_spec_commands.specs.FormTable.{free, known}
 use Rattle.hwdb_spec.specs.Forms.{Form}
 use Rattle.hwdb_forms.proofs.FrontLemmas.{mapped}
-use Rattle.hwdb_forms.proofs.expecting.all_forms.Goals as goal
+use Rattle.hwdb_forms.proofs.expecting.asked_forms.Goals as goal
 
 pub returns : goal.returns
 returns c =
