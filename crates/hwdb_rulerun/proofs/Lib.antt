@@ -1,0 +1,5 @@
+pub mod MatchLemmas
+pub mod BackLemmas
+pub mod ToldLemmas
+pub mod ComputedRows
+pub mod CoverLemmas
