@@ -6,7 +6,7 @@ use Rattle.hwdb_rulefiles.specs.RuleLines.{taking_most}
 use Rattle.hwdb_rulefiles.specs.RuleOrder.{by_rank}
 use Rattle.hwdb_rulefiles.specs.RuleJumps.{resolved}
 use Rattle.hwdb_rulefiles.specs.Escapes.{first_pieces}
-use Rattle.hwdb_rulerun.specs.Rows.{MatchRows, ConditionRows}
+use Rattle.hwdb_rulerun.specs.Rows.{MatchRows, ConditionRows, LookupRows}
 
 pub match_rows_hold : MatchRows
 unfolding matches piece_then byte_then some_ending tokens_from token_at bracket_at items_from item_at classes
@@ -63,4 +63,20 @@ condition_rows_hold = record {
   no_decides = refl;
   unknown_stays = refl;
   no_condition = refl;
+}
+
+pub lookup_rows_hold : LookupRows
+unfolding matches piece_then byte_then some_ending tokens_from token_at bracket_at items_from item_at classes first_rows steps long_row taking_most by_rank resolved first_pieces
+lookup_rows_hold = record {
+  certain = refl;
+  refuted = refl;
+  perhaps = refl;
+  second = refl;
+  program = refl;
+  as_program = refl;
+  shortened = refl;
+  other = refl;
+  refused_line = refl;
+  own_cause = refl;
+  parents_cause = refl;
 }

@@ -3,3 +3,4 @@ pub mod BackLemmas
 pub mod ToldLemmas
 pub mod ComputedRows
 pub mod CoverLemmas
+pub mod CauseLemmas

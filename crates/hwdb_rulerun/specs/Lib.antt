@@ -7,3 +7,5 @@ pub mod Laws
 pub mod AskedViews
 pub mod Views
 pub mod Rows
+pub mod Causes
+pub mod CauseViews

@@ -1,12 +1,14 @@
 -- Values, texts and lines at which the definitions are computed. What udev does with each is from udev-rules.c (systemd 257), from fnmatch of
 -- the C library, and from `udevadm test`.
-use Rattle.std.specs.Prelude.{ℕ, List, [], ◌∷◌, codes, flat_map, ◌≡◌, Bool, true, false, Option, Some, None}
+use Rattle.std.specs.Prelude.{ℕ, List, [], ◌∷◌, codes, flat_map, map, ◌≡◌, Bool, true, false, Option, Some, None}
 use Prim.Native.String.{String}
 use Rattle.hwdb_rulefiles.specs.RuleTokens.{Token}
 use Rattle.hwdb_rulefiles.specs.RuleFiles.{parsed}
 use Rattle.hwdb_rulerun.specs.Matching
 use Rattle.hwdb_rulerun.specs.Sights.{Entry, Missing, Seen, Sight, Text, Unknown}
 use Rattle.hwdb_rulerun.specs.Telling.{line_told}
+use Rattle.hwdb_rulerun.specs.Asking.{told}
+use Rattle.hwdb_rulerun.specs.Causes.{cause}
 
 -- the text is as the value has it, or it isn't
 abbrev pub Fits : (value text : String) → Bool → Type 0
@@ -103,3 +105,26 @@ pub record ConditionRows : Type 0 where
   pub no_decides : Tells "KERNEL==\"wlan*\", TAG==\"x\", ENV{A}=\"1\"" (Some false)
   pub unknown_stays : Tells "KERNEL==\"eth*\", TAG==\"x\", ENV{A}=\"1\"" None
   pub no_condition : Tells "ENV{A}=\"1\"" (Some true)
+
+-- the lookups that are told of a line, and whether they are certain
+abbrev pub Asks : String → List (List ℕ × Bool) → Type 0
+Asks line answer = map (λ a. (a.token.value, a.certain)) (told card (tokens_of line)) ≡ answer
+
+-- the value of the condition that is the cause
+abbrev pub cause_value : Option Token → List ℕ
+cause_value None = []
+cause_value (Some t) = t.value
+
+-- lookups of lines, and causes
+pub record LookupRows : Type 0 where
+  pub certain : Asks "SUBSYSTEM==\"net\", IMPORT{builtin}=\"hwdb --subsystem=net\"" ((codes "hwdb --subsystem=net", true) ∷ [])
+  pub refuted : Asks "KERNEL==\"wlan*\", IMPORT{builtin}=\"hwdb\"" []
+  pub perhaps : Asks "TAG==\"?*\", IMPORT{builtin}=\"hwdb\"" ((codes "hwdb", false) ∷ [])
+  pub second : Asks "IMPORT{builtin}=\"hwdb a\", IMPORT{builtin}=\"hwdb b\"" ((codes "hwdb a", true) ∷ (codes "hwdb b", false) ∷ [])
+  pub program : Asks "IMPORT{builtin}=\"hwdb\", PROGRAM==\"x\"" ((codes "hwdb", false) ∷ [])
+  pub as_program : Asks "IMPORT{program}=\"hwdb a\"" ((codes "hwdb a", true) ∷ [])
+  pub shortened : Asks "IMPORT{builtin}=\"hw a\"" ((codes "hw a", true) ∷ [])
+  pub other : Asks "IMPORT{builtin}=\"usb_id\"" []
+  pub refused_line : Asks "ATRS==\"1\", IMPORT{builtin}=\"hwdb\"" []
+  pub own_cause : cause_value (cause card (tokens_of "KERNEL==\"eth*\", TAG==\"x\", ENV{A}=\"1\"")) ≡ codes "x"
+  pub parents_cause : cause_value (cause card (tokens_of "KERNEL==\"eth*\", ATTRS{vendor}==\"y\", ENV{A}=\"1\"")) ≡ codes "y"

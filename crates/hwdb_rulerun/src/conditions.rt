@@ -242,7 +242,7 @@ fn told_of(alloc: Global, token: &Token, seen: &Seen<'_>) -> Result<Option<bool>
 }
 
 /// What is told of a token that isn't about parents.
-fn told(alloc: Global, sight: &Sight<'_>, token: &Token) -> Result<Option<bool>, AllocError>
+pub fn told(alloc: Global, sight: &Sight<'_>, token: &Token) -> Result<Option<bool>, AllocError>
     ensures { IfOk result (λ told. told
         ≡ Telling.told (sight_of sight.now) (token_of token.now) token.now.kind) }
 {
@@ -255,7 +255,7 @@ fn told(alloc: Global, sight: &Sight<'_>, token: &Token) -> Result<Option<bool>,
 }
 
 /// Conditions that are about parents.
-fn is_parents(kind: TokenKind) -> bool
+pub fn is_parents(kind: TokenKind) -> bool
     ensures { result ≡ Conditions.is_parents kind }
 {
     match kind {
@@ -269,7 +269,7 @@ fn is_parents(kind: TokenKind) -> bool
 }
 
 /// Conditions that aren't, and that come before anything is run.
-fn is_own(kind: TokenKind) -> bool
+pub fn is_own(kind: TokenKind) -> bool
     ensures { result ≡ Conditions.is_own kind }
 {
     match kind {

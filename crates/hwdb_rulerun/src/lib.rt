@@ -6,17 +6,22 @@
 //! | `sights` | what is known of a device |
 //! | `conditions` | which conditions of a line hold, as far as it is known |
 //! | `asking` | which lookups a line asks, or may ask |
+//! | `causes` | why nothing is told of a line |
 //! | `laws` | what is proved of the definitions alone, and worked rows |
 #![tactic(auto)]
 
 mod asking;
+mod causes;
 mod conditions;
 mod laws;
 mod matching;
 mod sights;
 
 pub use asking::{Asked, lookups};
+pub use causes::cause;
 pub use conditions::{ATTRIBUTE_SIZE, line_told};
-pub use laws::{condition_rows, lookups_are_covered, match_rows, told_is_so};
+pub use laws::{
+    cause_is_there, condition_rows, lookup_rows, lookups_are_covered, match_rows, told_is_so,
+};
 pub use matching::told_fit;
 pub use sights::{Entry, Known, Seen, Sight};
