@@ -1,11 +1,13 @@
 -- The worked rows, computed.
 use Rattle.std.proofs.Common.{refl}
+use Rattle.std.specs.Fmt.{digits}
 use Rattle.hwdb_rulefiles.specs.RuleText.{first_rows, steps, long_row}
 use Rattle.hwdb_rulefiles.specs.RuleLines.{taking_most}
 use Rattle.hwdb_rulefiles.specs.RuleOrder.{by_rank}
 use Rattle.hwdb_rulefiles.specs.RuleJumps.{resolved}
 use Rattle.hwdb_rulefiles.specs.Escapes.{first_pieces}
-use Rattle.hwdb_rulefiles.specs.RuleRows.{LineRows, RefusedRows, RemarkRows, OrderRows, ValueRows, JumpRows, SystemRows, ChoiceRows}
+use Rattle.hwdb_rulefiles.specs.RuleSpots.{spot_in}
+use Rattle.hwdb_rulefiles.specs.RuleRows.{LineRows, RefusedRows, RemarkRows, OrderRows, ValueRows, JumpRows, SystemRows, ChoiceRows, SpotRows}
 
 pub line_rows_hold : LineRows
 unfolding first_rows steps long_row taking_most by_rank resolved first_pieces
@@ -103,3 +105,7 @@ choice_rows_hold = record {
   first = refl;
   others = refl;
 }
+
+pub spot_rows_hold : SpotRows
+unfolding first_rows steps long_row taking_most by_rank resolved first_pieces spot_in digits
+spot_rows_hold = record { first = refl; indented = refl; second = refl; goes_on = refl; comment_within = refl; told = refl }

@@ -5,3 +5,6 @@ pub mod LineLemmas
 pub mod JumpLemmas
 pub mod ChoiceLemmas
 pub mod ComputedRows
+pub mod LawLemmas
+pub mod FuelLemmas
+pub mod SpotLemmas

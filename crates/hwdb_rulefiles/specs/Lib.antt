@@ -18,3 +18,6 @@ pub mod RuleFolders
 pub mod FolderNames
 pub mod ChoiceViews
 pub mod RuleRows
+pub mod RuleSpots
+pub mod RuleTexts
+pub mod RuleLaws

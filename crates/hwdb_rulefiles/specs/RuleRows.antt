@@ -4,7 +4,10 @@ use Rattle.std.specs.Prelude.{ℕ, List, [], codes, ◌∷◌, ◌++◌, map, �
 use Prim.Native.String.{String}
 use Rattle.hwdb_rulefiles.specs.RuleTokens.{Token}
 use Rattle.hwdb_rulefiles.specs.RuleLines.{RuleLine}
+use Rattle.hwdb_rulefiles.specs.RuleText.{rows}
 use Rattle.hwdb_rulefiles.specs.RuleFiles.{parsed}
+use Rattle.hwdb_rulefiles.specs.RuleSpots.{spot}
+use Rattle.hwdb_rulefiles.specs.RuleTexts.{report}
 use Rattle.hwdb_rulefiles.specs.RuleFolders.{Chosen, choice}
 use Rattle.hwdb_rulefiles.specs.declared.choice.Folder.{Folder}
 use Rattle.hwdb_rulefiles.specs.declared.choice.Folder.TheVariants.{Etc, Run, Local, Usr}
@@ -124,3 +127,16 @@ pub record ChoiceRows : Type 0 where
       ≡ from Run "a.rules" ∷ from Etc "b.rules" ∷ from Local "c.rules" ∷ from Usr "d.rules" ∷ []
   pub others : choice [] [] [] (codes "a.rules.bak" ∷ codes ".b.rules" ∷ codes "README" ∷ codes "60-a.rules" ∷ codes "6-a.rules" ∷ [])
       ≡ from Usr "6-a.rules" ∷ from Usr "60-a.rules" ∷ []
+
+-- the line and the column of each finding
+abbrev pub spots : List ℕ → List (ℕ × ℕ)
+spots file = map (λ f. ((spot (rows file) f).line, (spot (rows file) f).column)) (parsed file).findings
+
+-- where findings are, and how they are printed
+pub record SpotRows : Type 0 where
+  pub first : spots (codes "ATRS==\"x\"\n") ≡ (1, 1) ∷ []
+  pub indented : spots (codes "\n  ATRS==\"x\"\n") ≡ (2, 3) ∷ []
+  pub second : spots (codes "KERNEL==\"a\", ATRS==\"x\"\n") ≡ (1, 14) ∷ []
+  pub goes_on : spots (codes "KERNEL==\"a\", \\\n  ATRS==\"x\"\n") ≡ (2, 3) ∷ []
+  pub comment_within : spots (codes "KERNEL==\"a\", \\\n# note\n\tATRS==\"x\"\n") ≡ (3, 2) ∷ []
+  pub told : report (codes "a.rules") (codes "\nATRS==\"x\"\n") ≡ codes "a.rules:2:1: the key isn't known: udev leaves the line out [unknown-key]\n"

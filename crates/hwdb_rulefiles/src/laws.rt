@@ -1,5 +1,6 @@
 //! More about the definitions, at worked rows. These functions do nothing: what each of them ensures is a law.
-ghost use Rattle.hwdb_rulefiles.specs.RuleRows.{LineRows, RefusedRows, RemarkRows, OrderRows, ValueRows, JumpRows, SystemRows, ChoiceRows};
+ghost use Rattle.hwdb_rulefiles.specs.RuleRows.{LineRows, RefusedRows, RemarkRows, OrderRows, ValueRows, JumpRows, SystemRows, ChoiceRows, SpotRows};
+ghost use Rattle.hwdb_rulefiles.specs.RuleLaws.{FirstFolderCounts, EmptyFileMasks, MoreChangesNothing};
 
 /// Rows, and lines that go on.
 #[tactic(auto, using(crate::proofs::ComputedRows::line_rows_hold))]
@@ -47,4 +48,28 @@ pub fn system_rows()
 #[tactic(auto, using(crate::proofs::ComputedRows::choice_rows_hold))]
 pub fn choice_rows()
     ensures { ChoiceRows }
+{}
+
+/// A name is taken from the first folder that has it.
+#[tactic(auto, using(crate::proofs::LawLemmas::first_counts))]
+pub fn first_folder_counts()
+    ensures { FirstFolderCounts }
+{}
+
+/// An empty file masks those of its name in later folders.
+#[tactic(auto, using(crate::proofs::LawLemmas::empty_masks))]
+pub fn empty_file_masks()
+    ensures { EmptyFileMasks }
+{}
+
+/// To look for more rows or pieces than there are bytes changes nothing.
+#[tactic(auto, using(crate::proofs::FuelLemmas::more_changes_nothing))]
+pub fn more_changes_nothing()
+    ensures { MoreChangesNothing }
+{}
+
+/// Where findings are, and how they are printed.
+#[tactic(auto, using(crate::proofs::ComputedRows::spot_rows_hold))]
+pub fn spot_rows()
+    ensures { SpotRows }
 {}

@@ -13,7 +13,9 @@
 //! | `jumps` | jumps without a label |
 //! | `parsed` | what a file says |
 //! | `findings` | what is wrong with a file, as data |
-//! | `laws` | worked rows |
+//! | `spots` | the line and the column of a finding |
+//! | `texts` | what is printed of findings |
+//! | `laws` | what is proved of the definitions alone, and worked rows |
 #![tactic(auto)]
 
 mod choice;
@@ -27,6 +29,8 @@ mod order;
 mod pairs;
 mod parsed;
 mod rows;
+mod spots;
+mod texts;
 mod tokens;
 mod values;
 mod whole;
@@ -35,11 +39,13 @@ pub use choice::{ChosenRules, Folder, choose, counts};
 pub use findings::{Finding, FindingKind};
 pub use keys::{Key, key_of};
 pub use laws::{
-    choice_rows, jump_rows, line_rows, order_rows, refused_rows, remark_rows, system_rows,
-    value_rows,
+    choice_rows, empty_file_masks, first_folder_counts, jump_rows, line_rows, more_changes_nothing,
+    order_rows, refused_rows, remark_rows, spot_rows, system_rows, value_rows,
 };
 pub use lines::{Outcome, RuleLine};
 pub use pairs::Operator;
 pub use parsed::{Parsed, parse};
-pub use tokens::{Token, TokenKind, is_builtin};
+pub use spots::{Spot, spots_of};
+pub use texts::report;
+pub use tokens::{Token, TokenKind, first_word, is_builtin};
 pub use whole::LINE_SIZE;

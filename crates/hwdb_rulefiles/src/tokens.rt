@@ -1,7 +1,8 @@
 //! What a pair says: a token of its line, a label, or a jump.
-ghost use Rattle.std.specs.Prelude.{◌≡◌, ◌≤◌, length, IfOk, Option, drop, nat_eq};
+ghost use Rattle.std.specs.Prelude.{◌≡◌, ◌≤◌, length, take, IfOk, Option, drop, nat_eq};
 ghost use Rattle.std.specs.List.{starts_with};
 ghost use Rattle.std.specs.Str.{bytes_eq};
+ghost use Rattle.hwdb_rulefiles.specs.RuleText;
 ghost use Rattle.hwdb_rulefiles.specs.RuleTokens;
 ghost use Rattle.hwdb_rulefiles.specs.PairViews.{attribute_of, read_of};
 ghost use Rattle.hwdb_rulefiles.specs.TokenViews.{token_of, verdict_of};
@@ -168,6 +169,15 @@ fn begins_new(word: &[u8]) -> bool
     ensures { result ≡ RuleTokens.begins_new word.now }
 {
     begins(word, b"dissect_image") || begins(word, b"factory_reset") || begins(word, b"tpm2_id")
+}
+
+/// The first word of a command, as the name of a builtin.
+pub fn first_word(command: &[u8]) -> &[u8]
+    ensures { result.now ≡ take (RuleTokens.word_len (RuleText.unindented command.now))
+        (RuleText.unindented command.now) }
+{
+    let text = unindented(command);
+    &text[..word_len(text)]
 }
 
 /// Whether a command is one that udev has built in.

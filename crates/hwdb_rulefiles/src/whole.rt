@@ -38,7 +38,7 @@ pub struct Reader {
 
 impl Reader {
     /// Nothing is read yet.
-    fn new(alloc: Global) -> Reader
+    pub fn new(alloc: Global) -> Reader
         ensures { reading_of result ≡ RuleText.start }
     {
         Reader {
@@ -103,7 +103,7 @@ impl Reader {
     }
 
     /// A row is read.
-    fn row(&mut self, alloc: Global, number: usize, row: &[u8]) -> Result<(), AllocError>
+    pub fn row(&mut self, alloc: Global, number: usize, row: &[u8]) -> Result<(), AllocError>
         ensures { OnOk result (reading_of self.new
             ≡ RuleText.step (reading_of self.old) number row.now) }
     {

@@ -1,0 +1,7 @@
+use Rattle.std.proofs.Common.{◌≡◌, map, drop}
+use Rattle.hwdb_rulefiles.specs.TokenViews.{token_of}
+use Rattle.hwdb_rulerun.specs.Causes
+use Rattle.hwdb_rulerun.proofs.causes.parents_cause.Given as goal
+
+abbrev pub invariant-loop-token : goal.invariant-loop-token
+invariant-loop-token l = Causes.parents_cause (map token_of (drop l.token-index l.tokens)) ≡ Causes.parents_cause (map token_of l.tokens)

@@ -1,0 +1,11 @@
+pub mod Matching
+pub mod Sights
+pub mod Conditions
+pub mod Telling
+pub mod Asking
+pub mod Laws
+pub mod AskedViews
+pub mod Views
+pub mod Rows
+pub mod Causes
+pub mod CauseViews
