@@ -1,19 +1,15 @@
 -- To look for more rows or pieces than there are bytes changes nothing.
-use Rattle.std.proofs.Common.{◌≡◌, ℕ, zero, suc, ◌+◌, ◌-◌, ◌<◌, ◌≤◌, Bool, true, false, cond, List, [], ◌∷◌, take, drop, length, refl, sym, ap, ◌∙◌, arith, Option, Some, None, ◌==◌, subst}
-use Rattle.std.specs.List.{prefix_len, position_or_len}
+use Rattle.std.proofs.Common.{◌≡◌, ℕ, zero, suc, ◌+◌, ◌≤◌, Bool, true, false, List, [], ◌∷◌, take, drop, length, refl, sym, ap, arith, Option, Some, None, ◌==◌, subst}
 use Rattle.std.proofs.lemmas.List.{length-drop}
 use Rattle.std.proofs.lemmas.Bool.Decides.{nat_tests}
-use Rattle.hwdb_rulefiles.specs.RuleText.{first_rows, rows, after_row, row_len, end_len, newline_len, one_if, ends_row}
+use Rattle.hwdb_rulefiles.specs.RuleText.{first_rows, after_row, row_len, end_len, one_if, ends_row}
 use Rattle.std.specs.Prelude.{if◌then◌else◌, nat_lt}
 use Rattle.hwdb_spec.specs.Lines.{byte, begins_with}
-use Rattle.hwdb_rulefiles.specs.Escapes.{Piece, piece, piece_of, first_pieces, unescaped, followed, onto, bytes_of, coded, coded_byte, coded_character, lettered, letter, first, escape_of, hex_byte, hex_four, hex_eight, octal_three, valid}
+use Rattle.hwdb_rulefiles.specs.Escapes.{Piece, piece, piece_of, first_pieces, followed, onto, bytes_of, coded, coded_byte, coded_character, lettered, letter, first, escape_of, hex_byte, hex_four, hex_eight, octal_three, valid}
 use Rattle.hwdb_rulefiles.specs.RuleLaws.{MoreChangesNothing}
 
 one_ends : (b : ℕ) (rest : List ℕ) → ends_row b ≡ true → 1 ≤ end_len (b ∷ rest)
-one_ends b rest h = by (b == 10) (b == 13) (b == 0) (λ n. one_if 13 n) rest h
-  where
-    by : (newline return zero_byte : Bool) (f : List ℕ → ℕ) (rest : List ℕ) → ends_row b ≡ true → 1 ≤ end_len (b ∷ rest)
-    by newline return zero_byte f rest h = grind (arith, nat_tests)
+one_ends b rest h = grind (arith, nat_tests)
 
 more : (n : ℕ) → 1 ≤ n → 1 ≤ 0 + n
 more n h = omega arith

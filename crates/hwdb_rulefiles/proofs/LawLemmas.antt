@@ -1,21 +1,19 @@
--- The first folder counts, an empty file masks, and more fuel changes nothing.
-use Rattle.std.proofs.Common.{◌≡◌, ℕ, zero, suc, ◌+◌, ◌-◌, ◌<◌, ◌≤◌, Bool, true, false, cond, List, [], ◌∷◌, map, drop, length, refl, sym, ap, ◌∙◌, arith, Option, Some, None, ◌==◌, ◌||◌, subst}
+-- The first folder counts, and an empty file masks.
+use Rattle.std.proofs.Common.{◌≡◌, ℕ, Bool, true, false, cond, List, [], ◌∷◌, refl, sym, ap, ◌∙◌, Option, Some, None, ◌||◌, subst}
 use Rattle.std.specs.Prelude.{if◌then◌else◌}
-use Rattle.std.specs.List.{list_any, prefix_len, position_or_len}
 use Rattle.std.specs.Map.{lookup}
 use Rattle.std.specs.BTreeMap.{insert_entry}
 use Rattle.std.specs.Ordering.{nat_cmp, match_ordering, is_eq}
 use Rattle.std.specs.declared.cmp.Ordering.{Ordering}
 use Rattle.std.specs.declared.cmp.Ordering.TheVariants.{Less, Equal, Greater}
 use Rattle.std.specs.Cmp.Lexicographic.{slice_cmp}
-use Rattle.std.proofs.lemmas.List.{length-drop}
 use Rattle.hwdb_spec.specs.Folders.{same}
 use Rattle.hwdb_spec.specs.Lemmas.Orders.{equal_text, same_text, same_itself}
-use Rattle.hwdb_rulefiles.specs.RuleText.{first_rows, rows, steps, long_row, after_row, row_len, end_len, newline_len, one_if, ends_row}
+use Rattle.hwdb_rulefiles.specs.RuleText.{first_rows, steps, long_row}
 use Rattle.hwdb_rulefiles.specs.RuleFiles.{nothing, parsed}
-use Rattle.hwdb_rulefiles.specs.RuleFolders.{put_all, counts, Chosen, listed, choice}
+use Rattle.hwdb_rulefiles.specs.RuleFolders.{put_all, counts, listed}
 use Rattle.hwdb_rulefiles.specs.RuleJumps.{resolved}
-use Rattle.hwdb_rulefiles.specs.RuleLaws.{has_name, first_folder, folder_of, FirstFolderCounts, said, said_from, EmptyFileMasks}
+use Rattle.hwdb_rulefiles.specs.RuleLaws.{has_name, first_folder, folder_of, FirstFolderCounts, said_from, EmptyFileMasks}
 use Rattle.hwdb_rulefiles.specs.declared.choice.Folder.{Folder}
 use Rattle.hwdb_rulefiles.specs.declared.choice.Folder.TheVariants.{Etc, Run, Local, Usr}
 

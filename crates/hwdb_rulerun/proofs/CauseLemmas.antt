@@ -1,12 +1,12 @@
 -- If nothing is told of a line, there is a cause.
-use Rattle.std.proofs.Common.{◌≡◌, Bool, true, false, List, [], ◌∷◌, refl, sym, ap, ◌∙◌, subst, Option, Some, None, ◌⊎◌, inl, inr, ◌||◌}
+use Rattle.std.proofs.Common.{◌≡◌, Bool, true, false, List, [], ◌∷◌, refl, Option, Some, None, ◌⊎◌, inl, inr, ◌||◌}
 use Rattle.std.specs.Prelude.{if◌then◌else◌, IsSome, is_some, not}
 use Rattle.hwdb_rulefiles.specs.RuleKeys.{or_else}
 use Rattle.hwdb_rulefiles.specs.RuleTokens.{Token}
 use Rattle.hwdb_rulerun.specs.Conditions.{is_own, is_parents, has_parents}
 use Rattle.hwdb_rulerun.specs.Sights.{Sight}
-use Rattle.hwdb_rulerun.specs.Telling.{and_then, told, all_own, own_and, some_parent, line_told}
-use Rattle.hwdb_rulerun.specs.Causes.{own_cause, parents_cause, cause, is_untold, CauseIsThere}
+use Rattle.hwdb_rulerun.specs.Telling.{and_then, told, all_own, some_parent}
+use Rattle.hwdb_rulerun.specs.Causes.{own_cause, parents_cause, CauseIsThere}
 
 one_of : (a b : Option Bool) → and_then a b ≡ None → (a ≡ None) ⊎ (b ≡ None)
 one_of None b h = inl refl

@@ -1,11 +1,11 @@
 -- What is told covers what is asked.
-use Rattle.std.proofs.Common.{◌≡◌, Bool, true, false, List, [], ◌∷◌, ◌++◌, refl, sym, ap, ◌∙◌, subst, Option, Some, None, inl, inr}
+use Rattle.std.proofs.Common.{◌≡◌, Bool, true, false, List, [], ◌∷◌, ◌++◌, refl, ap, ◌∙◌, Option, Some, None, inl}
 use Rattle.std.specs.Prelude.{if◌then◌else◌}
 use Rattle.hwdb_rulefiles.specs.RuleTokens.{Token}
-use Rattle.hwdb_rulerun.specs.Sights.{Sight, World, IsSight}
+use Rattle.hwdb_rulerun.specs.Sights.{World}
 use Rattle.hwdb_rulerun.specs.Conditions.{line_holds}
 use Rattle.hwdb_rulerun.specs.Telling.{line_told}
-use Rattle.hwdb_rulerun.specs.Asking.{Told, Covers, asked, asked_runs, told, told_by, told_runs, told_in, lookup_in, is_lookup, runs, goes_on, after}
+use Rattle.hwdb_rulerun.specs.Asking.{Told, Covers, asked_runs, told_by, told_runs, is_lookup, runs, goes_on, after}
 use Rattle.hwdb_rulerun.specs.Laws.{Says, LookupsAreCovered}
 use Rattle.hwdb_rulerun.proofs.ToldLemmas.{told_is_so}
 

@@ -1,5 +1,5 @@
 -- What is told is so.
-use Rattle.std.proofs.Common.{◌≡◌, ℕ, ◌+◌, Bool, true, false, List, [], ◌∷◌, length, refl, sym, ap, ◌∙◌, subst, Option, Some, None, not}
+use Rattle.std.proofs.Common.{◌≡◌, ℕ, ◌+◌, Bool, true, false, List, [], ◌∷◌, length, refl, sym, ap, subst, Option, Some, None}
 use Rattle.std.specs.Prelude.{if◌then◌else◌, unwrap_or, nat_lt}
 use Rattle.hwdb_rulefiles.specs.RuleTokens.{Token}
 use Rattle.hwdb_rulefiles.specs.declared.pairs.Operator.{Operator}

@@ -1,6 +1,6 @@
 -- Which lookups a line asks, after `udev_rule_apply_line_to_event`, `udev_builtin_lookup` and `builtin_hwdb` (systemd 257): its commands of the
 -- builtin hwdb, as they are written.
-use Rattle.std.specs.Prelude.{List, [], ◌∷◌, ◌++◌, Bool, true, false, if◌then◌else◌, ℕ, nat_eq, take, codes, not, Option, Some, None, ◌≡◌, ◌⊎◌}
+use Rattle.std.specs.Prelude.{List, [], ◌∷◌, ◌++◌, Bool, true, false, if◌then◌else◌, ℕ, nat_eq, take, codes, Option, Some, None, ◌≡◌, ◌⊎◌}
 use Rattle.std.specs.List.{starts_with}
 use Rattle.hwdb_spec.specs.Lines.{is_none}
 use Rattle.hwdb_rulefiles.specs.RuleText.{unindented}

@@ -1,5 +1,5 @@
 -- Why nothing is told of a line: the first condition of which nothing is told. Our choice.
-use Rattle.std.specs.Prelude.{List, [], ◌∷◌, Bool, false, if◌then◌else◌, ℕ, ◌≡◌, Option, Some, None, IsSome, is_some, not}
+use Rattle.std.specs.Prelude.{List, [], ◌∷◌, Bool, false, if◌then◌else◌, ◌≡◌, Option, Some, None, IsSome, is_some, not}
 use Rattle.hwdb_rulefiles.specs.RuleKeys.{or_else}
 use Rattle.hwdb_rulefiles.specs.RuleTokens.{Token}
 use Rattle.hwdb_rulerun.specs.Conditions.{is_own, is_parents}

@@ -1,6 +1,6 @@
 -- Which conditions of a line hold, after `udev_rule_apply_token_to_event`, `token_match_attr` and `udev_rule_apply_parent_token_to_event` of
 -- udev-rules.c (systemd 257).
-use Rattle.std.specs.Prelude.{List, [], ◌∷◌, Bool, true, false, if◌then◌else◌, ℕ, ◌==◌, ◌+◌, nat_lt, nat_eq, take, length, slice_index, ◌-◌, codes, not, Option, Some, None, unwrap_or}
+use Rattle.std.specs.Prelude.{List, [], ◌∷◌, Bool, true, false, if◌then◌else◌, ℕ, ◌==◌, ◌+◌, nat_lt, take, length, slice_index, ◌-◌, codes, not, Option, Some, None, unwrap_or}
 use Rattle.std.specs.List.{list_any}
 use Rattle.std.specs.Str.{bytes_eq}
 use Rattle.hwdb_spec.specs.Lines.{byte, begins_with, has, is_blank, is_none}

@@ -2,7 +2,7 @@
 use Rattle.std.specs.Prelude.{List, ◌∷◌, [], Bool, true, false, if◌then◌else◌, ℕ, ◌==◌, nat_le, nat_eq, ◌+◌, codes, map, not, ◌++◌, Option, Some, None}
 use Rattle.std.specs.List.{list_any, starts_with}
 use Rattle.std.specs.Str.{bytes_eq}
-use Rattle.hwdb_spec.specs.Lines.{byte, is, is_none, has}
+use Rattle.hwdb_spec.specs.Lines.{byte, is_none, has}
 use Rattle.hwdb_spec.specs.Patterns.{matches, tokens}
 
 -- a letter of ASCII in lower case, any other byte as it is

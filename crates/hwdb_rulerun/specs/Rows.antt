@@ -5,7 +5,7 @@ use Prim.Native.String.{String}
 use Rattle.hwdb_rulefiles.specs.RuleTokens.{Token}
 use Rattle.hwdb_rulefiles.specs.RuleFiles.{parsed}
 use Rattle.hwdb_rulerun.specs.Matching
-use Rattle.hwdb_rulerun.specs.Sights.{Entry, Missing, Seen, Sight, Text, Unknown}
+use Rattle.hwdb_rulerun.specs.Sights.{Missing, Sight, Text, Unknown}
 use Rattle.hwdb_rulerun.specs.Telling.{line_told}
 use Rattle.hwdb_rulerun.specs.Asking.{told}
 use Rattle.hwdb_rulerun.specs.Causes.{cause}

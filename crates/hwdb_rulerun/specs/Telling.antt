@@ -1,5 +1,5 @@
 -- What is told of conditions from what is known: yes, no, or nothing. It follows `Conditions`, step by step.
-use Rattle.std.specs.Prelude.{List, [], ◌∷◌, Bool, true, false, if◌then◌else◌, ℕ, ◌+◌, nat_lt, length, Option, Some, None}
+use Rattle.std.specs.Prelude.{List, [], ◌∷◌, Bool, true, false, if◌then◌else◌, ℕ, nat_lt, length, Option, Some, None}
 use Rattle.hwdb_rulefiles.specs.RuleTokens.{Token}
 use Rattle.hwdb_rulefiles.specs.declared.pairs.Operator.{Operator}
 use Rattle.hwdb_rulefiles.specs.declared.tokens.TokenKind.{TokenKind}

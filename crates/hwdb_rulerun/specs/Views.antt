@@ -1,5 +1,5 @@
 -- What the types of this crate mean.
-use Rattle.std.specs.Prelude.{List, ℕ, map}
+use Rattle.std.specs.Prelude.{map}
 use Rattle.hwdb_rulerun.specs.Sights
 use Rattle.hwdb_rulerun.specs.declared.sights.Known.{Known}
 use Rattle.hwdb_rulerun.specs.declared.sights.Known.TheVariants as Values

@@ -1,4 +1,4 @@
-use Rattle.std.proofs.Common.{length, ◌-◌, ◌+◌, ◌≡◌, ◌≤◌, drop}
+use Rattle.std.proofs.Common.{length, ◌+◌, ◌≡◌, ◌≤◌, drop}
 use Rattle.hwdb_rulerun.specs.Conditions
 use Rattle.hwdb_rulerun.proofs.conditions.kept_len.Given as goal
 

@@ -1,6 +1,4 @@
-use Rattle.std.proofs.Common.{◌≡◌, ◌∙◌, sym, take}
-use Rattle.std.specs.List.{position_or_len}
-use Rattle.hwdb_rulerun.specs.Matching.{is_bar}
+use Rattle.std.proofs.Common.{◌∙◌}
 use Rattle.hwdb_rulerun.proofs.MatchLemmas.{hit, missed, none_left, fewer}
 use Rattle.hwdb_rulerun.proofs.matching.fits_any.Goals as goal
 
