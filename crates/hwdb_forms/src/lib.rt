@@ -13,6 +13,7 @@
 //! | `pieces` | forms as data |
 //! | `table` | the forms that udev asks |
 //! | `likely` | the forms that udev likely asks |
+//! | `likely_names` | those of a name alone |
 //! | `beginnings` | how their texts begin |
 //! | `sets` | sets of bytes, and which tokens take one of theirs |
 //! | `leads` | how pieces begin, before the first star |
@@ -36,6 +37,7 @@ mod judging;
 mod laws;
 mod leads;
 mod likely;
+mod likely_names;
 mod likeness;
 mod pieces;
 mod plain;

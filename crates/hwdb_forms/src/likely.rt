@@ -1,17 +1,19 @@
-//! The forms of the texts that udev likely asks, as `LikelyForms` of `hwdb_spec_commands` has them.
+//! The forms of the texts that udev likely asks, as `LikelyForms` of `hwdb_spec_commands` has them. Those of a name alone are in
+//! `likely_names`.
 ghost use Rattle.std.specs.Prelude.{◌≡◌, ◌++◌, map};
 ghost use Rattle.hwdb_spec_commands.specs.LikelyForms;
 ghost use Rattle.hwdb_forms.specs.Internal.{form_of};
 
+use crate::likely_names::{
+    camera, evdev_name, evdev_place, id_input_name, joystick, libwacom, mouse, touchpad,
+};
 use crate::pieces::FormRow;
 use crate::pieces::Piece::{Counted, Fixed, Repeated};
 use crate::table::{
     acpi, block, bluetooth, evdev_input, evdev_keyboard, fb, id_input, ieee1394_node,
     ieee1394_unit, net, oui, pci, sdio, tpm2, usb, vmbus,
 };
-use hwdb_spec::ByteSet::{
-    AnyHex, Dmi, DmiLeft, HexOrBlank, InputBits, Left, LeftButColon, LowerHex, Name, UpperHex,
-};
+use hwdb_spec::ByteSet::{AnyHex, Dmi, DmiLeft, HexOrBlank, Left, LeftButColon, Name, UpperHex};
 
 fn dmi() -> FormRow
     ensures { form_of result ≡ LikelyForms.dmi }
@@ -282,262 +284,6 @@ fn evdev_place_machine() -> FormRow
     }
 }
 
-fn evdev_name() -> FormRow
-    ensures { form_of result ≡ LikelyForms.evdev_name }
-{
-    FormRow {
-        prefix: b"evdev:",
-        fields: &[
-            &[&[Fixed(b"name:"), Repeated(LeftButColon)]],
-            &[
-                &[Fixed(b":"), Counted(AnyHex, 2), Repeated(LeftButColon)],
-                &[Fixed(b": "), Repeated(LeftButColon)],
-                &[],
-            ],
-            &[
-                &[Fixed(b":"), Counted(AnyHex, 2), Repeated(LeftButColon)],
-                &[Fixed(b": "), Repeated(LeftButColon)],
-                &[],
-            ],
-            &[
-                &[Fixed(b":"), Counted(AnyHex, 2), Repeated(LeftButColon)],
-                &[Fixed(b": "), Repeated(LeftButColon)],
-                &[],
-            ],
-            &[&[Fixed(b":")]],
-        ],
-    }
-}
-
-fn evdev_place() -> FormRow
-    ensures { form_of result ≡ LikelyForms.evdev_place }
-{
-    FormRow {
-        prefix: b"evdev:",
-        fields: &[
-            &[&[Fixed(b"name:"), Repeated(LeftButColon)]],
-            &[
-                &[Fixed(b":"), Counted(AnyHex, 2), Repeated(LeftButColon)],
-                &[Fixed(b": "), Repeated(LeftButColon)],
-                &[],
-            ],
-            &[
-                &[Fixed(b":"), Counted(AnyHex, 2), Repeated(LeftButColon)],
-                &[Fixed(b": "), Repeated(LeftButColon)],
-                &[],
-            ],
-            &[
-                &[Fixed(b":"), Counted(AnyHex, 2), Repeated(LeftButColon)],
-                &[Fixed(b": "), Repeated(LeftButColon)],
-                &[],
-            ],
-            &[&[Fixed(b":")]],
-            &[&[Fixed(b"phys:"), Repeated(LeftButColon)]],
-            &[
-                &[Fixed(b":"), Counted(AnyHex, 2), Repeated(LeftButColon)],
-                &[],
-            ],
-            &[
-                &[Fixed(b":"), Counted(AnyHex, 2), Repeated(LeftButColon)],
-                &[],
-            ],
-            &[
-                &[Fixed(b":"), Counted(AnyHex, 2), Repeated(LeftButColon)],
-                &[],
-            ],
-            &[
-                &[Fixed(b":"), Counted(AnyHex, 2), Repeated(LeftButColon)],
-                &[],
-            ],
-            &[
-                &[Fixed(b":"), Counted(AnyHex, 2), Repeated(LeftButColon)],
-                &[],
-            ],
-            &[&[Fixed(b":ev:"), Repeated(HexOrBlank), Fixed(b":")]],
-        ],
-    }
-}
-
-fn id_input_name() -> FormRow
-    ensures { form_of result ≡ LikelyForms.id_input_name }
-{
-    FormRow {
-        prefix: b"id-input:",
-        fields: &[
-            &[&[Repeated(Name), Fixed(b":")]],
-            &[&[
-                Fixed(b"v"),
-                Counted(LowerHex, 4),
-                Fixed(b"p"),
-                Counted(LowerHex, 4),
-            ]],
-            &[&[Fixed(b":name:"), Repeated(LeftButColon)]],
-            &[
-                &[Fixed(b":"), Counted(AnyHex, 2), Repeated(LeftButColon)],
-                &[Fixed(b": "), Repeated(LeftButColon)],
-                &[],
-            ],
-            &[
-                &[Fixed(b":"), Counted(AnyHex, 2), Repeated(LeftButColon)],
-                &[Fixed(b": "), Repeated(LeftButColon)],
-                &[],
-            ],
-            &[
-                &[Fixed(b":"), Counted(AnyHex, 2), Repeated(LeftButColon)],
-                &[Fixed(b": "), Repeated(LeftButColon)],
-                &[],
-            ],
-            &[&[Fixed(b":")]],
-        ],
-    }
-}
-
-fn mouse() -> FormRow
-    ensures { form_of result ≡ LikelyForms.mouse }
-{
-    FormRow {
-        prefix: b"mouse:",
-        fields: &[
-            &[
-                &[
-                    Fixed(b"usb:"),
-                    Fixed(b"v"),
-                    Counted(LowerHex, 4),
-                    Fixed(b"p"),
-                    Counted(LowerHex, 4),
-                ],
-                &[
-                    Fixed(b"bluetooth:"),
-                    Fixed(b"v"),
-                    Counted(LowerHex, 4),
-                    Fixed(b"p"),
-                    Counted(LowerHex, 4),
-                ],
-                &[Fixed(b"ps2:")],
-            ],
-            &[&[Fixed(b":name:"), Repeated(LeftButColon)]],
-            &[
-                &[Fixed(b":"), Counted(AnyHex, 2), Repeated(LeftButColon)],
-                &[Fixed(b": "), Repeated(LeftButColon)],
-                &[],
-            ],
-            &[
-                &[Fixed(b":"), Counted(AnyHex, 2), Repeated(LeftButColon)],
-                &[Fixed(b": "), Repeated(LeftButColon)],
-                &[],
-            ],
-            &[
-                &[Fixed(b":"), Counted(AnyHex, 2), Repeated(LeftButColon)],
-                &[Fixed(b": "), Repeated(LeftButColon)],
-                &[],
-            ],
-            &[&[Fixed(b":")]],
-        ],
-    }
-}
-
-fn touchpad() -> FormRow
-    ensures { form_of result ≡ LikelyForms.touchpad }
-{
-    FormRow {
-        prefix: b"touchpad:",
-        fields: &[
-            &[&[Repeated(Name), Fixed(b":")]],
-            &[&[
-                Fixed(b"v"),
-                Counted(LowerHex, 4),
-                Fixed(b"p"),
-                Counted(LowerHex, 4),
-            ]],
-            &[&[Fixed(b":name:"), Repeated(LeftButColon)]],
-            &[
-                &[Fixed(b":"), Counted(AnyHex, 2), Repeated(LeftButColon)],
-                &[Fixed(b": "), Repeated(LeftButColon)],
-                &[],
-            ],
-            &[
-                &[Fixed(b":"), Counted(AnyHex, 2), Repeated(LeftButColon)],
-                &[Fixed(b": "), Repeated(LeftButColon)],
-                &[],
-            ],
-            &[
-                &[Fixed(b":"), Counted(AnyHex, 2), Repeated(LeftButColon)],
-                &[Fixed(b": "), Repeated(LeftButColon)],
-                &[],
-            ],
-            &[&[Fixed(b":")]],
-        ],
-    }
-}
-
-fn joystick() -> FormRow
-    ensures { form_of result ≡ LikelyForms.joystick }
-{
-    FormRow {
-        prefix: b"joystick:",
-        fields: &[
-            &[&[Repeated(Name), Fixed(b":")]],
-            &[&[
-                Fixed(b"v"),
-                Counted(LowerHex, 4),
-                Fixed(b"p"),
-                Counted(LowerHex, 4),
-            ]],
-            &[&[Fixed(b":name:"), Repeated(LeftButColon)]],
-            &[
-                &[Fixed(b":"), Counted(AnyHex, 2), Repeated(LeftButColon)],
-                &[Fixed(b": "), Repeated(LeftButColon)],
-                &[],
-            ],
-            &[
-                &[Fixed(b":"), Counted(AnyHex, 2), Repeated(LeftButColon)],
-                &[Fixed(b": "), Repeated(LeftButColon)],
-                &[],
-            ],
-            &[
-                &[Fixed(b":"), Counted(AnyHex, 2), Repeated(LeftButColon)],
-                &[Fixed(b": "), Repeated(LeftButColon)],
-                &[],
-            ],
-            &[&[Fixed(b":")]],
-        ],
-    }
-}
-
-fn camera() -> FormRow
-    ensures { form_of result ≡ LikelyForms.camera }
-{
-    FormRow {
-        prefix: b"camera:",
-        fields: &[
-            &[&[
-                Fixed(b"usb:"),
-                Fixed(b"v"),
-                Counted(LowerHex, 4),
-                Fixed(b"p"),
-                Counted(LowerHex, 4),
-            ]],
-            &[&[Fixed(b":name:"), Repeated(LeftButColon)]],
-            &[
-                &[Fixed(b":"), Counted(AnyHex, 2), Repeated(LeftButColon)],
-                &[Fixed(b": "), Repeated(LeftButColon)],
-                &[],
-            ],
-            &[
-                &[Fixed(b":"), Counted(AnyHex, 2), Repeated(LeftButColon)],
-                &[Fixed(b": "), Repeated(LeftButColon)],
-                &[],
-            ],
-            &[
-                &[Fixed(b":"), Counted(AnyHex, 2), Repeated(LeftButColon)],
-                &[Fixed(b": "), Repeated(LeftButColon)],
-                &[],
-            ],
-            &[&[Fixed(b":")]],
-        ],
-    }
-}
-
 fn sensor_machine() -> FormRow
     ensures { form_of result ≡ LikelyForms.sensor_machine }
 {
@@ -755,45 +501,6 @@ fn battery() -> FormRow
             Repeated(LeftButColon),
             Fixed(b":"),
         ]]],
-    }
-}
-
-fn libwacom() -> FormRow
-    ensures { form_of result ≡ LikelyForms.libwacom }
-{
-    FormRow {
-        prefix: b"libwacom:",
-        fields: &[
-            &[&[Fixed(b"name:"), Repeated(LeftButColon)]],
-            &[
-                &[Fixed(b":"), Counted(AnyHex, 2), Repeated(LeftButColon)],
-                &[Fixed(b": "), Repeated(LeftButColon)],
-                &[],
-            ],
-            &[
-                &[Fixed(b":"), Counted(AnyHex, 2), Repeated(LeftButColon)],
-                &[Fixed(b": "), Repeated(LeftButColon)],
-                &[],
-            ],
-            &[
-                &[Fixed(b":"), Counted(AnyHex, 2), Repeated(LeftButColon)],
-                &[Fixed(b": "), Repeated(LeftButColon)],
-                &[],
-            ],
-            &[&[Fixed(b":")]],
-            &[&[
-                Fixed(b"input:b"),
-                Counted(UpperHex, 4),
-                Fixed(b"v"),
-                Counted(UpperHex, 4),
-                Fixed(b"p"),
-                Counted(UpperHex, 4),
-                Fixed(b"e"),
-                Counted(UpperHex, 4),
-                Fixed(b"-"),
-                Repeated(InputBits),
-            ]],
-        ],
     }
 }
 

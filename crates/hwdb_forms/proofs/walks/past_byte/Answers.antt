@@ -10,11 +10,11 @@ pub loop-at-init : goal.loop-at-init
 loop-at-init c =
     let long : c.len.result ≡ length c.args.now.items = omega arith in
     let made = c.in_ok-next.ensures.items_if_clones_equal (λ y e. e) ∙ ap (λ (n : ℕ). replicate n false) long in record {
-  within = omega arith;
-  now = refl;
-  next = made_long c.in_ok-next.next.items (length c.args.now.items) made;
-  left = λ us. all_left c.args.now.items c.in_ok-next.next.items (places c.args.steps.now) c.len-at.result (token_at c.args.text.now) us (omega arith) (made ∙ ap (λ (n : ℕ). replicate n false) (omega arith));
-}
+      within = omega arith;
+      now = refl;
+      next = made_long c.in_ok-next.next.items (length c.args.now.items) made;
+      left = λ us. all_left c.args.now.items c.in_ok-next.next.items (places c.args.steps.now) c.len-at.result (token_at c.args.text.now) us (omega arith) (made ∙ ap (λ (n : ℕ). replicate n false) (omega arith));
+    }
 
 pub loop-at-preserved-then-index : goal.loop-at-preserved-then-index
 loop-at-preserved-then-index c = record {
