@@ -13,8 +13,9 @@ use Rattle.hwdb_spec.specs.NotReplaced.{failures_after}
 use Rattle.hwdb_spec_commands.specs.Refusals.{path_text, refusal_line, refusal_text}
 use Rattle.hwdb_spec_commands.specs.Reloads.{kept_line, taken_line}
 use Rattle.hwdb_spec_commands.specs.Sides.{no_texts_text}
-use Rattle.hwdb_spec_commands.specs.Told.{stop_of, unread_stop}
+use Rattle.hwdb_spec_commands.specs.Told.{stop_of, unlisted_stop, unread_stop}
 use Rattle.hwdb_spec_commands.specs.Told.Stop.{NoDatabase, Over, Plain, Says}
+use Rattle.hwdb_spec_commands.specs.Told.Unlisted.{Misnamed, Unopened}
 use Rattle.hwdb_spec_commands.specs.Undone.{told_path}
 use Rattle.hwdb_spec_commands.specs.Verdicts.{verdict_text}
 use Rattle.hwdb_spec.specs.declared.DbFault.{DbFault}
@@ -135,13 +136,14 @@ CompiledRows =
     of_select select.TooManyFiles ∷ of_select select.Memory ∷ of_scan scan.TooManyLines ∷ of_scan scan.Memory ∷ of_store store.TooLarge ∷ of_store store.Memory ∷ []
     ≡ compiling.TooManyFiles ∷ compiling.Memory ∷ compiling.TooManyLines ∷ compiling.Memory ∷ compiling.TooLarge ∷ compiling.Memory ∷ []
 
--- Bytes that weren't read stop a run over their path. Only memory that was refused has no path.
+-- Bytes that weren't read, and folders that weren't listed, stop a run over their path. Only memory that was refused has no path.
 abbrev pub StopRows : Type 0
 StopRows =
     map (unread_stop (codes "/a")) (unread.TooLong ∷ unread.Failed None ∷ unread.Failed (Some (why.System (pos 5))) ∷ unread.Failed (Some why.Memory) ∷ unread.Memory ∷ [])
+    ++ (unlisted_stop (codes "/a") (Unopened unread.TooLong) ∷ unlisted_stop (codes "/a") (Misnamed (codes "b")) ∷ [])
     ++ (stop_of (refusal.Plain Write) ∷ stop_of refusal.NoDatabase ∷ [])
     ≡ Over TooLong (codes "/a") None ∷ Over Read (codes "/a") None ∷ Over Read (codes "/a") (Some (why.System (pos 5))) ∷ Plain Memory ∷ Plain Memory
-    ∷ Plain Write ∷ NoDatabase ∷ []
+    ∷ Over TooLong (codes "/a") None ∷ Over Read (codes "/a/b") (Some why.Name) ∷ Plain Write ∷ NoDatabase ∷ []
 
 -- of an error with a path or with words these are kept
 abbrev pub OwnStopRows : Type 0

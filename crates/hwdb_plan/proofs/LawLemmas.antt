@@ -12,7 +12,7 @@ use Rattle.hwdb_spec.specs.declared.errors.CompileError.TheVariants as compiling
 use Rattle.hwdb_plan.specs.Laws.{AreAlike, OldOrReplaced, OneForm, OneSpelling, OneTree, TellOne}
 use Rattle.hwdb_plan.specs.Plans.{AreMadeOf, AreTooMuch, Asks, End, Ends, Plan, over, reads_over}
 use Rattle.hwdb_plan.specs.Plans.End.{Answers, Replaces, Stops}
-use Rattle.hwdb_plan.specs.Plans.Plan.{Compile, Database, Decode, Done, Input, Spell, Text}
+use Rattle.hwdb_plan.specs.Plans.Plan.{Compile, Database, Decode, Done, Folder, Ignored, Input, Names, Spell, Text}
 use Rattle.hwdb_spec_commands.specs.Told.{Reads, Stop}
 
 abbrev pub MadeOrNot : Type 0
@@ -40,6 +40,9 @@ alike one form spelling not w (Done x) e f a b = inl (a ∙ sym b)
 alike one form spelling not w (Input path next) e f a b = alike one form spelling not w (next (w.input path)) e f a b
 alike one form spelling not w (Text path next) e f a b = alike one form spelling not w (next (w.text path)) e f a b
 alike one form spelling not w (Database path next) e f a b = alike one form spelling not w (next (w.database path)) e f a b
+alike one form spelling not w (Names folder next) e f a b = alike one form spelling not w (next (w.names folder)) e f a b
+alike one form spelling not w (Folder path next) e f a b = alike one form spelling not w (next (w.folder path)) e f a b
+alike one form spelling not w (Ignored folder next) e f a b = alike one form spelling not w (next (w.ignored folder)) e f a b
 alike one form spelling not w (Spell text next) e f (inl (p, is, ends)) (inl (q, is2, ends2)) =
     alike one form spelling not w (next (Some p)) e f ends (subst (λ (r : Position). Ends w (next (Some r)) f) (spelling q p text is2 is) ends2)
 alike one form spelling not w (Spell text next) e f (inl (p, is, ends)) (inr (none, ends2)) = absurd (none p is)
@@ -90,6 +93,10 @@ over_is_over is made w (Text path next) e ends =
     choose w is made e (is path) (Ok made) (w.text path) next (Text path (λ r. over is made (next r))) (λ r. over_is_over is made w (next r) e) (λ x. x) ends
 over_is_over is made w (Database path next) e ends =
     choose w is made e (is path) (Ok (Some made)) (w.database path) next (Database path (λ r. over is made (next r))) (λ r. over_is_over is made w (next r) e) (λ x. x) ends
+over_is_over is made w (Names folder next) e ends = over_is_over is made w (next (w.names folder)) e ends
+over_is_over is made w (Folder path next) e ends =
+    choose w is made e (is path) (Ok None) (w.folder path) next (Folder path (λ r. over is made (next r))) (λ r. over_is_over is made w (next r) e) (λ x. x) ends
+over_is_over is made w (Ignored folder next) e ends = over_is_over is made w (next (w.ignored folder)) e ends
 over_is_over is made w (Spell text next) e (inl (p, is_p, ends)) = inl (p, is_p, over_is_over is made w (next (Some p)) e ends)
 over_is_over is made w (Spell text next) e (inr (none, ends)) = inr (none, over_is_over is made w (next None) e ends)
 over_is_over is made w (Decode bytes bad next) e (inl (t, is_t, ends)) = inl (t, is_t, over_is_over is made w (next t) e ends)
@@ -113,6 +120,10 @@ over_is_no_more is made w (Text path next) e ends =
     unchoose w is made e (is path) (Ok made) (w.text path) next (Text path (λ r. over is made (next r))) (λ r. over_is_no_more is made w (next r) e) (λ x. x) ends
 over_is_no_more is made w (Database path next) e ends =
     unchoose w is made e (is path) (Ok (Some made)) (w.database path) next (Database path (λ r. over is made (next r))) (λ r. over_is_no_more is made w (next r) e) (λ x. x) ends
+over_is_no_more is made w (Names folder next) e ends = over_is_no_more is made w (next (w.names folder)) e ends
+over_is_no_more is made w (Folder path next) e ends =
+    unchoose w is made e (is path) (Ok None) (w.folder path) next (Folder path (λ r. over is made (next r))) (λ r. over_is_no_more is made w (next r) e) (λ x. x) ends
+over_is_no_more is made w (Ignored folder next) e ends = over_is_no_more is made w (next (w.ignored folder)) e ends
 over_is_no_more is made w (Spell text next) e (inl (p, is_p, ends)) = inl (p, is_p, over_is_no_more is made w (next (Some p)) e ends)
 over_is_no_more is made w (Spell text next) e (inr (none, ends)) = inr (none, over_is_no_more is made w (next None) e ends)
 over_is_no_more is made w (Decode bytes bad next) e (inl (t, is_t, ends)) = inl (t, is_t, over_is_no_more is made w (next t) e ends)
@@ -130,6 +141,12 @@ only_asked w x (Text path next) e same ends =
     only_asked w x (next (x.text path)) e (λ q asks. same q (inr (x.text path, asks))) (subst (λ r. Ends w (next r) e) (same path (inl refl)).text ends)
 only_asked w x (Database path next) e same ends =
     only_asked w x (next (x.database path)) e (λ q asks. same q (inr (x.database path, asks))) (subst (λ r. Ends w (next r) e) (same path (inl refl)).database ends)
+only_asked w x (Names folder next) e same ends =
+    only_asked w x (next (x.names folder)) e (λ q asks. same q (inr (x.names folder, asks))) (subst (λ r. Ends w (next r) e) (same folder (inl refl)).names ends)
+only_asked w x (Folder path next) e same ends =
+    only_asked w x (next (x.folder path)) e (λ q asks. same q (inr (x.folder path, asks))) (subst (λ r. Ends w (next r) e) (same path (inl refl)).folder ends)
+only_asked w x (Ignored folder next) e same ends =
+    only_asked w x (next (x.ignored folder)) e (λ q asks. same q (inr (x.ignored folder, asks))) (subst (λ r. Ends w (next r) e) (same folder (inl refl)).ignored ends)
 only_asked w x (Spell text next) e same (inl (p, is, ends)) = inl (p, is, only_asked w x (next (Some p)) e (λ q asks. same q (Some p, asks)) ends)
 only_asked w x (Spell text next) e same (inr (none, ends)) = inr (none, only_asked w x (next None) e (λ q asks. same q (None, asks)) ends)
 only_asked w x (Decode bytes bad next) e same (inl (t, is, ends)) = inl (t, is, only_asked w x (next t) e (λ q asks. same q (t, asks)) ends)

@@ -27,6 +27,9 @@ reads_with answer w = record {
   input = λ path. if bytes_eq path (codes "standard input") then answer else w.input path;
   text = λ path. if bytes_eq path (codes "standard input") then answer else w.text path;
   database = λ path. if bytes_eq path (codes "standard input") then found_by answer else w.database path;
+  names = w.names;
+  folder = λ path. if bytes_eq path (codes "standard input") then Ok None else w.folder path;
+  ignored = w.ignored;
 }
 
 -- so of that name, and of what is told then

@@ -75,6 +75,9 @@ pub record TellOne (w x : Reads) (path : List ℕ) : Type 0 where
   pub input : w.input path ≡ x.input path
   pub text : w.text path ≡ x.text path
   pub database : w.database path ≡ x.database path
+  pub names : w.names path ≡ x.names path
+  pub folder : w.folder path ≡ x.folder path
+  pub ignored : w.ignored path ≡ x.ignored path
 
 -- what a plan doesn't ask doesn't matter
 abbrev pub OnlyAskedMatters : Type 0

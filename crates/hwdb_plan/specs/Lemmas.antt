@@ -2,6 +2,7 @@
 pub mod Steps
 pub mod Asking
 pub mod Files
+pub mod Folders
 pub mod Ends
 pub mod Streams
 pub mod Put

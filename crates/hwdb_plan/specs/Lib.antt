@@ -4,6 +4,7 @@ pub mod Laws
 pub mod Asking
 pub mod Input
 pub mod Files
+pub mod Folders
 pub mod Verify
 pub mod Dump
 pub mod Answers

@@ -16,7 +16,7 @@ use Rattle.hwdb_spec.specs.declared.errors.ToolError.TheVariants as error
 use Rattle.hwdb_spec_commands.specs.declared.refusals.Refusal.{Refusal}
 use Rattle.hwdb_spec_commands.specs.declared.refusals.Refusal.TheVariants as refusal
 use Rattle.hwdb_spec_commands.specs.declared.unread.Unread.{Unread}
-use Rattle.hwdb_spec_commands.specs.Told.{Reads, Stop, stop_of}
+use Rattle.hwdb_spec_commands.specs.Told.{Reads, Stop, Unlisted, stop_of}
 
 -- what a plan ends in: an error; a status, with a text for standard error and one for standard output; lines for standard output, each
 -- as it is found; a text for the lines of standard input, as they come; or the database in a folder, its bytes after a text for standard
@@ -28,12 +28,16 @@ pub data End : Type 0 where
   Streams : (text : List (List ℕ) → List ℕ) → End
   Replaces : (folder bytes said : List ℕ) (status : ℕ) → End
 
--- the next question, and what follows each answer: of what is read at a path, and of what a text, bytes or text files are
+-- the next question, and what follows each answer: of what is read or listed at a path, and of what a text, bytes or text files are
 pub data Plan : Type 0 where
   Done : End → Plan
   Input : (path : List ℕ) → (Result (List ℕ) Unread → Plan) → Plan
   Text : (path : List ℕ) → (Result (List ℕ) Unread → Plan) → Plan
   Database : (path : List ℕ) → (Result (Option (List ℕ)) Unread → Plan) → Plan
+  -- the names of a folder's text files; those of what is at a path, if it is a folder; and those of a folder's ignored files
+  Names : (folder : List ℕ) → (Result (List (List ℕ)) Unlisted → Plan) → Plan
+  Folder : (path : List ℕ) → (Result (Option (List (List ℕ))) Unlisted → Plan) → Plan
+  Ignored : (folder : List ℕ) → (Result (List (List ℕ)) Unread → Plan) → Plan
   -- a text spells a position, or none
   Spell : (text : List ℕ) → (Option Position → Plan) → Plan
   -- bytes are the database of a tree, or have some fault: which of several is told is left open
@@ -67,6 +71,9 @@ Ends w (Done e) end = end ≡ e
 Ends w (Input path next) end = Ends w (next (w.input path)) end
 Ends w (Text path next) end = Ends w (next (w.text path)) end
 Ends w (Database path next) end = Ends w (next (w.database path)) end
+Ends w (Names folder next) end = Ends w (next (w.names folder)) end
+Ends w (Folder path next) end = Ends w (next (w.folder path)) end
+Ends w (Ignored folder next) end = Ends w (next (w.ignored folder)) end
 Ends w (Spell text next) end = ((p : Position) × IsSpelling p text × Ends w (next (Some p)) end) ⊎ (SpellsNone text × Ends w (next None) end)
 Ends w (Decode bytes bad next) end = ((t : Tree) × IsDatabase bytes t × Ends w (next t) end) ⊎ ((f : DbFault) × IsNoDatabase bytes f × (end ≡ Stops (bad f)))
 Ends w (Compile etc usr most bad next) end =
@@ -83,13 +90,22 @@ Reaches path bytes w p result =
     MatchResult result (λ y. (next : Next) (e : End) → Ends w (next (path y) (bytes y)) e → Ends w (p next) e)
     (λ r. (r ≡ refusal.Plain error.Memory) ⊎ ((next : Next) → Ends w (p next) (Stops (stop_of r))))
 
+-- The result has a value, from which the plan goes on. Or it is what the plan ends in, whatever was to follow; or there was no memory.
+abbrev pub ReachesValue : {X Y : Type 0} (value : Y → X) → Reads → ((X → Plan) → Plan) → Result Y Refusal → Type 0
+ReachesValue {X} value w p result =
+    MatchResult result (λ y. (next : X → Plan) (e : End) → Ends w (next (value y)) e → Ends w (p next) e)
+    (λ r. (r ≡ refusal.Plain error.Memory) ⊎ ((next : X → Plan) → Ends w (p next) (Stops (stop_of r))))
+
 -- ---- other bytes in a place (`--text`)
--- the plan over a file system whose files at some paths have these bytes: of these it asks nothing
+-- the plan over a file system whose files at some paths have these bytes: of these it asks nothing, and none of them is a folder
 unfoldable pub over : (is : List ℕ → Bool) (made : List ℕ) → Plan → Plan
 over is made (Done e) = Done e
 over is made (Input path next) = if is path then over is made (next (Ok made)) else Input path (λ r. over is made (next r))
 over is made (Text path next) = if is path then over is made (next (Ok made)) else Text path (λ r. over is made (next r))
 over is made (Database path next) = if is path then over is made (next (Ok (Some made))) else Database path (λ r. over is made (next r))
+over is made (Names folder next) = Names folder (λ r. over is made (next r))
+over is made (Folder path next) = if is path then over is made (next (Ok None)) else Folder path (λ r. over is made (next r))
+over is made (Ignored folder next) = Ignored folder (λ r. over is made (next r))
 over is made (Spell text next) = Spell text (λ p. over is made (next p))
 over is made (Decode bytes bad next) = Decode bytes bad (λ t. over is made (next t))
 over is made (Compile etc usr most bad next) = Compile etc usr most bad (λ bytes. over is made (next bytes))
@@ -100,15 +116,21 @@ reads_over is made w = record {
   input = λ path. if is path then Ok made else w.input path;
   text = λ path. if is path then Ok made else w.text path;
   database = λ path. if is path then Ok (Some made) else w.database path;
+  names = w.names;
+  folder = λ path. if is path then Ok None else w.folder path;
+  ignored = w.ignored;
 }
 
 -- ---- questions
--- the plan may ask what is at this path, whatever it is told of others
+-- the plan may ask what is at this path, or what is in it, whatever it is told of others
 unfoldable pub Asks : Plan → (path : List ℕ) → Type 0
 Asks (Done e) path = ⊥
 Asks (Input at next) path = (path ≡ at) ⊎ ((r : Result (List ℕ) Unread) × Asks (next r) path)
 Asks (Text at next) path = (path ≡ at) ⊎ ((r : Result (List ℕ) Unread) × Asks (next r) path)
 Asks (Database at next) path = (path ≡ at) ⊎ ((r : Result (Option (List ℕ)) Unread) × Asks (next r) path)
+Asks (Names folder next) path = (path ≡ folder) ⊎ ((r : Result (List (List ℕ)) Unlisted) × Asks (next r) path)
+Asks (Folder at next) path = (path ≡ at) ⊎ ((r : Result (Option (List (List ℕ))) Unlisted) × Asks (next r) path)
+Asks (Ignored folder next) path = (path ≡ folder) ⊎ ((r : Result (List (List ℕ)) Unread) × Asks (next r) path)
 Asks (Spell text next) path = (p : Option Position) × Asks (next p) path
 Asks (Decode bytes bad next) path = (t : Tree) × Asks (next t) path
 Asks (Compile etc usr most bad next) path = (bytes : List ℕ) × Asks (next bytes) path

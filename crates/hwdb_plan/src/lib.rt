@@ -11,6 +11,7 @@
 //! | `Asking` | the database that a command asks for, as the front of a plan |
 //! | `Input` | standard input, in place of a path that words give |
 //! | `Files` | files that are read one after another, as the front of a plan |
+//! | `Folders` | the text files of both folders, as the front of a plan |
 //! | `Verify`, `Dump`, `Test`, `Near` | the plans of these commands |
 //! | `Answers` | those of `query` and `explain`, also of devices of standard input |
 //! | `List`, `Ask` | those of `list` and `ask` |

@@ -52,8 +52,8 @@ pub mod DumpErrors
 pub mod CheckErrors
 pub mod AnsweredLines
 pub mod Refusals
-pub mod Told
 pub mod Reading
+pub mod Told
 pub mod LeftOutTold
 pub mod SysfsAnswers
 pub mod Streams

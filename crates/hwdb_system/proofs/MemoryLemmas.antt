@@ -1,145 +1,183 @@
--- A store in memory: what is under a path was put there by one of its steps.
-use Rattle.std.proofs.Common.{◌≡◌, ◌≢◌, ◌∙◌, ◌⊎◌, ◌||◌, inl, inr, ap, sym, refl, subst, bytes_eq, true, false, List, ℕ, [], ◌∷◌, ◌++◌, Option, Some, None, if◌then◌else◌, All, Bool}
-use Rattle.std.specs.Prelude.{is_some, option_map, MatchOption, not, drop, Contains}
-use Rattle.std.specs.Option.{option_map_or}
-use Rattle.std.proofs.lemmas.List.Elements.{All-push, All-weaker, Contains-append_left, Contains-push}
+-- The names that a store in memory tells of a folder, one step after the other.
+use Rattle.std.proofs.Common.{◌≡◌, ◌≢◌, ◌∙◌, ◌⊎◌, ◌<◌, inl, inr, ap, sym, refl, subst, true, false, length, map, take, drop, get_or, List, ℕ, [], ◌∷◌, ◌++◌, Option, Some, None, Result, Ok, Err, IfOk, if◌then◌else◌, Bool, suc}
+use Rattle.std.specs.Prelude.{IsUtf8, cond, filter_map, find, is_some, not, option_and_then, option_map, option_to_list, MatchOption, IfSome}
 use Rattle.std.specs.Borrow.{Bor}
-use Rattle.std.proofs.lemmas.List.{append_cancel_left}
-use Rattle.hwdb_spec.specs.Lines.{has}
-use Rattle.hwdb_spec.specs.Store.{Contents, path_in, Stored}
-use Rattle.hwdb_spec_commands.specs.Ignored.{AreIgnoredIn, IsIgnoredIn}
-use Rattle.hwdb_spec.specs.System.{AreNamesIn, IsNameIn}
-use Rattle.std.proofs.lemmas.Slice.Eq.{bytes_eq-Decides}
-use Rattle.hwdb_spec.specs.Crashes.{Traces, begin, changed}
-use Rattle.hwdb_replace.specs.Memory.{state_of, after, seen_of, stored}
+use Rattle.std.specs.Result.{IsErrAnd}
+use Rattle.std.specs.Str.{is_utf8}
+use Rattle.std.proofs.lemmas.Str.{is_utf8-from_IsUtf8}
+use Rattle.std.proofs.lemmas.List.{append_cancel_left, take-append-drop}
+use Rattle.std.proofs.lemmas.List.Elements.{filter_map-append}
+use Rattle.hwdb_spec.specs.Lemmas.Lists.{taken_more}
+use Rattle.hwdb_spec.specs.Lemmas.Orders.{not_utf8}
+use Rattle.hwdb_spec.specs.Store.{path_in}
+use Rattle.hwdb_spec.specs.System.{AreNamesIn, bytes_at}
+use Rattle.hwdb_spec.specs.declared.errors.ToolError.TheVariants as error
+use Rattle.hwdb_spec_commands.specs.Ignored.{AreIgnoredIn}
+use Rattle.hwdb_spec_commands.specs.Told.{IsListedTo, IsUnlistedAs, Unlisted, stop_of, unlisted_stop}
+use Rattle.hwdb_spec_commands.specs.Told.Unlisted.{Misnamed}
+use Rattle.hwdb_spec_commands.specs.declared.refusals.Refusal.{Refusal}
+use Rattle.hwdb_spec_commands.specs.declared.refusals.Refusal.TheVariants as refusal
+use Rattle.hwdb_replace.specs.Memory.{seen_of}
 use Rattle.hwdb_replace.specs.declared.memory.Step.{Step}
-use Rattle.hwdb_replace.specs.declared.memory.Step.TheVariants.{Changed, Synced, Moved, Removed, Kept}
-use Rattle.hwdb_system.specs.Internal.{made_by, IsMade, IsPushed, IsToldIn, bytes_after, is_told_file}
+use Rattle.hwdb_system.specs.Internal.{bytes_after, is_told_file, made_by, name_in, names_after, step_name}
+use Rattle.hwdb_system.specs.Lemmas.MemoryNames.{ignored_are, named_in, none_named_in}
+use Rattle.hwdb_system.specs.Lemmas.MemoryReads.{memory_agrees}
+use Rattle.hwdb_system.specs.Raw.{IsMisnamedAt, present}
+use Rattle.hwdb_system.specs.Reads.{first_misnamed, memory_reads, names_told, unless_misnamed}
 
--- a step that leaves something under a path put it there, or it stood there before
-by_step : (p : List ℕ) (s : Traces) (x : Step) → is_some (after p s x).now ≡ true → (is_some s.now ≡ true) ⊎ (made_by x ≡ Some p)
-by_step p s (Changed path file) =
-    elim (bytes_eq p path.items) as (λ b. bytes_eq p path.items ≡ b → is_some (if b then changed (Some (stored file)) true s else s).now ≡ true → (is_some s.now ≡ true) ⊎ (made_by (Changed path file) ≡ Some p)) [
-      | true ↦ λ e h. inr (ap Some (sym ((bytes_eq-Decides p path.items).0 e)))
-      | false ↦ λ e h. inl h
-    ] refl
-by_step p s (Synced path) =
-    elim (bytes_eq p path.items) as (λ b. is_some (if b then record { now = s.now; loose = false; before = s.before; torn = s.torn } else s).now ≡ true → (is_some s.now ≡ true) ⊎ (made_by (Synced path) ≡ Some p)) [
-      | true ↦ λ h. inl h
-      | false ↦ λ h. inl h
-    ]
-by_step p s (Moved from to file loose) =
-    elim (bytes_eq p to.items) as (λ b. bytes_eq p to.items ≡ b → is_some (if b then changed (Some (stored file)) loose s else (if bytes_eq p from.items then changed None false s else s)).now ≡ true
-    → (is_some s.now ≡ true) ⊎ (made_by (Moved from to file loose) ≡ Some p)) [
-      | true ↦ λ e h. inr (ap Some (sym ((bytes_eq-Decides p to.items).0 e)))
-      | false ↦ λ e. elim (bytes_eq p from.items) as (λ b. is_some (if b then changed None false s else s).now ≡ true → (is_some s.now ≡ true) ⊎ (made_by (Moved from to file loose) ≡ Some p)) [
-        | true ↦ λ h. absurd (cc)
-        | false ↦ λ h. inl h
-      ]
-    ] refl
-by_step p s (Removed path) =
-    elim (bytes_eq p path.items) as (λ b. is_some (if b then changed None false s else s).now ≡ true → (is_some s.now ≡ true) ⊎ (made_by (Removed path) ≡ Some p)) [
-      | true ↦ λ h. absurd (cc)
-      | false ↦ λ h. inl h
-    ]
-by_step p s Kept = λ h. inl h
-
-by_steps : (p : List ℕ) (s : Traces) (xs : List Step) → is_some (state_of p s xs).now ≡ true → (is_some s.now ≡ true) ⊎ IsMade xs p
-by_steps p s [] h = inl h
-by_steps p s (x ∷ xs) h = or_here (by_steps p (after p s x) xs h)
-  where
-    or_earlier : (is_some s.now ≡ true) ⊎ (made_by x ≡ Some p) → (is_some s.now ≡ true) ⊎ IsMade (x ∷ xs) p
-    or_earlier (inl h) = inl h
-    or_earlier (inr h) = inr (inl h)
-
-    or_here : (is_some (after p s x).now ≡ true) ⊎ IsMade xs p → (is_some s.now ≡ true) ⊎ IsMade (x ∷ xs) p
-    or_here (inl h) = or_earlier (by_step p s x h)
-    or_here (inr h) = inr (inr h)
-
--- what is under a path was put there
-pub is_made : (xs : List Step) (p : List ℕ) → is_some (bytes_after xs p) ≡ true → IsMade xs p
-is_made xs p h = only (by_steps p begin xs (stands (seen_of xs p) h))
-  where
-    stands : (o : Option Stored) → is_some (option_map (λ (f : Stored). f.bytes) o) ≡ true → is_some o ≡ true
-    stands None e = e
-    stands (Some f) e = refl
-
-    only : (is_some begin.now ≡ true) ⊎ IsMade xs p → IsMade xs p
-    only (inl h) = absurd (cc)
-    only (inr h) = h
-
--- by one of some steps, or by one more
-pub made_more : (xs : List Step) (x : Step) (p : List ℕ) → IsMade (xs ++ x ∷ []) p → IsMade xs p ⊎ (made_by x ≡ Some p)
-made_more [] x p (inl h) = inr h
-made_more [] x p (inr h) = absurd h
-made_more (y ∷ xs) x p (inl h) = inl (inl h)
-made_more (y ∷ xs) x p (inr h) = or_here (made_more xs x p h)
-  where
-    or_here : IsMade xs p ⊎ (made_by x ≡ Some p) → IsMade (y ∷ xs) p ⊎ (made_by x ≡ Some p)
-    or_here (inl h) = inl (inr h)
-    or_here (inr h) = inr h
-
--- ---- names
+-- ---- one step
 -- the name after a folder and a slash
 pub name_of_path : (folder path rest : List ℕ) (r : Option (Bor (List ℕ))) → path ≡ folder ++ rest
     → MatchOption r ((more : List ℕ) → rest ≢ (47 ∷ []) ++ more) (λ x. rest ≡ (47 ∷ []) ++ x.now)
-    → MatchOption r ((name : List ℕ) → path ≡ path_in folder name → ⊥) (λ name. path ≡ path_in folder name.now)
-name_of_path folder path rest None e none = λ name is. none name (append_cancel_left folder rest (47 ∷ name) (sym e ∙ is))
-name_of_path folder path rest (Some x) e some = e ∙ ap (λ l. folder ++ l) some
+    → option_map (λ (x : Bor (List ℕ)). x.now) r ≡ name_in folder path
+name_of_path folder path rest None e none = none_named_in folder path (λ name is. none name (append_cancel_left folder rest (47 ∷ name) (sym e ∙ is)))
+name_of_path folder path rest (Some x) e some = sym (named_in folder path x.now (e ∙ ap (λ l. folder ++ l) some))
 
-pub no_name : (folder path : List ℕ) → ((rest : List ℕ) → path ≢ folder ++ rest) → (name : List ℕ) → path ≡ path_in folder name → ⊥
-no_name folder path none name is = none (47 ∷ name) is
+pub no_name : (folder path : List ℕ) → ((rest : List ℕ) → path ≢ folder ++ rest) → None ≡ name_in folder path
+no_name folder path none = none_named_in folder path (λ name is. none (47 ∷ name) is)
 
-same_name : (folder a b : List ℕ) → path_in folder a ≡ path_in folder b → a ≡ b
-same_name folder a b e = ap (drop 1) (append_cancel_left folder (47 ∷ a) (47 ∷ b) e)
+module _ (ignored : Bool) (steps : List Step) (folder : List ℕ) (step : Step) where
+  -- it puts no file there
+  pub unmade : None ≡ made_by step → None ≡ step_name ignored steps folder step
+  unmade made = ap (option_and_then (λ path. option_and_then (λ name. if is_told_file ignored steps name path then Some name else None) (name_in folder path))) made
 
-module _ (ignored : Bool) where
-  is_one : (steps : List Step) (folder name : List ℕ) → IsToldIn ignored folder (seen_of steps) name → is_told_file ignored steps name (path_in folder name) ≡ true
-  is_one steps folder name is =
-      ap (λ b. if not b || has 47 name then false else is_some (bytes_after steps (path_in folder name))) is.told
-      ∙ ap (λ b. if false || b then false else is_some (bytes_after steps (path_in folder name))) is.plain ∙ is.there
+  named : (path : List ℕ) (o : Option (List ℕ)) → Some path ≡ made_by step → o ≡ name_in folder path
+      → option_and_then (λ name. if is_told_file ignored steps name path then Some name else None) o ≡ step_name ignored steps folder step
+  named path o made is =
+      ap (option_and_then (λ name. if is_told_file ignored steps name path then Some name else None)) is
+      ∙ ap (option_and_then (λ path. option_and_then (λ name. if is_told_file ignored steps name path then Some name else None) (name_in folder path))) made
 
-  -- under a path that is none of theirs, none has a name
-  pub not_named : (steps : List Step) (folder name other path : List ℕ) → path ≡ path_in folder other → is_told_file ignored steps other path ≡ false
-      → IsToldIn ignored folder (seen_of steps) name → path ≡ path_in folder name → ⊥
-  not_named steps folder name other path of none is at =
-      let same : other ≡ name = same_name folder other name (sym of ∙ at) in
-      let yes : is_told_file ignored steps other path ≡ true = ap (λ n. is_told_file ignored steps n path) same ∙ ap (is_told_file ignored steps name) at ∙ is_one steps folder name is in
-      absurd (cc)
+  -- it does so in another folder
+  pub unnamed : (path : List ℕ) → Some path ≡ made_by step → None ≡ name_in folder path → None ≡ step_name ignored steps folder step
+  unnamed path made none = named path None made none
 
-  -- ---- one step more
-  abbrev AreAll : (steps : List Step) (folder : List ℕ) (xs : List Step) (names : List (List ℕ)) → Type 0
-  AreAll steps folder xs names = (name : List ℕ) → IsToldIn ignored folder (seen_of steps) name → IsMade xs (path_in folder name) → Contains names name
+  -- or in this one: it is told, or not
+  pub kept_name : (path name : List ℕ) → Some path ≡ made_by step → Some name ≡ name_in folder path → is_told_file ignored steps name path ≡ true → Some name ≡ step_name ignored steps folder step
+  kept_name path name made is told = ap (λ (b : Bool). if b then Some name else None) (sym told) ∙ named path (Some name) made is
 
-  pub pushed_each : (steps : List Step) (folder : List ℕ) (x : Step) (old new : List (List ℕ)) → IsPushed ignored steps folder x old new
-      → All (IsToldIn ignored folder (seen_of steps)) old → All (IsToldIn ignored folder (seen_of steps)) new
-  pushed_each steps folder x old new (inl none) each = subst (All (IsToldIn ignored folder (seen_of steps))) (sym none.1) each
-  pushed_each steps folder x old new (inr (name, is, e)) each =
-      subst (All (IsToldIn ignored folder (seen_of steps))) (sym e) (All-push (IsToldIn ignored folder (seen_of steps)) old name each is.0)
+  pub left_name : (path name : List ℕ) → Some path ≡ made_by step → Some name ≡ name_in folder path → is_told_file ignored steps name path ≡ false → None ≡ step_name ignored steps folder step
+  left_name path name made is told = ap (λ (b : Bool). if b then Some name else None) (sym told) ∙ named path (Some name) made is
 
-  pub pushed_all : (steps : List Step) (folder : List ℕ) (xs : List Step) (x : Step) (old new : List (List ℕ)) → IsPushed ignored steps folder x old new
-      → AreAll steps folder xs old → AreAll steps folder (xs ++ x ∷ []) new
-  pushed_all steps folder xs x old new pushed all = λ name is made. by_case name is pushed (made_more xs x (path_in folder name) made)
-    where
-      by_case : (name : List ℕ) → IsToldIn ignored folder (seen_of steps) name → IsPushed ignored steps folder x old new → IsMade xs (path_in folder name) ⊎ (made_by x ≡ Some (path_in folder name)) → Contains new name
-      by_case name is (inl none) (inl made) = subst (λ l. Contains l name) (sym none.1) (all name is made)
-      by_case name is (inl none) (inr made) = absurd (none.0 name is made)
-      by_case name is (inr (other, found, e)) (inl made) = subst (λ l. Contains l name) (sym e) (Contains-append_left old (other ∷ []) name (all name is made))
-      by_case name is (inr (other, found, e)) (inr made) =
-          let same : other ≡ name = same_name folder other name (ap (λ o. option_map_or (λ b. b) o []) (sym found.1 ∙ made)) in
-          subst (λ l. Contains l name) (sym e) (subst (Contains (old ++ other ∷ [])) same (Contains-push old other))
+-- a name is put after others
+pub put_name : (o : Option (List ℕ)) (name : List ℕ) (old new : List (List ℕ)) → Some name ≡ o → new ≡ old ++ name ∷ [] → new ≡ old ++ option_to_list o
+put_name o name old new is put = put ∙ ap (λ (x : Option (List ℕ)). old ++ option_to_list x) is
 
--- ---- what was told
-pub told_names : (folder : List ℕ) (contents : Contents) (names : List (List ℕ)) → All (IsToldIn false folder contents) names
-    → ((name : List ℕ) → IsToldIn false folder contents name → Contains names name) → AreNamesIn folder contents names
-told_names folder contents names each all = record {
-  each = All-weaker (IsToldIn false folder contents) (IsNameIn folder contents) (λ name is. record { counts = is.told; plain = is.plain; there = is.there }) names each;
-  all = λ name is. all name record { told = is.counts; plain = is.plain; there = is.there };
-}
+-- ---- one step more
+one_is : (o : Option (List ℕ)) (h : Step → Option (List ℕ)) (x : Step) → h x ≡ o → filter_map h (x ∷ []) ≡ option_to_list o
+one_is None h x is = rw is refl
+one_is (Some name) h x is = rw is refl
 
-pub told_ignored : (folder : List ℕ) (contents : Contents) (names : List (List ℕ)) → All (IsToldIn true folder contents) names
-    → ((name : List ℕ) → IsToldIn true folder contents name → Contains names name) → AreIgnoredIn folder contents names
-told_ignored folder contents names each all = record {
-  each = All-weaker (IsToldIn true folder contents) (IsIgnoredIn folder contents) (λ name is. record { ignored = is.told; plain = is.plain; there = is.there }) names each;
-  all = λ name is. all name record { told = is.ignored; plain = is.plain; there = is.there };
-}
+pub names_more : (h : Step → Option (List ℕ)) (xs : List Step) (i : ℕ) (x : Step) (old new : List (List ℕ)) → i < length xs → x ≡ get_or xs i x
+    → old ≡ filter_map h (take i xs) → new ≡ old ++ option_to_list (h x) → new ≡ filter_map h (take (suc i) xs)
+names_more h xs i x old new lt at told put =
+    put ∙ ap (λ (l : List (List ℕ)). l ++ option_to_list (h x)) told
+    ∙ ap (λ (l : List (List ℕ)). filter_map h (take i xs) ++ l) (sym (one_is (h x) h x refl))
+    ∙ sym (filter_map-append h (take i xs) (x ∷ []))
+    ∙ ap (filter_map h) (sym (taken_more xs i x lt at))
+
+-- ---- the first name that isn't UTF-8
+abbrev bad : List ℕ → Bool
+bad name = not (is_utf8 name)
+
+none_here : (x : List ℕ) (a b : List (List ℕ)) → (first_misnamed a ≡ None → first_misnamed (a ++ b) ≡ first_misnamed b) → (t : Bool)
+    → cond t (Some x) (first_misnamed a) ≡ None → cond t (Some x) (first_misnamed (a ++ b)) ≡ first_misnamed b
+none_here x a b later true none = absurd (cc)
+none_here x a b later false none = later none
+
+none_before : (a b : List (List ℕ)) → first_misnamed a ≡ None → first_misnamed (a ++ b) ≡ first_misnamed b
+none_before [] b none = refl
+none_before (x ∷ a) b none = none_here x a b (none_before a b) (bad x) none
+
+some_here : (x name : List ℕ) (a b : List (List ℕ)) → (first_misnamed a ≡ Some name → first_misnamed (a ++ b) ≡ Some name) → (t : Bool)
+    → cond t (Some x) (first_misnamed a) ≡ Some name → cond t (Some x) (first_misnamed (a ++ b)) ≡ Some name
+some_here x name a b later true is = is
+some_here x name a b later false is = later is
+
+some_before : (name : List ℕ) (a b : List (List ℕ)) → first_misnamed a ≡ Some name → first_misnamed (a ++ b) ≡ Some name
+some_before name [] b is = absurd (cc)
+some_before name (x ∷ a) b is = some_here x name a b (some_before name a b) (bad x) is
+
+one_good : (o : Option (List ℕ)) → IfSome o IsUtf8 → first_misnamed (option_to_list o) ≡ None
+one_good None utf8 = refl
+one_good (Some name) utf8 = ap (λ (b : Bool). cond (not b) (Some name) None) (is_utf8-from_IsUtf8 name utf8)
+
+pub good_more : (o : Option (List ℕ)) (old new : List (List ℕ)) → first_misnamed old ≡ None → IfSome o IsUtf8 → new ≡ old ++ option_to_list o → first_misnamed new ≡ None
+good_more o old new none utf8 put = ap first_misnamed put ∙ none_before old (option_to_list o) none ∙ one_good o utf8
+
+one_bad : (name : List ℕ) (after : List (List ℕ)) → is_utf8 name ≡ false → first_misnamed (name ∷ after) ≡ Some name
+one_bad name after none = ap (λ (b : Bool). cond (not b) (Some name) (first_misnamed after)) none
+
+first_bad : (h : Step → Option (List ℕ)) (xs : List Step) (i : ℕ) (x : Step) (name : List ℕ) (old : List (List ℕ)) → i < length xs → x ≡ get_or xs i x
+    → old ≡ filter_map h (take i xs) → first_misnamed old ≡ None → h x ≡ Some name → is_utf8 name ≡ false → first_misnamed (filter_map h xs) ≡ Some name
+first_bad h xs i x name old lt at told none is misnamed =
+    let rest = filter_map h (drop (suc i) xs) in
+    let more = names_more h xs i x old (old ++ name ∷ []) lt at told (ap (λ (o : Option (List ℕ)). old ++ option_to_list o) (sym is)) in
+    let split : filter_map h xs ≡ (old ++ name ∷ []) ++ rest =
+    ap (filter_map h) (sym (take-append-drop (suc i) xs)) ∙ filter_map-append h (take (suc i) xs) (drop (suc i) xs) ∙ ap (λ (l : List (List ℕ)). l ++ rest) (sym more) in
+    let one : first_misnamed (old ++ name ∷ []) ≡ Some name = none_before old (name ∷ []) none ∙ one_bad name [] misnamed in
+    ap first_misnamed split ∙ some_before name (old ++ name ∷ []) rest one
+
+misnamed_as : (folder name : List ℕ) (r : Refusal) → IsMisnamedAt folder name r → (stop_of r ≡ unlisted_stop folder (Misnamed name)) × (is_utf8 name ≡ false)
+misnamed_as folder name (refusal.At error.Read at cause) is =
+    let there : at.items ≡ path_in folder name = is.0 in
+    let why = is.1 in
+    (cc, not_utf8 name is.2)
+misnamed_as folder name (refusal.At error.Write at cause) is = absurd is
+misnamed_as folder name (refusal.At error.TooLong at cause) is = absurd is
+misnamed_as folder name (refusal.At error.TooManyFiles at cause) is = absurd is
+misnamed_as folder name (refusal.At error.TooManyLines at cause) is = absurd is
+misnamed_as folder name (refusal.At error.TooLarge at cause) is = absurd is
+misnamed_as folder name (refusal.At error.BadPosition at cause) is = absurd is
+misnamed_as folder name (refusal.At (error.BadDatabase fault) at cause) is = absurd is
+misnamed_as folder name (refusal.At (error.Replace u) at cause) is = absurd is
+misnamed_as folder name (refusal.At error.Memory at cause) is = absurd is
+misnamed_as folder name (refusal.Plain e) is = absurd is
+misnamed_as folder name refusal.NoDatabase is = absurd is
+misnamed_as folder name (refusal.InWords text) is = absurd is
+
+-- an error of a step is that of the listing
+pub step_stops : (h : Step → Option (List ℕ)) (folder : List ℕ) (xs : List Step) (i : ℕ) (x : Step) (old : List (List ℕ)) (r : Refusal) → i < length xs → x ≡ get_or xs i x
+    → old ≡ filter_map h (take i xs) → first_misnamed old ≡ None
+    → (r ≡ refusal.Plain error.Memory) ⊎ ((name : List ℕ) × (h x ≡ Some name) × IsMisnamedAt folder name r)
+    → IsUnlistedAs (names_told (filter_map h xs)) folder r
+step_stops h folder xs i x old r lt at told none (inl memory) = inl memory
+step_stops h folder xs i x old r lt at told none (inr (name, is, misnamed)) =
+    let says = misnamed_as folder name r misnamed in
+    inr (Misnamed name, ap (λ (m : Option (List ℕ)). unless_misnamed m (filter_map h xs)) (first_bad h xs i x name old lt at told none is says.1), says.0)
+
+-- ---- results
+-- an error that is handed on
+pub stops_listing : {X Y : Type 0} (value : Y → X) (answer : Result X Unlisted) (folder : List ℕ) (r : Refusal) (result : Result Y Refusal)
+    → IsErrAnd result (λ x. x ≡ r) → IsUnlistedAs answer folder r → IsListedTo value answer folder result
+stops_listing value answer folder r (Ok y) is why = absurd is
+stops_listing value answer folder r (Err x) is why = subst (IsUnlistedAs answer folder) (sym is) why
+
+-- all names were told
+pub all_listed : (names listing : List (List ℕ)) → names ≡ listing → first_misnamed names ≡ None → names_told listing ≡ Ok names
+all_listed names listing same none =
+    ap (λ (m : Option (List ℕ)). unless_misnamed m listing) (ap first_misnamed (sym same) ∙ none) ∙ ap Ok (sym same)
+
+-- they are those of the files in the folder
+pub listed_are : {Y : Type 0} (value : Y → List (List ℕ)) (steps : List Step) (folder : List ℕ) (result : Result Y Refusal) → IsListedTo value (names_told (names_after false steps folder)) folder result
+    → IfOk result (λ y. AreNamesIn folder (seen_of steps) (value y))
+listed_are value steps folder (Ok y) told = (memory_agrees steps).names folder (value y) told
+listed_are value steps folder (Err r) told = tt
+
+pub ignored_listed : (steps : List Step) (folder : List ℕ) (names : List (List ℕ)) → names ≡ names_after true steps folder → AreIgnoredIn folder (seen_of steps) names
+ignored_listed steps folder names same = subst (AreIgnoredIn folder (seen_of steps)) (sym same) (ignored_are steps folder)
+
+-- ---- a folder, if no file is there
+module _ (steps : List Step) (path : List ℕ) where
+  abbrev Told : Result (Option (List (List ℕ))) Unlisted
+  Told = if is_some (bytes_at (seen_of steps) path) then Ok None else present (names_told (names_after false steps path))
+
+  pub file_told : is_some (bytes_at (seen_of steps) path) ≡ true → Told ≡ Ok None
+  file_told there = ap (λ (b : Bool). if b then Ok None else present (names_told (names_after false steps path))) there
+
+  pub folder_told : (names : List (List ℕ)) → is_some (bytes_at (seen_of steps) path) ≡ false → names_told (names_after false steps path) ≡ Ok names → Told ≡ Ok (Some names)
+  folder_told names none told = ap (λ (b : Bool). if b then Ok None else present (names_told (names_after false steps path))) none ∙ ap present told
+
+  pub folder_untold : (r : Refusal) → is_some (bytes_at (seen_of steps) path) ≡ false → IsUnlistedAs (names_told (names_after false steps path)) path r → IsUnlistedAs Told path r
+  folder_untold r none (inl memory) = inl memory
+  folder_untold r none (inr (u, untold, says)) =
+      inr (u, ap (λ (b : Bool). if b then Ok None else present (names_told (names_after false steps path))) none ∙ ap present untold, says)

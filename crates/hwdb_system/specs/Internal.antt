@@ -1,5 +1,6 @@
 -- What the steps of an update hold, and what a store in memory answers.
-use Rattle.std.specs.Prelude.{IsUtf8, ◌≡◌, ◌≢◌, ◌⊎◌, ◌+◌, ◌==◌, ℕ, Bool, false, if◌then◌else◌, not, true, ◌||◌, is_some, List, [], ◌∷◌, ◌++◌, Option, Some, None, codes}
+use Rattle.std.specs.Prelude.{IsUtf8, ◌≡◌, ◌⊎◌, ◌+◌, ◌==◌, ℕ, Bool, false, if◌then◌else◌, not, true, ◌||◌, is_some, List, [], ◌∷◌, ◌++◌, Option, Some, None, codes, drop, filter_map, length, option_and_then}
+use Rattle.std.specs.Str.{bytes_eq}
 use Rattle.std.specs.Borrow.{Bor}
 use Rattle.std.specs.BTreeSet.{BTreeSet}
 use Rattle.std.specs.List.{list_any}
@@ -56,16 +57,19 @@ pub record IsToldIn (ignored : Bool) (folder : List ℕ) (contents : Contents) (
 abbrev pub is_told_file : (ignored : Bool) → List Step → (name path : List ℕ) → Bool
 is_told_file ignored steps name path = if not (is_told ignored name) || has 47 name then false else is_some (bytes_after steps path)
 
--- the name of such a file that a step puts in a folder, or that it puts none there
-abbrev pub IsNamedBy : (ignored : Bool) → List Step → (folder : List ℕ) → Step → Option (List ℕ) → Type 0
-IsNamedBy ignored steps folder step None = (name : List ℕ) → IsToldIn ignored folder (seen_of steps) name → made_by step ≢ Some (path_in folder name)
-IsNamedBy ignored steps folder step (Some name) = IsToldIn ignored folder (seen_of steps) name × (made_by step ≡ Some (path_in folder name))
+-- the name of a path in a folder, if it is one of it
+abbrev pub name_in : (folder path : List ℕ) → Option (List ℕ)
+name_in folder path =
+    if bytes_eq path (path_in folder (drop (length folder + 1) path)) then Some (drop (length folder + 1) path) else None
 
--- that name was put after the others, or there is none
-abbrev pub IsPushed : (ignored : Bool) → List Step → (folder : List ℕ) → Step → (old new : List (List ℕ)) → Type 0
-IsPushed ignored steps folder step old new =
-    (IsNamedBy ignored steps folder step None × (new ≡ old))
-    ⊎ ((name : List ℕ) × IsNamedBy ignored steps folder step (Some name) × (new ≡ old ++ name ∷ []))
+-- the name that a step puts in a folder, if a file with it, one of those, is there after all steps
+abbrev pub step_name : (ignored : Bool) → List Step → (folder : List ℕ) → Step → Option (List ℕ)
+step_name ignored steps folder step =
+    option_and_then (λ path. option_and_then (λ name. if is_told_file ignored steps name path then Some name else None) (name_in folder path)) (made_by step)
+
+-- the names of a folder, as the steps put them there: a name that several put there is told as often
+abbrev pub names_after : (ignored : Bool) → List Step → (folder : List ℕ) → List (List ℕ)
+names_after ignored steps folder = filter_map (step_name ignored steps folder) steps
 
 -- what a part of a line says: a text, or a name, as names are shown
 abbrev pub said_part : (is_name : Bool) → List ℕ → List ℕ

@@ -77,7 +77,7 @@ abbrev pub text_answer : (place : Result (List ℕ) Cause) (entry : Result Bool 
 text_answer place entry null_at kind contents = at_place place (text_at null_at (kinds_at entry kind) contents)
 
 -- what is there is read
-abbrev pub present : {X : Type 0} → Result X Unread → Result (Option X) Unread
+abbrev pub present : {X E : Type 0} → Result X E → Result (Option X) E
 present (Ok x) = Ok (Some x)
 present (Err w) = Err w
 

@@ -1,5 +1,5 @@
 //! The file system as a store that is updated, and as a system that is read.
-ghost use Rattle.std.specs.Prelude.{◌≡◌, ◌⊎◌, ◌++◌, [], None, IfOk, IfErr, string_bytes};
+ghost use Rattle.std.specs.Prelude.{◌≡◌, ◌⊎◌, ◌++◌, [], None, IfOk, IfErr, IsUtf8, string_bytes};
 ghost use Rattle.hwdb_spec.specs.Failures.{after_failure, CountsFailures};
 ghost use Rattle.hwdb_spec.specs.Store as spec;
 ghost use Rattle.hwdb_system.specs.Internal.{IsOfName};
@@ -45,6 +45,7 @@ fn bytes_of_path(alloc: Global, folder: &str, name: &[u8]) -> Result<Vec<u8>, Al
 /// A name in a folder, as text. One that isn't UTF-8 is an error, with its path.
 pub fn text_of(alloc: Global, folder: &str, name: &[u8]) -> Result<String, Refusal>
     ensures text { IfOk result (λ text. string_bytes text ≡ name.now) }
+    ensures utf8 { IfOk result (λ _. IsUtf8 name.now) }
     ensures refused { IfErr result (IsUnlisted folder.now) }
     ensures reason { IfErr result IsOfName }
     ensures exact { IfErr result (λ refusal. (refusal ≡ Refusal.Plain ToolError.Memory)

@@ -1,14 +1,13 @@
 //! A store in memory as the program's file system, for tests: it tells its contents.
-ghost use Rattle.std.specs.Prelude.{◌≡◌, ◌≤◌, Some, None, List, ℕ, IfOk, IfErr, IfSome, MatchOption, OnOk, false, map, option_map, string_bytes, true, vec_len};
-ghost use Rattle.hwdb_spec_commands.specs.Ignored.{AreIgnoredIn};
-ghost use Rattle.hwdb_spec.specs.Store.{path_in};
+ghost use Rattle.std.specs.Prelude.{◌≡◌, ◌≤◌, ◌⊎◌, ◌++◌, ℕ, List, Some, IfOk, IfErr, IfSome, IsUtf8, OnOk, false, map, option_map, option_to_list, string_bytes, true, vec_len};
 ghost use Rattle.hwdb_spec.specs.Texts.{max_file};
 ghost use Rattle.hwdb_replace.specs.Memory.{seen_of};
-ghost use Rattle.hwdb_system.specs.Internal.{IsMisnamed, IsNamedBy, IsOfName, IsPushed, bytes_after, is_told, is_told_file, made_by};
+ghost use Rattle.hwdb_system.specs.Internal.{IsMisnamed, IsOfName, bytes_after, is_told, is_told_file, made_by, name_in, names_after, step_name};
 ghost use Rattle.hwdb_spec_commands.specs.Refusals.{HasReason, IsUnlisted, IsUnread, IsUnreadAt, IsUnreadable};
-ghost use Rattle.hwdb_system.specs.Reads.{file_told, found_told, memory_reads};
+ghost use Rattle.hwdb_system.specs.Raw.{IsMisnamedAt};
+ghost use Rattle.hwdb_system.specs.Reads.{file_told, found_told, memory_reads, names_told};
 ghost use Rattle.hwdb_system.specs.Lemmas.MemoryReads.{memory_agrees};
-ghost use Rattle.hwdb_spec_commands.specs.Told.{IsReadTo};
+ghost use Rattle.hwdb_spec_commands.specs.Told.{IsListedTo, IsReadTo};
 
 use crate::files::text_of;
 use crate::folders::{Selection, selected};
@@ -40,8 +39,7 @@ fn made_by(step: &Step) -> Option<&[u8]>
 
 /// The name of a path in a folder.
 fn name_in<'a>(folder: &str, path: &'a [u8]) -> Option<&'a [u8]>
-    ensures { MatchOption result ((name : List ℕ) → path.now ≡ path_in folder.now name → ⊥)
-        (λ name. path.now ≡ path_in folder.now name.now) }
+    ensures { option_map (λ name. name.now) result ≡ name_in folder.now path.now }
 {
     match path.strip_prefix(folder.as_bytes()) {
         Some(rest) => rest.strip_prefix(b"/"),
@@ -119,6 +117,7 @@ fn is_told_file(
 }
 
 /// The name of such a file that a step puts in a folder, if it is there after all steps.
+#[tactic(auto, using(crate::proofs::MemoryLemmas::unmade, crate::proofs::MemoryLemmas::unnamed, crate::proofs::MemoryLemmas::kept_name, crate::proofs::MemoryLemmas::left_name))]
 fn named_by<'a>(
     alloc: Global,
     steps: &[Step],
@@ -126,8 +125,8 @@ fn named_by<'a>(
     step: &'a Step,
     ignored: bool,
 ) -> Result<Option<&'a [u8]>, AllocError>
-    ensures { IfOk result (λ found.
-        IsNamedBy ignored steps.now folder.now step.now (option_map (λ n. n.now) found)) }
+    ensures { IfOk result (λ found. option_map (λ n. n.now) found
+        ≡ step_name ignored steps.now folder.now step.now) }
 {
     let Some(path) = made_by(step) else {
         return Ok(None);
@@ -142,6 +141,7 @@ fn named_by<'a>(
 }
 
 /// Puts the name of the text file that a step has in a folder after the others.
+#[tactic(auto, using(crate::proofs::MemoryLemmas::put_name))]
 fn push_name(
     alloc: Global,
     steps: &[Step],
@@ -149,8 +149,13 @@ fn push_name(
     step: &Step,
     names: &mut Vec<String>,
 ) -> Result<(), Refusal>
-    ensures pushed { OnOk result (IsPushed false steps.now folder.now step.now
-        (map string_bytes names.old.items) (map string_bytes names.new.items)) }
+    ensures pushed { OnOk result (map string_bytes names.new.items
+        ≡ map string_bytes names.old.items
+        ++ option_to_list (step_name false steps.now folder.now step.now)) }
+    ensures utf8 { OnOk result (IfSome (step_name false steps.now folder.now step.now) IsUtf8) }
+    ensures misnamed { IfErr result (λ r. (r ≡ Refusal.Plain ToolError.Memory)
+        ⊎ ((name : List ℕ) × (step_name false steps.now folder.now step.now ≡ Some name)
+        × IsMisnamedAt folder.now name r)) }
     ensures refused { IfErr result (IsUnlisted folder.now) }
     ensures reason { IfErr result IsOfName }
 {
@@ -162,6 +167,7 @@ fn push_name(
 }
 
 /// Puts the name of the ignored file that a step has in a folder after the others.
+#[tactic(auto, using(crate::proofs::MemoryLemmas::put_name))]
 fn push_ignored(
     alloc: Global,
     steps: &[Step],
@@ -169,8 +175,9 @@ fn push_ignored(
     step: &Step,
     names: &mut Vec<Vec<u8>>,
 ) -> Result<(), AllocError>
-    ensures { OnOk result (IsPushed true steps.now folder.now step.now
-        (map (λ n. n.items) names.old.items) (map (λ n. n.items) names.new.items)) }
+    ensures { OnOk result (map (λ n. n.items) names.new.items
+        ≡ map (λ n. n.items) names.old.items
+        ++ option_to_list (step_name true steps.now folder.now step.now)) }
 {
     if let Some(name) = named_by(alloc, steps, folder, step, true)? {
         names.push(name.to_vec(alloc)?)?;
@@ -178,10 +185,24 @@ fn push_ignored(
     Ok(())
 }
 
-/// The names of the ignored files that are in a folder after these steps.
+/// The names of the text files that are in a folder after these steps, in their order. The first that isn't UTF-8 is an error.
+fn names_after(alloc: Global, steps: &[Step], folder: &str) -> Result<Vec<String>, Refusal>
+    ensures told { IsListedTo (λ names. map string_bytes names.items)
+        (names_told (names_after false steps.now folder.now)) folder.now result }
+    ensures refused { IfErr result (IsUnlisted folder.now) }
+    ensures reason { IfErr result IsOfName }
+{
+    let mut names = Vec::new(alloc);
+    for step in steps {
+        push_name(alloc, steps, folder, step, &mut names)?;
+    }
+    Ok(names)
+}
+
+/// The names of the ignored files that are in a folder after these steps, in their order.
 fn ignored_after(alloc: Global, steps: &[Step], folder: &str) -> Result<Vec<Vec<u8>>, AllocError>
-    ensures { IfOk result (λ names.
-        AreIgnoredIn folder.now (seen_of steps.now) (map (λ n. n.items) names.items)) }
+    ensures { IfOk result (λ names. map (λ n. n.items) names.items
+        ≡ names_after true steps.now folder.now) }
 {
     let mut names = Vec::new(alloc);
     for step in steps {
@@ -203,11 +224,7 @@ impl System for Memory {
     ghost is_regular = { λ _ _. Unit {0} };
 
     fn names(&self, alloc: Global, folder: &str) -> Result<Vec<String>, Refusal> {
-        let mut names = Vec::new(alloc);
-        for step in &self.steps {
-            push_name(alloc, &self.steps, folder, step, &mut names)?;
-        }
-        Ok(names)
+        names_after(alloc, &self.steps, folder)
     }
 
     fn folder_names(&self, alloc: Global, path: &str) -> Result<Option<Vec<String>>, Refusal> {

@@ -5,7 +5,7 @@ ghost use Rattle.hwdb_spec.specs.System.{AreNamesIn, bytes_at};
 ghost use Rattle.hwdb_spec_commands.specs.GivenFolders.{IsUnlistedFolder};
 ghost use Rattle.hwdb_spec_commands.specs.Reading.{IsFolderAt};
 ghost use Rattle.hwdb_spec_commands.specs.Refusals.{HasReason, IsUnlisted, IsUnread, IsUnreadAt, IsUnreadable};
-ghost use Rattle.hwdb_spec_commands.specs.Told.{AreReadsOf, IsReadTo, Reads};
+ghost use Rattle.hwdb_spec_commands.specs.Told.{AreReadsOf, IsListedTo, IsReadTo, Reads};
 
 use crate::identity::Identity;
 use crate::opened::OpenedFile;
@@ -25,7 +25,7 @@ pub trait System: Store {
     /// Reading what is at a path, or listing it, may fail, for whatever reason.
     ghost may_fail: { Self → List ℕ → Type 0 };
 
-    /// What each read gives.
+    /// What each read and each listing gives.
     ghost reads: { Self → Reads };
 
     /// A regular file is at the path, or the null device: no folder, pipe, socket or other device. A link is followed.
@@ -34,6 +34,8 @@ pub trait System: Store {
     /// The names of a folder's text files, in no order; none if the folder isn't there. Other entries of the
     /// folder never matter. A text file's name that isn't UTF-8 is an error, too.
     fn names(&self, alloc: Global, folder: &str) -> Result<Vec<String>, Refusal>
+        ensures told { Self.tells → IsListedTo (λ names. map string_bytes names.items)
+            ((reads self.now).names folder.now) folder.now result }
         ensures names { Self.tells → IfOk result
             (λ names. AreNamesIn folder.now (Self.seen self.now) (map string_bytes names.items)) }
         ensures refused { IfErr result (IsUnlisted folder.now) }
@@ -43,6 +45,9 @@ pub trait System: Store {
     /// The names of the text files of the folder at a path, in no order; None if no folder is there. A folder that can't be
     /// listed is an error.
     fn folder_names(&self, alloc: Global, path: &str) -> Result<Option<Vec<String>>, Refusal>
+        ensures told { Self.tells → IsListedTo
+            (λ found. option_map (λ names. map string_bytes names.items) found)
+            ((reads self.now).folder path.now) path.now result }
         ensures names { Self.tells → IfOk result (λ found. IsFolderAt path.now (Self.seen self.now)
             (option_map (λ names. map string_bytes names.items) found)) }
         ensures refused { IfErr result (IsUnlisted path.now) }

@@ -2,6 +2,7 @@
 ghost use Rattle.std.specs.Prelude.{◌≡◌, map, IfErr, IfOk};
 ghost use Rattle.hwdb_spec_commands.specs.Ignored.{AreIgnoredIn, text_folder};
 ghost use Rattle.hwdb_spec_commands.specs.Refusals.{HasReason, IsUnlisted};
+ghost use Rattle.hwdb_spec_commands.specs.Told.{IsReadTo};
 
 use crate::system::System;
 use hwdb_spec_commands::Refusal;
@@ -12,6 +13,9 @@ pub trait TextFolders: System {
     /// The names of the ignored files in the folder of /usr/lib or of /etc, in no order; none if the folder isn't there. A
     /// folder that can't be listed is an error.
     fn ignored_names(&self, alloc: Global, root: &str, usr: bool) -> Result<Vec<Vec<u8>>, Refusal>
+        ensures told { Self.tells → IsReadTo (λ names. map (λ n. n.items) names.items)
+            ((Self.System.reads self.now).ignored (text_folder usr root.now))
+            (text_folder usr root.now) result }
         ensures names { Self.tells → IfOk result
             (λ names. AreIgnoredIn (text_folder usr root.now) (Self.seen self.now)
             (map (λ n. n.items) names.items)) }

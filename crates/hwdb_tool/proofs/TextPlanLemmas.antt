@@ -31,6 +31,9 @@ module _ (root made : List ℕ) (w : Reads) (within : length made ≤ max_file) 
     input = ap (λ (r : Result (List ℕ) Unread). if Is path then r else w.input path) (told made within);
     text = ap (λ (r : Result (List ℕ) Unread). if Is path then r else w.text path) (told made within);
     database = ap (λ (r : Result (List ℕ) Unread). if Is path then present r else w.database path) (told made within);
+    names = refl;
+    folder = refl;
+    ignored = refl;
   }
 
   pub text_ends : OnlyAskedMatters → OverIsOver → (p : Plan) (e : End) → Ends (with_read root made w) p e → Ends w (over Is made p) e

@@ -1,16 +1,20 @@
 -- What is told of a file system with another database in its place.
-use Rattle.std.specs.Prelude.{◌≡◌, ◌≤◌, ◌<◌, ℕ, Bool, true, false, List, Option, Some, Result, Ok, Err, IfSome, is_some, length, nat_le, if◌then◌else◌, option_map}
+use Rattle.std.specs.Prelude.{◌≡◌, ◌≤◌, ◌<◌, ℕ, Bool, true, false, List, None, Option, Some, Result, Ok, Err, IfSome, is_some, length, nat_le, if◌then◌else◌, option_map}
 use Rattle.std.proofs.Common.{◌∙◌, ap, inl, inr, refl, sym, subst}
 use Rattle.std.specs.Str.{bytes_eq}
 use Rattle.hwdb_spec_commands.specs.Asked.{database_path}
+use Rattle.hwdb_spec_commands.specs.Ignored.{text_folder}
+use Rattle.hwdb_spec_commands.specs.Reading.{IsFolderAt}
 use Rattle.hwdb_spec_commands.specs.OverText.{with_database}
 use Rattle.hwdb_spec_commands.specs.Refusals.{IsUnreadable}
 use Rattle.hwdb_spec.specs.Store.{Contents, Stored, database_file}
 use Rattle.hwdb_spec.specs.System.{bytes_at}
 use Rattle.hwdb_spec.specs.Texts.{max_file}
 use Rattle.hwdb_system.specs.Lemmas.MemoryReads.{above_err, present_err, present_ok, within_ok}
+use Rattle.hwdb_system.specs.Lemmas.OverNames.{folder_over, ignored_over, is_database, names_over, same_at, shown, text_folder_apart, there_at}
 use Rattle.hwdb_system.specs.Raw.{present, told_bytes}
-use Rattle.hwdb_spec_commands.specs.Told.{AreReadsOf, IsSo, IsUnreadAs, Reads}
+use Rattle.hwdb_spec_commands.specs.Told.{AreReadsOf, IsSo, IsSoOfFolder, IsSoOfTexts, IsUnreadAs, Reads, Unlisted}
+use Rattle.hwdb_spec_commands.specs.Told.Unlisted.{Misnamed, Unopened}
 use Rattle.hwdb_system.specs.Reads.{with_read}
 use Rattle.hwdb_spec_commands.specs.declared.refusals.Refusal.{Refusal}
 use Rattle.hwdb_spec_commands.specs.declared.unread.Unread.{Unread}
@@ -65,6 +69,33 @@ module _ (root made : List ℕ) (w : Reads) (seen : Contents) (fails : List ℕ 
   found_err told true u at below is = long (fails path) u at (present_err made u (nat_le (length made) max_file) refl is)
   found_err told false u at below is = same_so (fails path) (fails path) u (λ x. x) at (below is)
 
+-- ---- names
+module _ (root made : List ℕ) (w : Reads) (seen : Contents) (fails : List ℕ → Type 0) (agree : AreReadsOf w seen fails) where
+  texts_so : (usr : Bool) (below : List ℕ) (u : Unlisted) → IsSoOfTexts seen fails usr below u → IsSoOfTexts (shown root made seen) fails usr below u
+  texts_so usr below (Unopened unread.TooLong) long =
+      subst (λ (o : Option (List ℕ)). IfSome o (λ bytes. max_file < length bytes)) (sym (same_at root made seen (text_folder usr below) (text_folder_apart root made seen usr below))) long
+  texts_so usr below (Unopened (unread.Failed cause)) may = may
+  texts_so usr below (Unopened unread.Memory) so = tt
+  texts_so usr below (Misnamed name) may = may
+
+  folder_so : (path : List ℕ) (u : Unlisted) → is_database root made seen path ≡ false → IsSoOfFolder (bytes_at seen path ≡ None) fails path u → IsSoOfFolder (bytes_at (shown root made seen) path ≡ None) fails path u
+  folder_so path (Unopened unread.TooLong) other none = same_at root made seen path other ∙ none
+  folder_so path (Unopened (unread.Failed cause)) other may = may
+  folder_so path (Unopened unread.Memory) other so = tt
+  folder_so path (Misnamed name) other may = may
+
+  folder_ok : (path : List ℕ) (b : Bool) (found : Option (List (List ℕ))) → is_database root made seen path ≡ b → (if b then Ok None else w.folder path) ≡ Ok found
+      → IsFolderAt path (shown root made seen) found
+  folder_ok path true found here is =
+      let same : None ≡ found = cc in
+      subst (IsFolderAt path (shown root made seen)) same (ap is_some (there_at root made seen path here))
+  folder_ok path false found other is = folder_over root made seen path found other (agree.folder path found is)
+
+  folder_err : (path : List ℕ) (b : Bool) (u : Unlisted) → is_database root made seen path ≡ b → (if b then Ok None else w.folder path) ≡ Err u
+      → IsSoOfFolder (bytes_at (shown root made seen) path ≡ None) fails path u
+  folder_err path true u here is = absurd (cc)
+  folder_err path false u other is = folder_so path u other (agree.no_folder path u is)
+
 -- what is told over it is what is there
 pub read_over : (root made : List ℕ) (w : Reads) (seen : Contents) (fails : List ℕ → Type 0) → AreReadsOf w seen fails → AreReadsOf (with_read root made w) (λ p. with_database root made seen p) (λ p. fails p)
 read_over root made w seen fails agree = record {
@@ -74,6 +105,12 @@ read_over root made w seen fails agree = record {
   no_text = λ path u is. given_err root made w seen fails agree path (w.text path) (bytes_eq path (database_path false root)) u (is_here root made w seen fails agree path) (agree.no_text path u) is;
   database = λ path found is. found_ok root made w seen fails agree path (w.database path) (bytes_eq path (database_path false root)) found (is_here root made w seen fails agree path) (agree.database path found) is;
   no_database = λ path u is. found_err root made w seen fails agree path (w.database path) (bytes_eq path (database_path false root)) u (is_here root made w seen fails agree path) (agree.no_database path u) is;
+  names = λ folder names is. names_over root made seen folder names (agree.names folder names is);
+  no_names = λ usr below u is. texts_so root made w seen fails agree usr below u (agree.no_names usr below u is);
+  folder = λ path found is. folder_ok root made w seen fails agree path (is_database root made seen path) found refl is;
+  no_folder = λ path u is. folder_err root made w seen fails agree path (is_database root made seen path) u refl is;
+  ignored = λ usr below names is. ignored_over root made seen usr below names (agree.ignored usr below names is);
+  no_ignored = λ usr below u is. texts_so root made w seen fails agree usr below (Unopened u) (agree.no_ignored usr below u is);
 }
 
 -- an error of what was to be there

@@ -1,12 +1,7 @@
-use Rattle.std.proofs.Common.{List, ℕ, map, take, true, All}
-use Rattle.std.specs.Prelude.{Contains}
-use Rattle.hwdb_spec.specs.Store.{path_in}
-use Rattle.hwdb_replace.specs.Memory.{seen_of}
-use Rattle.hwdb_system.specs.Internal.{IsMade, IsToldIn}
+use Rattle.std.proofs.Common.{◌≡◌, map, take, true}
+use Rattle.std.specs.Prelude.{filter_map}
+use Rattle.hwdb_system.specs.Internal.{step_name}
 use Rattle.hwdb_system.proofs.memory.ignored_after.Given as goal
 
 abbrev pub invariant-loop-step : goal.invariant-loop-step
-invariant-loop-step l = record {
-  each : All (IsToldIn true l.folder (seen_of l.steps)) (map (λ n. n.items) l.names.items);
-  all : (name : List ℕ) → IsToldIn true l.folder (seen_of l.steps) name → IsMade (take l.step-index l.steps) (path_in l.folder name) → Contains (map (λ n. n.items) l.names.items) name;
-}
+invariant-loop-step l = map (λ n. n.items) l.names.items ≡ filter_map (step_name true l.steps l.folder) (take l.step-index l.steps)

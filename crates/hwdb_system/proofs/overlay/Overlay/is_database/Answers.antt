@@ -1,5 +1,5 @@
 use Rattle.std.proofs.Common.{List, ap, sym, ℕ, ◌++◌, ◌∙◌}
-use Rattle.hwdb_system.proofs.OverlayLemmas.{rest_is, rest_is_none}
+use Rattle.hwdb_system.specs.Lemmas.OverNames.{rest_is, rest_is_none}
 use Rattle.hwdb_system.proofs.overlay.Overlay.is_database.Goals as goal
 
 pub returns-in-Some : goal.returns-in-Some

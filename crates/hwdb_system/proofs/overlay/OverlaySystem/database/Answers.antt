@@ -4,7 +4,8 @@ use Rattle.hwdb_system.specs.Raw.{present, told_bytes}
 use Rattle.hwdb_spec_commands.specs.Told.{IsReadTo, IsUnreadAs}
 use Rattle.std.specs.Prelude.{Some}
 use Rattle.hwdb_spec.specs.Lemmas.Calls.{each_error, each_value}
-use Rattle.hwdb_system.proofs.OverlayLemmas.{both_errors, copied_plain, copied_reason, copied_unread, looking_reason, same_at, there_at, unread_over}
+use Rattle.hwdb_system.proofs.OverlayLemmas.{both_errors, copied_plain, copied_reason, copied_unread, looking_reason, unread_over}
+use Rattle.hwdb_system.specs.Lemmas.OverNames.{same_at, there_at}
 use Rattle.hwdb_system.proofs.overlay.OverlaySystem.database.Goals as goal
 
 pub returns-in-Ok-clause-bytes : goal.returns-in-Ok-clause-bytes

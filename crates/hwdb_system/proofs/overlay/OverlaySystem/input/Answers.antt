@@ -4,7 +4,8 @@ use Rattle.hwdb_spec_commands.specs.Told.{IsReadTo}
 use Rattle.std.specs.Prelude.{Some}
 use Rattle.hwdb_spec_commands.specs.Refusals.{IsUnreadable}
 use Rattle.hwdb_spec.specs.Lemmas.Calls.{each_error, each_value}
-use Rattle.hwdb_system.proofs.OverlayLemmas.{both_errors, copied_plain, copied_reason, copied_unread, reading_reason, same_at, shown, there_at, unread_over}
+use Rattle.hwdb_system.proofs.OverlayLemmas.{both_errors, copied_plain, copied_reason, copied_unread, reading_reason, unread_over}
+use Rattle.hwdb_system.specs.Lemmas.OverNames.{same_at, shown, there_at}
 use Rattle.hwdb_system.proofs.overlay.OverlaySystem.input.Goals as goal
 
 pub returns-then-is_database-clause-bytes : goal.returns-then-is_database-clause-bytes

@@ -2,7 +2,7 @@ use Rattle.std.proofs.Common.{◌≡◌, ◌∙◌, ap, false, if◌then◌else�
 use Rattle.std.specs.Prelude.{is_some}
 use Rattle.hwdb_spec.specs.Lemmas.Calls.{each_value}
 use Rattle.hwdb_system.specs.Raw.{present, told_bytes}
-use Rattle.hwdb_system.proofs.OverlayLemmas.{same_at, there_at}
+use Rattle.hwdb_system.specs.Lemmas.OverNames.{same_at, there_at}
 use Rattle.hwdb_system.proofs.overlay.OverlaySystem.is_there.Goals as goal
 
 pub returns-then-is_database-clause-there : goal.returns-then-is_database-clause-there

@@ -1,7 +1,8 @@
 use Rattle.std.proofs.Common.{map}
 use Rattle.hwdb_spec_commands.specs.Ignored.{text_folder}
 use Rattle.hwdb_spec.specs.Lemmas.Calls.{each_value}
-use Rattle.hwdb_system.proofs.OverlayLemmas.{both_errors, ignored_over, listing_reason, text_folder_apart}
+use Rattle.hwdb_system.proofs.OverlayLemmas.{both_errors, listing_reason}
+use Rattle.hwdb_system.specs.Lemmas.OverNames.{ignored_over, text_folder_apart}
 use Rattle.hwdb_system.proofs.overlay.OverlayTextFolders.ignored_names.Goals as goal
 
 pub returns-clause-names : goal.returns-clause-names
