@@ -5,6 +5,7 @@ pub mod NameLemmas
 pub mod ReasonLemmas
 pub mod RootLemmas
 pub mod SelectionLemmas
+pub mod SelectionPlanLemmas
 pub mod FirstLemmas
 pub mod RawLemmas
 pub mod EntryLemmas

@@ -5,4 +5,5 @@ pub mod Laws
 pub mod Raw
 pub mod ReadLaws
 pub mod Reads
+pub mod Selections
 pub mod Lemmas

@@ -1,5 +1,5 @@
 //! The text files of both folders, chosen and read.
-ghost use Rattle.std.specs.Prelude.{◌≡◌, ◌≢◌, ◌≤◌, ◌⊎◌, ◌++◌, Some, All, map, string_bytes, IfOk, IfErr, length, vec_len};
+ghost use Rattle.std.specs.Prelude.{◌≡◌, ◌≢◌, ◌≤◌, ◌⊎◌, ◌++◌, [], Some, All, map, string_bytes, IfOk, IfErr, length, vec_len};
 ghost use Rattle.hwdb_spec.specs.Folders.{path_of};
 ghost use Rattle.hwdb_spec.specs.System.{AreNamesIn, bytes_at};
 ghost use Rattle.hwdb_spec.specs.Texts.{max_file};
@@ -9,7 +9,11 @@ ghost use Rattle.hwdb_spec.specs.Store.{Contents};
 ghost use Rattle.hwdb_spec.specs.Selected.{AreNamed, AreSelected, AreTexts};
 ghost use Rattle.hwdb_spec_commands.specs.Refusals.{HasReason, IsUnlisted, IsUnread, IsUnreadable};
 ghost use Rattle.hwdb_spec_commands.specs.Reading.{AreUnread, IsChosenUnread, IsFirstUnread};
+ghost use Rattle.hwdb_spec_commands.specs.Told.{IsListedTo, IsReadTo};
 ghost use Rattle.hwdb_spec_commands.specs.declared.refusals.Refusal.TheVariants.{Plain};
+ghost use Rattle.hwdb_plan.specs.Folders.{paths_of, read_texts, texts_of_folders, texts_of_names};
+ghost use Rattle.hwdb_plan.specs.Plans.{ReachesValue};
+ghost use Rattle.hwdb_system.specs.Selections.{texts_in};
 
 use crate::files::joined;
 use crate::system::System;
@@ -32,6 +36,8 @@ pub struct Selection {
 
 /// Chooses among the text files of both folders below the root, and reads the chosen ones: a masked one isn't read.
 pub fn selected<D: System>(alloc: Global, root: &str, system: &D) -> Result<Selection, Refusal>
+    ensures told { D.Store.tells → ReachesValue texts_in (D.System.reads system.now)
+        (texts_of_folders root.now) result }
     ensures count { IfOk result (λ s. length s.texts.items ≡ length s.chosen.items) }
     ensures storable { IfOk result (λ s. All IsStorableChoice (map choice_of s.chosen.items)) }
     ensures selected { D.Store.tells → IfOk result
@@ -55,6 +61,8 @@ pub fn selected_of<D: System>(
     usr: Vec<String>,
     system: &D,
 ) -> Result<Selection, Refusal>
+    ensures told { D.Store.tells → ReachesValue texts_in (D.System.reads system.now)
+        (texts_of_names root.now (map string_bytes etc.now) (map string_bytes usr.items)) result }
     ensures count { IfOk result (λ s. length s.texts.items ≡ length s.chosen.items) }
     ensures storable { IfOk result (λ s. All IsStorableChoice (map choice_of s.chosen.items)) }
     ensures selected { (files : Contents)
@@ -89,6 +97,9 @@ pub fn listed<D: System>(
     folder: &str,
     system: &D,
 ) -> Result<Vec<String>, Refusal>
+    ensures told { D.Store.tells → IsListedTo (λ names. map string_bytes names.items)
+        ((D.System.reads system.now).names (root.now ++ folder.now)) (root.now ++ folder.now)
+        result }
     ensures names { D.Store.tells → IfOk result (λ names. AreNamesIn (root.now ++ folder.now)
         (D.Store.seen system.now) (map string_bytes names.items)) }
     ensures refused { IfErr result (IsUnlisted (root.now ++ folder.now)) }
@@ -107,6 +118,9 @@ pub fn read_file<D: System>(
     file: &Chosen,
     system: &D,
 ) -> Result<Vec<u8>, Refusal>
+    ensures told { D.Store.tells → IsReadTo (λ v. v.items)
+        ((D.System.reads system.now).text (root.now ++ path_of (choice_of file.now)))
+        (root.now ++ path_of (choice_of file.now)) result }
     ensures read { D.Store.tells → IfOk result (λ bytes. bytes_at (D.Store.seen system.now)
         (root.now ++ path_of (choice_of file.now)) ≡ Some bytes.items) }
     ensures within { IfOk result (λ bytes. vec_len bytes ≤ max_file) }
@@ -122,12 +136,16 @@ pub fn read_file<D: System>(
 }
 
 /// What the chosen files hold, in their order.
+#[tactic(auto, using(crate::proofs::SelectionPlanLemmas::none_reached))]
 fn read_chosen<D: System>(
     alloc: Global,
     root: &str,
     chosen: &[Chosen],
     system: &D,
 ) -> Result<Vec<Vec<u8>>, Refusal>
+    ensures told { D.Store.tells → ReachesValue (λ texts. map (λ t. t.items) texts.items)
+        (D.System.reads system.now)
+        (read_texts (paths_of root.now (map choice_of chosen.now)) []) result }
     ensures count { IfOk result (λ texts. length texts.items ≡ length chosen.now) }
     ensures read { D.Store.tells → IfOk result (λ texts. AreTexts root.now (D.Store.seen system.now)
         (map choice_of chosen.now) (map (λ t. t.items) texts.items)) }
