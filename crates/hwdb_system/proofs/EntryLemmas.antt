@@ -1,5 +1,5 @@
 -- A listing, name by name.
-use Rattle.std.proofs.Common.{◌≡◌, ◌<◌, ◌≤◌, ◌+◌, ℕ, suc, Bool, true, false, List, [], ◌∷◌, ◌++◌, take, drop, length, filter, Contains, refl, sym, ap, ◌∙◌, subst, arith, append_assoc, append-nil, ◌-◌}
+use Rattle.std.proofs.Common.{◌≡◌, ◌<◌, ◌≤◌, ◌+◌, ℕ, suc, Bool, true, false, List, [], ◌∷◌, ◌++◌, take, drop, length, filter, Contains, refl, sym, ap, ◌∙◌, subst, arith, append_assoc, append-nil}
 use Rattle.std.specs.List.{position_or_len}
 use Rattle.hwdb_spec.specs.Lines.{is, pieces}
 use Rattle.hwdb_system.specs.Raw.{entries}

@@ -1,6 +1,6 @@
 -- The names that a store in memory tells of a folder, one step after the other.
-use Rattle.std.proofs.Common.{◌≡◌, ◌≢◌, ◌∙◌, ◌⊎◌, ◌<◌, inl, inr, ap, sym, refl, subst, true, false, length, map, take, drop, get_or, List, ℕ, [], ◌∷◌, ◌++◌, Option, Some, None, Result, Ok, Err, IfOk, if◌then◌else◌, Bool, suc}
-use Rattle.std.specs.Prelude.{IsUtf8, cond, filter_map, find, is_some, not, option_and_then, option_map, option_to_list, MatchOption, IfSome}
+use Rattle.std.proofs.Common.{◌≡◌, ◌≢◌, ◌∙◌, ◌⊎◌, ◌<◌, inl, inr, ap, sym, refl, subst, true, false, length, take, drop, get_or, List, ℕ, [], ◌∷◌, ◌++◌, Option, Some, None, Result, Ok, Err, IfOk, if◌then◌else◌, Bool, suc}
+use Rattle.std.specs.Prelude.{IsUtf8, cond, filter_map, is_some, not, option_and_then, option_map, option_to_list, MatchOption, IfSome}
 use Rattle.std.specs.Borrow.{Bor}
 use Rattle.std.specs.Result.{IsErrAnd}
 use Rattle.std.specs.Str.{is_utf8}
@@ -19,11 +19,11 @@ use Rattle.hwdb_spec_commands.specs.declared.refusals.Refusal.{Refusal}
 use Rattle.hwdb_spec_commands.specs.declared.refusals.Refusal.TheVariants as refusal
 use Rattle.hwdb_replace.specs.Memory.{seen_of}
 use Rattle.hwdb_replace.specs.declared.memory.Step.{Step}
-use Rattle.hwdb_system.specs.Internal.{bytes_after, is_told_file, made_by, name_in, names_after, step_name}
+use Rattle.hwdb_system.specs.Internal.{is_told_file, made_by, name_in, names_after, step_name}
 use Rattle.hwdb_system.specs.Lemmas.MemoryNames.{ignored_are, named_in, none_named_in}
 use Rattle.hwdb_system.specs.Lemmas.MemoryReads.{memory_agrees}
 use Rattle.hwdb_system.specs.Raw.{IsMisnamedAt, present}
-use Rattle.hwdb_system.specs.Reads.{first_misnamed, memory_reads, names_told, unless_misnamed}
+use Rattle.hwdb_system.specs.Reads.{first_misnamed, names_told, unless_misnamed}
 
 -- ---- one step
 -- the name after a folder and a slash

@@ -10,7 +10,6 @@ use Rattle.std.proofs.lemmas.Bool.{cond_both}
 use Rattle.std.proofs.lemmas.List.Folds.{list_any-append}
 use Rattle.hwdb_spec.specs.Folders.{lists, same}
 use Rattle.hwdb_system.specs.Internal.{IsNameSet}
-use Rattle.hwdb_spec.specs.Lemmas.Orders.{equal_of}
 use Rattle.hwdb_spec.specs.Lemmas.Truth.{or_one_more}
 use Rattle.hwdb_spec.specs.Lemmas.Lists.{mapped_more}
 

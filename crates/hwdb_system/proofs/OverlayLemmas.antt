@@ -1,5 +1,5 @@
 -- Errors over a file system with another database in its place.
-use Rattle.std.proofs.Common.{◌≡◌, ◌∙◌, ◌⊎◌, ◌<◌, inl, inr, ap, sym, subst, true, false, Result, Ok, Err, IfErr, IfOk, List, ℕ, Bool, Option, Some, None, IfSome}
+use Rattle.std.proofs.Common.{◌≡◌, ◌∙◌, ◌⊎◌, ◌<◌, inl, inr, ap, sym, subst, true, false, Result, Ok, Err, IfErr, IfOk, List, ℕ, Option, IfSome}
 use Rattle.std.specs.Prelude.{is_some, length}
 use Rattle.hwdb_spec_commands.specs.GivenFolders.{IsUnlistedFolder}
 use Rattle.hwdb_spec.specs.Store.{Contents}

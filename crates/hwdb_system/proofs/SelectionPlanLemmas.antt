@@ -1,9 +1,9 @@
 -- The files of both folders, as they are chosen and read, follow the front of a plan.
-use Rattle.std.proofs.Common.{◌≡◌, ◌∙◌, ◌⊎◌, ◌≤◌, ◌<◌, ◌+◌, ◌++◌, ◌∷◌, inl, inr, ap, sym, subst, refl, get_or, drop, length, map, List, [], Result, Ok, Err, ℕ}
+use Rattle.std.proofs.Common.{◌≡◌, ◌∙◌, ◌⊎◌, ◌≤◌, ◌<◌, ◌+◌, ◌++◌, ◌∷◌, inl, inr, ap, sym, subst, refl, get_or, drop, length, map, List, [], Result, Ok, ℕ}
 use Rattle.std.proofs.lemmas.List.{drop_all, drop_more}
 use Rattle.std.specs.Result.{IsErrAnd}
 use Rattle.hwdb_spec.specs.Errors.{refusal_of_select}
-use Rattle.hwdb_spec.specs.Folders.{Choice, max_files, names, path_of}
+use Rattle.hwdb_spec.specs.Folders.{max_files, names, path_of}
 use Rattle.hwdb_spec.specs.declared.errors.SelectError.{SelectError}
 use Rattle.hwdb_spec.specs.declared.errors.SelectError.TheVariants as select
 use Rattle.hwdb_spec.specs.declared.errors.ToolError.TheVariants.{Memory, TooManyFiles}

@@ -1,5 +1,5 @@
 -- A run does what its plan ends in.
-use Rattle.std.proofs.Common.{◌≡◌, ◌∙◌, ◌⊎◌, inl, inr, ap, sym, subst, Bool, List, None, Option, Some, Result, Ok, Err, IfSome, MatchResult, ℕ, refl}
+use Rattle.std.proofs.Common.{◌≡◌, ◌∙◌, ◌⊎◌, inl, inr, ap, sym, subst, Bool, List, None, Option, Some, Result, Ok, Err, MatchResult, ℕ, refl}
 use Rattle.std.specs.Io.KnownBytes.{Appends}
 use Rattle.std.specs.Result.{IsErrAnd}
 use Rattle.hwdb_spec.specs.CompileErrors.{IsRefusal}

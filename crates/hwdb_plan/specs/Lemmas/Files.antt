@@ -1,5 +1,5 @@
 -- Steps of functions that read files.
-use Rattle.std.proofs.Common.{◌≡◌, ◌∙◌, ◌⊎◌, ◌++◌, ◌∷◌, inl, inr, ap, sym, subst, refl, Bool, true, false, List, [], None, Some, Result, Ok, Err, ℕ, map}
+use Rattle.std.proofs.Common.{◌≡◌, ◌∙◌, ◌⊎◌, ◌++◌, ◌∷◌, inl, inr, ap, sym, subst, refl, Bool, true, false, List, [], Result, Ok, Err, ℕ, map}
 use Rattle.std.proofs.lemmas.List.{map-append}
 use Rattle.std.specs.Prelude.{codes, if◌then◌else◌}
 use Rattle.std.specs.Result.{IsErrAnd}
@@ -12,7 +12,6 @@ use Rattle.hwdb_spec_commands.specs.declared.refusals.Refusal.TheVariants as ref
 use Rattle.hwdb_spec_commands.specs.declared.unread.Unread.{Unread}
 use Rattle.hwdb_plan.specs.Asking.{if_read}
 use Rattle.hwdb_plan.specs.Files.{AreFiles, IsInputText, ReachesFiles, ask_file, file_told, given_files, if_input, is_word, read_files, source_at}
-use Rattle.hwdb_plan.specs.Lemmas.Steps.{input_told, input_untold}
 use Rattle.hwdb_plan.specs.Plans.{End, Ends, Follows, Next, Plan}
 use Rattle.hwdb_plan.specs.Plans.End.{Stops}
 

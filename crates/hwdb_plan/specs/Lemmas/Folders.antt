@@ -1,5 +1,5 @@
 -- Steps of functions that list folders and read what is chosen of them.
-use Rattle.std.proofs.Common.{◌≡◌, ◌≤◌, ◌<◌, ◌∙◌, ◌⊎◌, ◌++◌, ◌∷◌, arith, inl, inr, ap, sym, subst, refl, Bool, true, false, List, [], Option, Result, Ok, Err, ℕ, length}
+use Rattle.std.proofs.Common.{◌≡◌, ◌≤◌, ◌<◌, ◌∙◌, ◌⊎◌, ◌++◌, ◌∷◌, arith, inl, inr, ap, sym, subst, Bool, true, false, List, [], Option, Result, Ok, Err, ℕ, length}
 use Rattle.std.specs.Prelude.{if◌then◌else◌, nat_le}
 use Rattle.std.specs.Result.{IsErrAnd}
 use Rattle.std.proofs.lemmas.Bool.Decides.{nat_tests}

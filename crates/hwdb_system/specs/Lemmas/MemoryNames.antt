@@ -1,14 +1,12 @@
 -- The names that a store in memory tells of a folder are those of the files in it.
-use Rattle.std.proofs.Common.{arith, ◌≡◌, ◌∙◌, ◌⊎◌, ◌||◌, ◌+◌, inl, inr, ap, sym, refl, subst, bytes_eq, true, false, length, List, ℕ, [], ◌∷◌, ◌++◌, Option, Some, None, Result, Ok, Err, if◌then◌else◌, All, Bool}
-use Rattle.std.specs.Prelude.{IsUtf8, is_some, option_and_then, option_map, option_to_list, not, drop, filter_map, Contains, IfSome}
+use Rattle.std.proofs.Common.{arith, ◌≡◌, ◌∙◌, ◌⊎◌, ◌||◌, ◌+◌, inl, inr, ap, sym, refl, subst, bytes_eq, true, false, length, List, ℕ, [], ◌∷◌, ◌++◌, Option, Some, None, if◌then◌else◌, All, Bool}
+use Rattle.std.specs.Prelude.{is_some, option_and_then, option_map, option_to_list, not, drop, filter_map, Contains}
 use Rattle.std.specs.List.{cons_option}
-use Rattle.std.specs.Str.{is_utf8}
-use Rattle.std.proofs.lemmas.Str.{IsUtf8-from_is_utf8, is_utf8-from_IsUtf8}
-use Rattle.std.proofs.lemmas.List.Elements.{All-append, All-push, All-weaker, Contains-append_left, Contains-append_right, Contains-push, filter_map-append}
+use Rattle.std.proofs.lemmas.List.Elements.{All-append, All-push, All-weaker, Contains-append_left, Contains-append_right, Contains-push}
 use Rattle.std.proofs.lemmas.Slice.Eq.{bytes_eq-Decides}
 use Rattle.std.proofs.Math.Seq.{drop-append-add}
 use Rattle.hwdb_spec.specs.Lines.{has}
-use Rattle.hwdb_spec.specs.Store.{Contents, path_in, Stored}
+use Rattle.hwdb_spec.specs.Store.{path_in, Stored}
 use Rattle.hwdb_spec_commands.specs.Ignored.{AreIgnoredIn, IsIgnoredIn}
 use Rattle.hwdb_spec.specs.System.{AreNamesIn, IsNameIn}
 use Rattle.hwdb_spec.specs.Crashes.{Traces, begin, changed}

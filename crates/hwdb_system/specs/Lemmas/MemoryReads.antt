@@ -5,7 +5,7 @@ use Rattle.std.specs.Prelude.{IsUtf8, cond, not, pos, is_some, nat_le, if◌then
 use Rattle.std.specs.Str.{is_utf8}
 use Rattle.std.proofs.lemmas.Str.{is_utf8-from_IsUtf8}
 use Rattle.std.proofs.lemmas.Bool.Decides.{nat_tests}
-use Rattle.hwdb_spec.specs.Store.{Contents, path_in}
+use Rattle.hwdb_spec.specs.Store.{Contents}
 use Rattle.hwdb_spec_commands.specs.Ignored.{AreIgnoredIn, text_folder}
 use Rattle.hwdb_spec_commands.specs.Reading.{IsFolderAt}
 use Rattle.hwdb_spec.specs.System.{AreNamesIn, bytes_at}

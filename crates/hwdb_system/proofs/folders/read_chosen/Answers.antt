@@ -9,7 +9,7 @@ use Rattle.hwdb_spec_commands.specs.Reading.{IsChosenUnread, IsFirstUnread, IsTe
 use Rattle.hwdb_spec_commands.specs.declared.refusals.Refusal.TheVariants.{Plain}
 use Rattle.hwdb_spec.specs.declared.errors.ToolError.TheVariants.{Memory}
 use Rattle.hwdb_system.proofs.SelectionLemmas.{chosen_unread, first_unread, texts_more}
-use Rattle.hwdb_system.proofs.SelectionPlanLemmas.{none_reached, reached_all, reached_more, reached_stops}
+use Rattle.hwdb_system.proofs.SelectionPlanLemmas.{reached_all, reached_more, reached_stops}
 use Rattle.hwdb_system.proofs.folders.read_chosen.Goals as goal
 use Rattle.hwdb_spec.specs.Lemmas.Calls.{given_error}
 

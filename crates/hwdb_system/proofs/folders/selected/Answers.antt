@@ -1,4 +1,4 @@
-use Rattle.std.proofs.Common.{List, ℕ, map, string_bytes, subst, sym, Err, Global, Ok, String, Vec}
+use Rattle.std.proofs.Common.{List, ℕ, map, string_bytes, subst, Err, Global, Ok, String, Vec}
 use Rattle.hwdb_spec.specs.System.{etc_files, usr_files}
 use Rattle.hwdb_plan.specs.Folders.{Texts, names_of, texts_of_names}
 use Rattle.hwdb_plan.specs.Lemmas.Folders.{names_asked, value_stops, value_then}

@@ -1,4 +1,4 @@
-use Rattle.std.proofs.Common.{◌≡◌, [], List, ℕ, map, rules, sym}
+use Rattle.std.proofs.Common.{◌≡◌, [], map, rules, sym}
 use Rattle.hwdb_spec_commands.specs.Ignored.{is_ignored}
 use Rattle.hwdb_system.proofs.EntryLemmas.{all_taken}
 use Rattle.hwdb_system.proofs.ignored.ignored_of.Goals as goal
