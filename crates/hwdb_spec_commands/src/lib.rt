@@ -59,8 +59,8 @@
 //! | `CheckErrors` | the same of checking text files |
 //! | `AnsweredLines` | which lines of standard input are answered, and what was printed before an error |
 //! | `Refusals` | the errors that end the program, and the line of each |
-//! | `Told` | what a file system tells of what it is asked, and why a run ends with an error, as data |
 //! | `Reading` | the errors of reading the text files of two folders |
+//! | `Told` | what a file system tells of what it is asked, and why a run ends with an error, as data |
 //! | `LeftOutTold` | what is said of text files that are left out |
 //! | `SysfsAnswers` | what a file system answers of devices, and what is made of that |
 //! | `Streams` | what the devices of standard input get, and when each error comes |
