@@ -1,7 +1,8 @@
 -- The laws.
-use Rattle.std.proofs.Common.{◌≡◌, ◌∙◌, ◌⊎◌, ◌||◌, ◌+◌, ◌++◌, ◌-◌, ◌<◌, ◌≤◌, ◌==◌, ap, sym, refl, subst, ◌↔◌, inl, inr, arith, append_assoc, eqb-true, ℕ, zero, suc, Bool, true, false, List, [], ◌∷◌, length, get_or}
+use Rattle.std.proofs.Common.{◌≡◌, ◌∙◌, ◌⊎◌, ◌||◌, ◌+◌, ◌++◌, ◌-◌, ◌<◌, ◌≤◌, ◌==◌, ap, sym, refl, subst, ◌↔◌, inl, inr, arith, append_assoc, eqb-true, ℕ, zero, suc, Bool, true, false, List, [], ◌∷◌, length, get_or, None, Option, Some}
 use Rattle.std.specs.Prelude.{Contains, flat_map, nat_lt, if◌then◌else◌}
 use Rattle.std.specs.List.{list_any}
+use Rattle.std.specs.Option.{option_and_then}
 use Rattle.std.specs.Ordering.{is_eq}
 use Rattle.std.proofs.lemmas.Bool.{le-ltb}
 use Rattle.std.proofs.lemmas.Cmp.{nat_list_cmp_total, tied_itself}
@@ -9,7 +10,8 @@ use Rattle.hwdb_spec.specs.Folders.{same}
 use Rattle.hwdb_spec.specs.Forms.{CanMatch, Form, all_bytes_from, can_match, is_unknown, judged}
 use Rattle.hwdb_spec_commands.specs.Kinds.{warning_name}
 use Rattle.hwdb_spec.specs.Lines.{begins_with, byte, is_none, max_pattern, pieces}
-use Rattle.hwdb_spec_commands.specs.Unmatched.{compare_hint, expected_after, is_unmatched, judgement_of, likelihood_of, likely_after, runs_from}
+use Rattle.hwdb_spec_commands.specs.Mends.{follow, likely_after, likely_judgement, mended_in, step}
+use Rattle.hwdb_spec_commands.specs.Unmatched.{compare_hint, expected_after, is_unmatched, judgement_of, likelihood_of, runs_from}
 use Rattle.hwdb_spec_commands.specs.FormTable.{asked}
 use Rattle.hwdb_spec_commands.specs.LikelyForms.{likely}
 use Rattle.hwdb_spec.specs.Patterns.{Token, tokens}
@@ -19,7 +21,7 @@ use Rattle.hwdb_spec.specs.declared.Judgement.TheVariants.{Dead, Fine, UnknownPr
 use Rattle.hwdb_spec_commands.specs.declared.WarningKind.TheVariants.{ByteOrderMark, CarriageReturn, CutValue, EmptyRange, LeadingTab, MayBeTooDeep, Misused, OpenBracket, RepeatedMatch, Replaced, SpacedEquals, TooLongForUdev, Unlikely, Unmatched, Unpaired, Unread}
 use Rattle.hwdb_spec_commands.specs.declared.WarningKind.{WarningKind}
 use Rattle.hwdb_spec_commands.specs.declared.vocabulary.Misuse.TheVariants.{NearName, OldName, ScanCode, SingularMatrix, TwoDefaults, UnfitValue, UnknownKey, ZeroRow}
-use Rattle.hwdb_check.specs.Laws.{KindsAreNamed, LikelihoodIsJudged, PatternsAreJudged, RunsAreAll, TooDeepRows, TooLongRows, UnmatchedRows, kind_number, kinds, run_bytes}
+use Rattle.hwdb_check.specs.Laws.{KindsAreNamed, LikelihoodIsJudged, MendRows, MendsAreLikely, PatternsAreJudged, RunsAreAll, TooDeepRows, TooLongRows, UnmatchedRows, kind_number, kinds, run_bytes}
 
 -- ---- runs
 one_more : (n first : ℕ) → all_bytes_from (suc n) first ≡ all_bytes_from n first ++ (n + first) ∷ []
@@ -140,6 +142,62 @@ judged_likelihood tested = record {
   nothing = refl;
   property = refl;
   tab = refl;
+}
+
+-- ---- patterns as they were likely meant
+likely_if : FormsAreTested → (text : List ℕ) → judged likely text ≡ Fine → CanMatch likely (tokens text)
+likely_if tested text fine = by (can_match likely (tokens text)) refl
+  where
+    by : (b : Bool) → can_match likely (tokens text) ≡ b → CanMatch likely (tokens text)
+    by true e = (tested likely (tokens text)).0 e
+    by false e = absurd (let no : false ≡ true = ap is_unmatched (sym fine) ∙ told_is likely text ∙ ap (λ (b : Bool). if b then false else true) e in cc)
+
+fine_after : (steps : ℕ) (pattern : List ℕ) (place : ℕ) (text : List ℕ) → mended_in steps pattern place ≡ Some text → likely_judgement text ≡ Fine
+unfolding mended_in
+fine_after zero pattern place text e = absurd cc
+fine_after (suc n) pattern place text e = by (step pattern place) (λ now at k. fine_after n now at text k) e
+  where
+    later : (b : Bool) (now : List ℕ) (at : ℕ) → (mended_in n now at ≡ Some text → likely_judgement text ≡ Fine)
+        → (if b then mended_in n now at else None) ≡ Some text → likely_judgement text ≡ Fine
+    later true now at again k = again k
+    later false now at again k = absurd cc
+    told : (now : List ℕ) (j : Judgement) → ((at : ℕ) → mended_in n now at ≡ Some text → likely_judgement text ≡ Fine)
+        → likely_judgement now ≡ j → follow (mended_in n) place now j ≡ Some text → likely_judgement text ≡ Fine
+    told now Fine again is k = let same : now ≡ text = cc in subst (λ (t : List ℕ). likely_judgement t ≡ Fine) same is
+    told now UnknownPrefix again is k = absurd cc
+    told now (Dead at) again is k = later (nat_lt place at) now at (again at) k
+    by : (s : Option (List ℕ)) → ((now : List ℕ) (at : ℕ) → mended_in n now at ≡ Some text → likely_judgement text ≡ Fine)
+        → option_and_then (λ now. follow (mended_in n) place now (likely_judgement now)) s ≡ Some text → likely_judgement text ≡ Fine
+    by None again k = absurd cc
+    by (Some now) again k = told now (likely_judgement now) (again now) refl k
+
+pub likely_mends : FormsAreTested → MendsAreLikely
+unfolding likely_judgement
+likely_mends tested pattern place text e = by (nat_lt 256 (length pattern)) e
+  where
+    by : (long : Bool) → (if long then None else mended_in 4 pattern place) ≡ Some text → CanMatch likely (tokens text)
+    by true e = absurd cc
+    by false e = likely_if tested text (fine_after 4 pattern place text e)
+
+pub mend_rows : MendRows
+unfolding all_bytes_from
+mend_rows = record {
+  capital = refl;
+  all_digits = refl;
+  small = refl;
+  letter = refl;
+  blanks = refl;
+  colon = refl;
+  other = refl;
+  end = refl;
+  long = refl;
+  is_capital = refl;
+  is_small = refl;
+  is_letter = refl;
+  is_blank = refl;
+  is_colon = refl;
+  written = refl;
+  named = refl;
 }
 
 pub unmatched_rows : UnmatchedRows

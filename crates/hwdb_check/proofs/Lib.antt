@@ -14,4 +14,5 @@ pub mod CalmLemmas
 pub mod RecordLemmas
 pub mod PlainLemmas
 pub mod MarkLemmas
+pub mod MendLemmas
 pub mod PieceLemmas

@@ -6,6 +6,7 @@ use Rattle.hwdb_spec_commands.specs.FormTable.{asked}
 use Rattle.hwdb_spec_commands.specs.LikelyForms.{likely}
 use Rattle.hwdb_spec_commands.specs.Kinds.{warning_name}
 use Rattle.hwdb_spec.specs.Lines.{begins_with, byte, is, is_none, max_pattern, pieces}
+use Rattle.hwdb_spec_commands.specs.Mends.{meant_rest, mend_hint, mended, reason}
 use Rattle.hwdb_spec_commands.specs.Unmatched.{compare_hint, is_unmatched, judgement_hint, judgement_of, judgement_place, judgement_text, likelihood_hint, likelihood_of, likely_place_hint, place_hint, prefix_hint, runs, runs_hint}
 use Rattle.hwdb_spec_commands.specs.Warnings.{is_too_long, may_be_too_deep, warning_place}
 use Rattle.hwdb_spec.specs.declared.Judgement.TheVariants.{Dead, Fine, UnknownPrefix}
@@ -67,6 +68,30 @@ pub record UnmatchedRows : Type 0 where
   pub meant : prefix_hint (Some (codes "evdev:")) ≡ codes "did you mean evdev:?"
   pub other : prefix_hint None ≡ codes "begin it as udev's strings do, with evdev: or mouse: or usb: and the like"
   pub nothing : judgement_hint Fine (codes "usb:") ≡ []
+
+-- ---- patterns as they were likely meant
+-- a pattern that a hint writes is one that udev likely asks
+abbrev pub MendsAreLikely : Type 0
+MendsAreLikely = (pattern : List ℕ) (place : ℕ) (text : List ℕ) → mended pattern place ≡ Some text → CanMatch likely (tokens text)
+
+-- how the rest of a pattern was meant, by the bytes that could be there, and what is said of it
+pub record MendRows : Type 0 where
+  pub capital : meant_rest (codes "0123456789ABCDEF") (codes "d9p0a*") ≡ Some (codes "D9p0a*")
+  pub all_digits : meant_rest (codes "0123456789ABCDEF") (codes "ab12p") ≡ Some (codes "AB12p")
+  pub small : meant_rest (codes "0123456789abcdef") (codes "Dp4041:") ≡ Some (codes "dp4041:")
+  pub letter : meant_rest (codes "v") (codes "V046D") ≡ Some (codes "v046D")
+  pub blanks : meant_rest (codes "0") (codes " \tx y") ≡ Some (codes "x y")
+  pub colon : meant_rest (codes ":") (codes "rvn*") ≡ Some (codes ":rvn*")
+  pub other : meant_rest (codes "0123456789abcdef") (codes "rvn*") ≡ None
+  pub end : meant_rest (codes ":") [] ≡ None
+  pub long : mended (all_bytes_from 257 0) 3 ≡ None
+  pub is_capital : reason (codes "d9") (codes "D9") ≡ codes "hexadecimal digits are upper case here"
+  pub is_small : reason (codes "D9") (codes "d9") ≡ codes "hexadecimal digits are lower case here"
+  pub is_letter : reason (codes "V") (codes "v") ≡ codes "letters are lower case here"
+  pub is_blank : reason (codes " x") (codes "x") ≡ codes "no blank is here"
+  pub is_colon : reason (codes "r") (codes ":r") ≡ codes "a colon is here"
+  pub written : mend_hint (codes "usb:v04d9*") 7 [] (Some (codes "usb:v04D9*")) ≡ codes "hexadecimal digits are upper case here: write usb:v04D9*"
+  pub named : mend_hint (codes "usb:v04d9*") 7 (codes "put v here") None ≡ codes "put v here"
 
 -- ---- what udev can't take
 -- whether a line is told that begins so and has so many bytes more

@@ -4,10 +4,12 @@ ghost use Rattle.std.specs.Option.{option_map};
 ghost use Rattle.hwdb_spec_commands.specs.FormTable.{asked};
 ghost use Rattle.hwdb_spec_commands.specs.LikelyForms.{likely};
 ghost use Rattle.hwdb_spec.specs.Forms.{all_bytes_from, is_expected, judged};
+ghost use Rattle.hwdb_spec_commands.specs.Mends.{likely_after, mend_hint, mended};
 ghost use Rattle.hwdb_spec_commands.specs.Unmatched;
 
+use crate::mends::{front_of, likely_after, mended, push_mend};
 use crate::runs::{push_compare, push_runs, runs_of};
-use hwdb_forms::{Judged, expected, expected_likely, judge_both, likely_prefix};
+use hwdb_forms::{Judged, expected, judge_both, likely_prefix};
 use hwdb_spec::Judgement;
 use hwdb_text::{LONGEST_MATCH, begins_with};
 use std::alloc::{AllocError, Global};
@@ -113,17 +115,6 @@ pub fn judgement_place(judgement: Judgement) -> usize
     }
 }
 
-/// The first bytes of a text.
-fn front_of(text: &[u8], size: usize) -> &[u8]
-    ensures { result.now ≡ take size text.now }
-{
-    if size < text.len() {
-        &text[..size]
-    } else {
-        text
-    }
-}
-
 /// Adds what to do about a pattern that goes wrong after this front, which isn't too long.
 #[tactic(auto, unfolding(hwdb_spec_commands::specs::Unmatched::expected_after))]
 fn push_expected(alloc: Global, text: &mut Vec<u8>, front: &[u8]) -> Result<(), AllocError>
@@ -189,6 +180,23 @@ fn push_prefix_hint(alloc: Global, text: &mut Vec<u8>, pattern: &[u8]) -> Result
     push_prefix(text, found)
 }
 
+/// Adds what to do about a pattern that goes wrong at a place: it is written as it was likely meant, or the bytes are named that could be
+/// there.
+fn push_dead_hint(
+    alloc: Global,
+    text: &mut Vec<u8>,
+    pattern: &[u8],
+    place: usize,
+) -> Result<(), AllocError>
+    ensures { OnOk result (text.new.items ≡ text.old.items ++ mend_hint pattern.now place
+        (Unmatched.place_hint (take place pattern.now)) (mended pattern.now place)) }
+{
+    match mended(alloc, pattern, place)? {
+        Some(meant) => push_mend(text, pattern, place, &meant),
+        None => push_place_hint(alloc, text, front_of(pattern, place)),
+    }
+}
+
 /// Adds what to do about a pattern with this judgement.
 pub fn push_judgement_hint(
     alloc: Global,
@@ -202,17 +210,16 @@ pub fn push_judgement_hint(
     match judgement {
         Judgement::Fine => Ok(()),
         Judgement::UnknownPrefix => push_prefix_hint(alloc, text, pattern),
-        Judgement::Dead(place) => push_place_hint(alloc, text, front_of(pattern, place)),
+        Judgement::Dead(place) => push_dead_hint(alloc, text, pattern, place),
     }
 }
 
 /// Adds what to do about a pattern that likely goes wrong after this front, which isn't too long.
-#[tactic(auto, unfolding(hwdb_spec_commands::specs::Unmatched::likely_after))]
 fn push_likely(alloc: Global, text: &mut Vec<u8>, front: &[u8]) -> Result<(), AllocError>
     ensures { OnOk result (text.new.items ≡ text.old.items
-        ++ Unmatched.runs_hint (Unmatched.runs (Unmatched.likely_after front.now))) }
+        ++ Unmatched.runs_hint (Unmatched.runs (likely_after front.now))) }
 {
-    let bytes = expected_likely(alloc, front)?;
+    let bytes = likely_after(alloc, front)?;
     let runs = runs_of(alloc, &bytes)?;
     push_runs(text, &runs)
 }
@@ -228,6 +235,22 @@ fn push_likely_place_hint(alloc: Global, text: &mut Vec<u8>, front: &[u8]) -> Re
     push_likely(alloc, text, front)
 }
 
+/// Adds what to do about a pattern that likely goes wrong at a place: as `push_dead_hint`.
+fn push_unlikely_hint(
+    alloc: Global,
+    text: &mut Vec<u8>,
+    pattern: &[u8],
+    place: usize,
+) -> Result<(), AllocError>
+    ensures { OnOk result (text.new.items ≡ text.old.items ++ mend_hint pattern.now place
+        (Unmatched.likely_place_hint (take place pattern.now)) (mended pattern.now place)) }
+{
+    match mended(alloc, pattern, place)? {
+        Some(meant) => push_mend(text, pattern, place, &meant),
+        None => push_likely_place_hint(alloc, text, front_of(pattern, place)),
+    }
+}
+
 /// Adds what to do about a pattern of which this is said.
 pub fn push_likelihood_hint(
     alloc: Global,
@@ -241,6 +264,6 @@ pub fn push_likelihood_hint(
     match likelihood {
         Judgement::Fine => Ok(()),
         Judgement::UnknownPrefix => push_compare(text),
-        Judgement::Dead(place) => push_likely_place_hint(alloc, text, front_of(pattern, place)),
+        Judgement::Dead(place) => push_unlikely_hint(alloc, text, pattern, place),
     }
 }

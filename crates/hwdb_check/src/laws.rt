@@ -1,5 +1,5 @@
 //! Laws over the definitions alone. Each function does nothing: its contract is the law.
-ghost use Rattle.hwdb_check.specs.Laws.{KindsAreNamed, LikelihoodIsJudged, PatternsAreJudged, RunsAreAll, TooDeepRows, TooLongRows, UnmatchedRows};
+ghost use Rattle.hwdb_check.specs.Laws.{KindsAreNamed, LikelihoodIsJudged, MendRows, MendsAreLikely, PatternsAreJudged, RunsAreAll, TooDeepRows, TooLongRows, UnmatchedRows};
 
 use hwdb_forms::forms_are_tested;
 
@@ -16,6 +16,15 @@ pub fn patterns_are_judged()
 #[tactic(auto, using(crate::proofs::LawLemmas::judged_likelihood))]
 pub fn likelihood_is_judged()
     ensures { LikelihoodIsJudged }
+{
+    forms_are_tested();
+}
+
+/// A pattern that a hint writes is one that udev likely asks.
+#[tactic(auto, using(crate::proofs::LawLemmas::likely_mends, crate::proofs::LawLemmas::mend_rows))]
+pub fn mends_are_likely()
+    ensures likely { MendsAreLikely }
+    ensures rows { MendRows }
 {
     forms_are_tested();
 }

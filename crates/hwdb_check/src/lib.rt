@@ -12,6 +12,7 @@
 //! | `reports` | the report of a fault |
 //! | `line_texts` | the text of a line, by its number |
 //! | `line_warnings` | which warnings a line gets, by its clean text |
+//! | `mends` | what a pattern was likely meant to be that goes wrong |
 //! | `misuses` | properties that don't fit what is known of properties |
 //! | `judgements` | patterns that match no text that udev asks |
 //! | `unread` | properties that aren't read below the patterns of their record |
@@ -38,6 +39,7 @@ mod known;
 mod laws;
 mod line_texts;
 mod line_warnings;
+mod mends;
 mod misuses;
 mod places;
 mod plain_files;
@@ -53,7 +55,9 @@ mod warnings;
 pub use files::{Checked, TextFile, check_files, reports_of};
 pub use hwdb_show::push_shown;
 pub use kinds::{KINDS, Telling};
-pub use laws::{deep_lines_are_told, kinds_are_named, likelihood_is_judged, patterns_are_judged};
+pub use laws::{
+    deep_lines_are_told, kinds_are_named, likelihood_is_judged, mends_are_likely, patterns_are_judged,
+};
 pub use line_texts::{LineStart, find_line, first_start};
 pub use tallies::push_count;
 pub use too_long::push_too_long;

@@ -8,6 +8,7 @@ pub mod Verdicts
 pub mod Json
 pub mod Reports
 pub mod Properties
+pub mod Mends
 pub mod Unmatched
 pub mod Surroundings
 pub mod Kinds

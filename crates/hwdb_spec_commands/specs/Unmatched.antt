@@ -5,6 +5,7 @@ use Rattle.hwdb_spec.specs.Forms.{expected, judged}
 use Rattle.hwdb_spec_commands.specs.FormTable.{asked, likely_prefix}
 use Rattle.hwdb_spec_commands.specs.LikelyForms.{likely}
 use Rattle.hwdb_spec.specs.Lines.{begins_with, byte, is_none, max_pattern}
+use Rattle.hwdb_spec_commands.specs.Mends.{likely_after, mend_hint, mended}
 use Rattle.hwdb_spec_commands.specs.Reports.{shown_byte}
 use Rattle.hwdb_spec.specs.declared.Judgement.{Judgement}
 use Rattle.hwdb_spec.specs.declared.Judgement.TheVariants.{Dead, Fine, UnknownPrefix}
@@ -97,11 +98,7 @@ prefix_hint (Some prefix) = codes "did you mean " ++ (prefix ++ byte "?" ∷ [])
 abbrev pub judgement_hint : Judgement → List ℕ → List ℕ
 judgement_hint Fine pattern = []
 judgement_hint UnknownPrefix pattern = prefix_hint (meant_prefix pattern)
-judgement_hint (Dead place) pattern = place_hint (take place pattern)
-
--- the bytes that could likely be after the front of a pattern
-unfoldable pub likely_after : List ℕ → List ℕ
-likely_after front = expected likely front
+judgement_hint (Dead place) pattern = mend_hint pattern place (place_hint (take place pattern)) (mended pattern place)
 
 -- what to do about a pattern that likely goes wrong after this front
 abbrev pub likely_place_hint : List ℕ → List ℕ
@@ -111,4 +108,4 @@ likely_place_hint front = if nat_lt 256 (length front) then compare_hint else ru
 abbrev pub likelihood_hint : Judgement → List ℕ → List ℕ
 likelihood_hint Fine pattern = []
 likelihood_hint UnknownPrefix pattern = compare_hint
-likelihood_hint (Dead place) pattern = likely_place_hint (take place pattern)
+likelihood_hint (Dead place) pattern = mend_hint pattern place (likely_place_hint (take place pattern)) (mended pattern place)

@@ -11,6 +11,19 @@ use hwdb_show::push_name;
 use itoa::Buffer;
 use std::alloc::{AllocError, Global};
 
+/// A line that doesn't hold of a device.
+#[derive(Clone, Copy)]
+pub struct Failure<'a> {
+    /// The path of the line's file.
+    pub path: &'a [u8],
+    /// The device.
+    pub device: &'a [u8],
+    /// The line.
+    pub line: &'a WantedLine<'a>,
+    /// The properties that the device is given instead.
+    pub instead: &'a [GivenValue<'a>],
+}
+
 /// What a line wants, in words.
 pub fn wanted_text<'b>(line: &WantedLine<'b>) -> &'b [u8]
     ensures { result.now ≡ Wanted.wanted_text (line_at line.now) }
@@ -93,72 +106,57 @@ fn push_given_line(text: &mut Vec<u8>, given: Option<GivenValue<'_>>) -> Result<
 /// Adds three lines on a line that doesn't hold: what it wants, of which device, and what that device has.
 fn push_text(
     text: &mut Vec<u8>,
-    path: &[u8],
-    device: &[u8],
-    line: &WantedLine<'_>,
+    failure: Failure<'_>,
     given: Option<GivenValue<'_>>,
 ) -> Result<(), AllocError>
-    ensures { OnOk result (text.new.items ≡ text.old.items ++ Wanted.failure_text path.now
-        device.now (line_at line.now) (option_map given_at given.entry)) }
+    ensures { OnOk result (text.new.items ≡ text.old.items
+        ++ Wanted.failure_text failure.entry.path.now failure.entry.device.now
+        (line_at failure.entry.line.now) (option_map given_at given.entry)) }
 {
-    push_wanted_line(text, path, line)?;
-    push_device_line(text, device)?;
+    push_wanted_line(text, failure.path, failure.line)?;
+    push_device_line(text, failure.device)?;
     push_given_line(text, given)
 }
 
 /// Adds the same for each property that is given instead.
-fn push_each(
-    text: &mut Vec<u8>,
-    path: &[u8],
-    device: &[u8],
-    line: &WantedLine<'_>,
-    instead: &[GivenValue<'_>],
-) -> Result<(), AllocError>
-    ensures { OnOk result (text.new.items ≡ text.old.items
-        ++ flat_map (λ g. Wanted.failure_text path.now device.now (line_at line.now) (Some g))
-        (map given_at instead.now)) }
+fn push_each(text: &mut Vec<u8>, failure: Failure<'_>) -> Result<(), AllocError>
+    ensures { OnOk result (text.new.items ≡ text.old.items ++ flat_map
+        (λ g. Wanted.failure_text failure.entry.path.now failure.entry.device.now
+        (line_at failure.entry.line.now) (Some g)) (map given_at failure.entry.instead.now)) }
 {
-    for given in instead {
-        push_text(text, path, device, line, Some(*given))?;
+    for given in failure.instead {
+        push_text(text, failure, Some(*given))?;
     }
     Ok(())
 }
 
 /// Adds the same for each property that is given instead, or once if there is none.
-fn push_texts(
-    text: &mut Vec<u8>,
-    path: &[u8],
-    device: &[u8],
-    line: &WantedLine<'_>,
-    instead: &[GivenValue<'_>],
-) -> Result<(), AllocError>
-    ensures { OnOk result (text.new.items ≡ text.old.items ++ Wanted.failure_texts path.now
-        device.now (line_at line.now) (map given_at instead.now)) }
+fn push_texts(text: &mut Vec<u8>, failure: Failure<'_>) -> Result<(), AllocError>
+    ensures { OnOk result (text.new.items ≡ text.old.items
+        ++ Wanted.failure_texts failure.entry.path.now failure.entry.device.now
+        (line_at failure.entry.line.now) (map given_at failure.entry.instead.now)) }
 {
-    if instead.is_empty() {
-        push_text(text, path, device, line, None)
+    if failure.instead.is_empty() {
+        push_text(text, failure, None)
     } else {
-        push_each(text, path, device, line, instead)
+        push_each(text, failure)
     }
 }
 
-/// Adds what is printed of a line that doesn't hold, if these are the properties that are given instead: a line of JSON, or three
-/// lines for each.
-pub fn push_failures(
+/// Adds what is printed of a line that doesn't hold: a line of JSON, or three lines for each property that is given instead.
+pub fn push_failure(
     alloc: Global,
     json: bool,
     text: &mut Vec<u8>,
-    path: &[u8],
-    device: &[u8],
-    line: &WantedLine<'_>,
-    instead: &[GivenValue<'_>],
+    failure: Failure<'_>,
 ) -> Result<(), AllocError>
-    ensures { OnOk result (text.new.items ≡ text.old.items ++ Wanted.failures json path.now
-        device.now (line_at line.now) (map given_at instead.now)) }
+    ensures { OnOk result (text.new.items ≡ text.old.items
+        ++ Wanted.failures json failure.entry.path.now failure.entry.device.now
+        (line_at failure.entry.line.now) (map given_at failure.entry.instead.now)) }
 {
     if json {
-        push_json(alloc, text, path, device, line, instead)
+        push_json(alloc, text, failure)
     } else {
-        push_texts(text, path, device, line, instead)
+        push_texts(text, failure)
     }
 }

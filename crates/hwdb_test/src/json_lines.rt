@@ -6,7 +6,7 @@ ghost use Rattle.hwdb_spec_commands.specs.Json.{array_of, json_line};
 ghost use Rattle.hwdb_spec_commands.specs.Wanted.{failure_json, first_given, given_json, given_members, instead_members, others_member, wanted_members};
 ghost use Rattle.hwdb_test.specs.Views.{given_at, line_at};
 
-use crate::failures::wanted_text;
+use crate::failures::{Failure, wanted_text};
 use crate::given_values::GivenValue;
 use crate::wanted_lines::{WantedLine, wants_no_others};
 use hwdb_show::{ended, put_count, put_member};
@@ -14,20 +14,16 @@ use json::Writer;
 use std::alloc::{AllocError, Global};
 
 /// Adds what a line wants of which device. The only error, here and below, is `AllocError`.
-fn put_wanted(
-    json: &mut Writer,
-    path: &[u8],
-    device: &[u8],
-    line: &WantedLine<'_>,
-) -> Result<(), AllocError>
+fn put_wanted(json: &mut Writer, failure: Failure<'_>) -> Result<(), AllocError>
     ensures before { json.new.before ≡ json.old.before }
-    ensures tokens { OnOk result (json.new.tokens ≡ json.old.tokens
-        ++ tokens_of_members (wanted_members path.now device.now (line_at line.now))) }
+    ensures tokens { OnOk result (json.new.tokens ≡ json.old.tokens ++ tokens_of_members
+        (wanted_members failure.entry.path.now failure.entry.device.now
+        (line_at failure.entry.line.now))) }
 {
-    put_member(json, "path", path)?;
-    put_count(json, "line", line.number)?;
-    put_member(json, "device", device)?;
-    put_member(json, "wanted", wanted_text(line))
+    put_member(json, "path", failure.path)?;
+    put_count(json, "line", failure.line.number)?;
+    put_member(json, "device", failure.device)?;
+    put_member(json, "wanted", wanted_text(failure.line))
 }
 
 /// Adds a property, and which file and line gave it.
@@ -106,36 +102,26 @@ fn put_instead(
 }
 
 /// Adds the object.
-fn put_failure(
-    json: &mut Writer,
-    path: &[u8],
-    device: &[u8],
-    line: &WantedLine<'_>,
-    instead: &[GivenValue<'_>],
-) -> Result<(), AllocError>
+fn put_failure(json: &mut Writer, failure: Failure<'_>) -> Result<(), AllocError>
     ensures before { json.new.before ≡ json.old.before }
     ensures tokens { OnOk result (json.new.tokens ≡ json.old.tokens ++ json_tokens
-        (failure_json path.now device.now (line_at line.now) (map given_at instead.now))) }
+        (failure_json failure.entry.path.now failure.entry.device.now
+        (line_at failure.entry.line.now) (map given_at failure.entry.instead.now))) }
 {
     json.begin_object()?;
-    put_wanted(json, path, device, line)?;
-    put_instead(json, line, instead)?;
+    put_wanted(json, failure)?;
+    put_instead(json, failure.line, failure.instead)?;
     json.end_object()
 }
 
 /// The line of JSON.
-fn failure_line(
-    alloc: Global,
-    path: &[u8],
-    device: &[u8],
-    line: &WantedLine<'_>,
-    instead: &[GivenValue<'_>],
-) -> Result<Vec<u8>, AllocError>
+fn failure_line(alloc: Global, failure: Failure<'_>) -> Result<Vec<u8>, AllocError>
     ensures { IfOk result (λ text. text.items ≡ json_line
-        (failure_json path.now device.now (line_at line.now) (map given_at instead.now))) }
+        (failure_json failure.entry.path.now failure.entry.device.now
+        (line_at failure.entry.line.now) (map given_at failure.entry.instead.now))) }
 {
     let mut json = Writer::new(Vec::new(alloc));
-    put_failure(&mut json, path, device, line, instead)?;
+    put_failure(&mut json, failure)?;
     ended(alloc, json)
 }
 
@@ -143,15 +129,13 @@ fn failure_line(
 pub fn push_json(
     alloc: Global,
     text: &mut Vec<u8>,
-    path: &[u8],
-    device: &[u8],
-    line: &WantedLine<'_>,
-    instead: &[GivenValue<'_>],
+    failure: Failure<'_>,
 ) -> Result<(), AllocError>
     ensures { OnOk result (text.new.items ≡ text.old.items ++ json_line
-        (failure_json path.now device.now (line_at line.now) (map given_at instead.now))) }
+        (failure_json failure.entry.path.now failure.entry.device.now
+        (line_at failure.entry.line.now) (map given_at failure.entry.instead.now))) }
 {
-    let line = failure_line(alloc, path, device, line, instead)?;
+    let line = failure_line(alloc, failure)?;
     text.extend_from_slice(&line)?;
     Ok(())
 }

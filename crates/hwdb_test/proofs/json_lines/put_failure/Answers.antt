@@ -9,8 +9,8 @@ use Rattle.hwdb_test.proofs.json_lines.put_failure.Goals as goal
 pub returns-clause-tokens : goal.returns-clause-tokens
 returns-clause-tokens c =
     let front = c.args.json.now.tokens ++ begin_object ∷ [] in
-    let wanted = wanted_members c.args.path.now c.args.device.now (line_at c.args.line.now) in
-    let given = instead_members (line_at c.args.line.now) (map given_at c.args.instead.now) in
+    let wanted = wanted_members c.args.failure.path.now c.args.failure.device.now (line_at c.args.failure.line.now) in
+    let given = instead_members (line_at c.args.failure.line.now) (map given_at c.args.failure.instead.now) in
     let none = no_members_yet front c.begin_object.new.self.tokens c.in_ok-begin_object.ensures.ok in
     let one = members_behind front c.begin_object.new.self.tokens c.put_wanted.new.json.tokens [] wanted none c.in_ok-put_wanted.ensures.tokens in
     let two = members_behind front c.put_wanted.new.json.tokens c.put_instead.new.json.tokens wanted given one c.in_ok-put_instead.ensures.tokens in

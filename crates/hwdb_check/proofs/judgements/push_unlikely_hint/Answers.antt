@@ -1,0 +1,15 @@
+use Rattle.std.proofs.Common.{◌∙◌, ◌++◌, ap, sym, List, Option, Some, ℕ, take}
+use Rattle.std.proofs.lemmas.Result.{on_ok_weaker}
+use Rattle.std.specs.Option.{option_map}
+use Rattle.hwdb_spec_commands.specs.Mends.{mend_hint}
+use Rattle.hwdb_spec_commands.specs.Unmatched.{likely_place_hint}
+use Rattle.hwdb_check.proofs.MendLemmas.{items_of}
+use Rattle.hwdb_check.proofs.judgements.push_unlikely_hint.Goals as goal
+
+pub returns-in-Some : goal.returns-in-Some
+returns-in-Some c =
+    let other = likely_place_hint (take c.args.place c.args.pattern.now) in
+    on_ok_weaker c.push_mend.result
+    (λ pushed. pushed ∙ ap (λ (m : Option (List ℕ)). c.args.text.now.items ++ mend_hint c.args.pattern.now c.args.place other m)
+    (ap Some c.deref.ensures.value ∙ sym (ap items_of c.in-Some.is) ∙ c.in_ok-meant.ensures))
+    (c.push_mend.ensures other)

@@ -1,0 +1,364 @@
+//! What a pattern was likely meant to be that no string of udev matches, or none that it likely asks.
+ghost use Rattle.std.specs.Prelude.{◌≡◌, ◌++◌, ◌∷◌, ◌≤◌, List, Option, ℕ, drop, length, map, take, IfOk, OnOk, Some};
+ghost use Rattle.std.specs.List.{prefix_len};
+ghost use Rattle.std.specs.Option.{option_map};
+ghost use Rattle.hwdb_spec.specs.Lines.{byte, has, is_indent};
+ghost use Rattle.hwdb_spec_commands.specs.Mends;
+ghost use Rattle.hwdb_check.specs.Mending.{outcome};
+ghost use Rattle.hwdb_spec_commands.specs.Properties.{is_hex_digit, lower};
+
+use hwdb_forms::{expected_likely, judge_both};
+use hwdb_show::push_shown;
+use hwdb_spec::Judgement;
+use hwdb_text::{begins_with, unindented};
+use std::alloc::{AllocError, Global};
+
+/// A pattern of more bytes isn't mended (our choice).
+const LONGEST_MENDED: usize = 256;
+
+/// A pattern is mended in so many places at most (our choice).
+const MOST_STEPS: usize = 4;
+
+/// Whether a byte is a small letter.
+fn is_small(byte: u8) -> bool
+    ensures { result ≡ Mends.is_small byte }
+{
+    matches!(byte, b'a'..=b'z')
+}
+
+/// A small letter as a capital one, any other byte as it is.
+fn upper(byte: u8) -> u8
+    ensures { result ≡ Mends.upper byte }
+{
+    if is_small(byte) { byte - 32 } else { byte }
+}
+
+/// A capital letter as a small one, any other byte as it is.
+fn lower(byte: u8) -> u8
+    ensures { result ≡ lower byte }
+{
+    if matches!(byte, b'A'..=b'Z') {
+        byte + 32
+    } else {
+        byte
+    }
+}
+
+/// A byte in the other case than this one has.
+fn turned(first: u8, byte: u8) -> u8
+    ensures { result ≡ Mends.turned first byte }
+{
+    if is_small(first) {
+        upper(byte)
+    } else {
+        lower(byte)
+    }
+}
+
+/// Whether a byte is a hexadecimal digit.
+fn is_hex_digit(byte: u8) -> bool
+    ensures { result ≡ is_hex_digit byte }
+{
+    matches!(byte, b'0'..=b'9' | b'a'..=b'f' | b'A'..=b'F')
+}
+
+/// Whether a byte is a blank.
+fn is_indent(byte: u8) -> bool
+    ensures { result ≡ is_indent byte }
+{
+    byte == b' ' || byte == b'\t'
+}
+
+/// The first bytes of a text.
+pub fn front_of(text: &[u8], size: usize) -> &[u8]
+    ensures { result.now ≡ take size text.now }
+{
+    if size < text.len() {
+        &text[..size]
+    } else {
+        text
+    }
+}
+
+/// The bytes of a text after its first ones.
+fn rest_of(text: &[u8], size: usize) -> &[u8]
+    ensures { result.now ≡ drop size text.now }
+{
+    if size < text.len() {
+        &text[size..]
+    } else {
+        &[]
+    }
+}
+
+/// How many hexadecimal digits a text begins with.
+fn digits_of(text: &[u8]) -> usize
+    ensures place { result ≡ prefix_len is_hex_digit text.now }
+    ensures within { result ≤ length text.now }
+{
+    let mut at = 0;
+    while at < text.len() && is_hex_digit(text[at]) {
+        at += 1;
+    }
+    at
+}
+
+/// How many hexadecimal digits go on with a digit; none after another byte.
+fn digits_after(first: u8, more: &[u8]) -> usize
+    ensures place { result ≡ Mends.digits_after first more.now }
+    ensures within { result ≤ length more.now }
+{
+    if is_hex_digit(first) {
+        digits_of(more)
+    } else {
+        0
+    }
+}
+
+/// Adds bytes in the other case than this one has. The only error, here and below, is `AllocError`.
+fn push_turned(text: &mut Vec<u8>, first: u8, bytes: &[u8]) -> Result<(), AllocError>
+    ensures { OnOk result
+        (text.new.items ≡ text.old.items ++ map (Mends.turned first) bytes.now) }
+{
+    for byte in bytes {
+        text.push(turned(first, *byte))?;
+    }
+    Ok(())
+}
+
+/// A text in the other case than its first byte has: that byte, or all hexadecimal digits up to the first other byte.
+fn recased(alloc: Global, first: u8, more: &[u8]) -> Result<Vec<u8>, AllocError>
+    ensures { IfOk result (λ text. text.items ≡ Mends.recased first more.now) }
+{
+    let size = digits_after(first, more);
+    let mut text = Vec::new(alloc);
+    push_turned(&mut text, first, &[first])?;
+    push_turned(&mut text, first, &more[..size])?;
+    text.extend_from_slice(&more[size..])?;
+    Ok(text)
+}
+
+/// Whether a byte is among some.
+fn has(byte: u8, bytes: &[u8]) -> bool
+    ensures { result ≡ has byte bytes.now }
+{
+    bytes.iter().any(|own| *own == byte)
+}
+
+/// A text without the blanks that it begins with.
+fn without_blanks(alloc: Global, text: &[u8]) -> Result<Vec<u8>, AllocError>
+    ensures { IfOk result
+        (λ copy. copy.items ≡ drop (prefix_len is_indent text.now) text.now) }
+{
+    let mut copy = Vec::new(alloc);
+    copy.extend_from_slice(unindented(text))?;
+    Ok(copy)
+}
+
+/// A text after a colon.
+fn after_colon(alloc: Global, text: &[u8]) -> Result<Vec<u8>, AllocError>
+    ensures { IfOk result (λ copy. copy.items ≡ byte ":" ∷ text.now) }
+{
+    let mut copy = Vec::new(alloc);
+    copy.push(b':')?;
+    copy.extend_from_slice(text)?;
+    Ok(copy)
+}
+
+/// The rest of a pattern from the byte on with which it goes wrong, as it was likely meant, if one of these bytes could be there.
+fn meant_rest(alloc: Global, next: &[u8], rest: &[u8]) -> Result<Option<Vec<u8>>, AllocError>
+    ensures { IfOk result
+        (λ found. option_map (λ t. t.items) found ≡ Mends.meant_rest next.now rest.now) }
+{
+    let Some((first, more)) = rest.split_first() else {
+        return Ok(None);
+    };
+    if is_indent(*first) {
+        return Ok(Some(without_blanks(alloc, more)?));
+    }
+    if has(turned(*first, *first), next) {
+        return Ok(Some(recased(alloc, *first, more)?));
+    }
+    if has(b':', next) {
+        return Ok(Some(after_colon(alloc, rest)?));
+    }
+    Ok(None)
+}
+
+/// The bytes that could likely be after the front of a pattern.
+#[tactic(auto, unfolding(hwdb_spec_commands::specs::Mends::likely_after))]
+pub fn likely_after(alloc: Global, front: &[u8]) -> Result<Vec<u8>, AllocError>
+    ensures { IfOk result (λ bytes. bytes.items ≡ Mends.likely_after front.now) }
+{
+    expected_likely(alloc, front)
+}
+
+/// What is said of a pattern by the strings that udev likely asks.
+#[tactic(auto, unfolding(hwdb_spec_commands::specs::Mends::likely_judgement))]
+fn likely_judgement(alloc: Global, pattern: &[u8]) -> Result<Judgement, AllocError>
+    ensures { IfOk result (λ told. told ≡ Mends.likely_judgement pattern.now) }
+{
+    let judged = judge_both(alloc, pattern)?;
+    Ok(judged.likely)
+}
+
+/// A pattern that goes wrong at a place, as it was likely meant there.
+fn step(alloc: Global, pattern: &[u8], place: usize) -> Result<Option<Vec<u8>>, AllocError>
+    ensures { IfOk result
+        (λ found. option_map (λ t. t.items) found ≡ Mends.step pattern.now place) }
+{
+    let front = front_of(pattern, place);
+    let next = likely_after(alloc, front)?;
+    let Some(rest) = meant_rest(alloc, &next, rest_of(pattern, place))? else {
+        return Ok(None);
+    };
+    let mut text = Vec::new(alloc);
+    text.extend_from_slice(front)?;
+    text.extend_from_slice(&rest)?;
+    Ok(Some(text))
+}
+
+/// What a step makes of a pattern.
+#[derive(Drop)]
+pub enum Mend {
+    /// It isn't known how it was meant.
+    Unknown,
+    /// The pattern as it was likely meant.
+    Sure(Vec<u8>),
+    /// A pattern that goes wrong later, and its place.
+    Later(Vec<u8>, usize),
+}
+
+/// A text that was mended at a place, by what is said of it.
+fn followed(place: usize, text: Vec<u8>, told: Judgement) -> Mend
+    ensures { (again : List ℕ → ℕ → Option (List ℕ)) → outcome again result
+        ≡ Mends.follow again place text.items told }
+{
+    match told {
+        Judgement::Fine => Mend::Sure(text),
+        Judgement::UnknownPrefix => Mend::Unknown,
+        Judgement::Dead(at) => {
+            if place < at {
+                Mend::Later(text, at)
+            } else {
+                Mend::Unknown
+            }
+        }
+    }
+}
+
+/// What a step makes of a pattern that goes wrong at a place.
+fn mend_once(alloc: Global, pattern: &[u8], place: usize) -> Result<Mend, AllocError>
+    ensures { IfOk result (λ after. (again : List ℕ → ℕ → Option (List ℕ))
+        → outcome again after ≡ Mends.mend_once again pattern.now place) }
+{
+    let Some(text) = step(alloc, pattern, place)? else {
+        return Ok(Mend::Unknown);
+    };
+    let told = likely_judgement(alloc, &text)?;
+    Ok(followed(place, text, told))
+}
+
+/// A pattern that goes wrong at a place, mended in a few steps.
+fn mended_in_steps(
+    alloc: Global,
+    pattern: &[u8],
+    place: usize,
+) -> Result<Option<Vec<u8>>, AllocError>
+    ensures { IfOk result (λ found. option_map (λ t. t.items) found
+        ≡ Mends.mended_in 4 pattern.now place) }
+{
+    let mut text = Vec::new(alloc);
+    text.extend_from_slice(pattern)?;
+    let mut at = place;
+    let mut steps = MOST_STEPS;
+    while steps > 0 {
+        match mend_once(alloc, &text, at)? {
+            Mend::Unknown => return Ok(None),
+            Mend::Sure(meant) => return Ok(Some(meant)),
+            Mend::Later(next, place) => {
+                text = next;
+                at = place;
+            }
+        }
+        steps -= 1;
+    }
+    Ok(None)
+}
+
+/// A pattern that goes wrong at a place, as it was likely meant, if that is sure. The only error is `AllocError`.
+///
+/// At most four times the bytes that could come are looked for, and a pattern is judged.
+pub fn mended(alloc: Global, pattern: &[u8], place: usize) -> Result<Option<Vec<u8>>, AllocError>
+    ensures { IfOk result
+        (λ found. option_map (λ t. t.items) found ≡ Mends.mended pattern.now place) }
+{
+    if pattern.len() > LONGEST_MENDED {
+        return Ok(None);
+    }
+    mended_in_steps(alloc, pattern, place)
+}
+
+/// What a letter in the wrong case is.
+fn letter_words(byte: u8) -> &'static str
+    ensures { result.now ≡ Mends.letter_words byte }
+{
+    if is_hex_digit(byte) {
+        "hexadecimal digits are "
+    } else {
+        "letters are "
+    }
+}
+
+/// Which case a letter should have.
+fn case_words(byte: u8) -> &'static str
+    ensures { result.now ≡ Mends.case_words byte }
+{
+    if is_small(byte) {
+        "upper case here"
+    } else {
+        "lower case here"
+    }
+}
+
+/// Adds what is wrong with a letter in the other case.
+fn push_case_reason(text: &mut Vec<u8>, byte: u8) -> Result<(), AllocError>
+    ensures { OnOk result (text.new.items
+        ≡ text.old.items ++ (Mends.letter_words byte ++ Mends.case_words byte)) }
+{
+    text.extend_from_slice(letter_words(byte).as_bytes())?;
+    text.extend_from_slice(case_words(byte).as_bytes())
+}
+
+/// Adds what is wrong with the rest of a pattern that was meant so.
+fn push_reason(text: &mut Vec<u8>, was: &[u8], now: &[u8]) -> Result<(), AllocError>
+    ensures { OnOk result (text.new.items ≡ text.old.items ++ Mends.reason was.now now.now) }
+{
+    let Some((first, _)) = was.split_first() else {
+        return Ok(());
+    };
+    if is_indent(*first) {
+        text.extend_from_slice(b"no blank is here")?;
+        return Ok(());
+    }
+    if begins_with(b':', now) {
+        text.extend_from_slice(b"a colon is here")?;
+        return Ok(());
+    }
+    push_case_reason(text, *first)
+}
+
+/// Adds what is wrong with a pattern that goes wrong at a place, and how it was likely meant.
+pub fn push_mend(
+    text: &mut Vec<u8>,
+    pattern: &[u8],
+    place: usize,
+    meant: &[u8],
+) -> Result<(), AllocError>
+    ensures { (other : List ℕ) → OnOk result (text.new.items
+        ≡ text.old.items ++ Mends.mend_hint pattern.now place other (Some meant.now)) }
+{
+    push_reason(text, rest_of(pattern, place), rest_of(meant, place))?;
+    text.extend_from_slice(b": write ")?;
+    push_shown(text, meant)
+}

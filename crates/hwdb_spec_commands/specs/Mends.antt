@@ -1,0 +1,91 @@
+-- What a pattern was likely meant to be that no string of udev matches, or none that it likely asks. Our choice.
+use Rattle.std.specs.Prelude.{Bool, ℕ, List, [], ◌∷◌, ◌++◌, ◌+◌, ◌-◌, Option, None, Some, suc, zero, if◌then◌else◌, codes, drop, length, map, nat_lt, take}
+use Rattle.std.specs.List.{list_any, prefix_len}
+use Rattle.std.specs.Option.{option_and_then, option_map}
+use Rattle.hwdb_spec.specs.Forms.{expected, judged}
+use Rattle.hwdb_spec.specs.Lines.{begins_with, byte, has, is_indent}
+use Rattle.hwdb_spec.specs.Patterns.{in_span}
+use Rattle.hwdb_spec.specs.declared.Judgement.{Judgement}
+use Rattle.hwdb_spec.specs.declared.Judgement.TheVariants.{Dead, Fine, UnknownPrefix}
+use Rattle.hwdb_spec_commands.specs.LikelyForms.{likely}
+use Rattle.hwdb_spec_commands.specs.Properties.{is_hex_digit, lower}
+use Rattle.hwdb_spec_commands.specs.Reports.{shown}
+
+-- whether a byte is a small letter
+abbrev pub is_small : ℕ → Bool
+is_small b = in_span b (97, 122)
+
+-- a small letter as a capital one, any other byte as it is
+abbrev pub upper : ℕ → ℕ
+upper b = if is_small b then b - 32 else b
+
+-- a byte in the other case than this one has
+abbrev pub turned : (first : ℕ) → ℕ → ℕ
+turned first b = if is_small first then upper b else lower b
+
+-- how many hexadecimal digits go on with a digit; none after another byte
+abbrev pub digits_after : (first : ℕ) → List ℕ → ℕ
+digits_after first more = if is_hex_digit first then prefix_len is_hex_digit more else 0
+
+-- a text in the other case than its first byte has, that byte alone or all hexadecimal digits up to the first other byte
+abbrev pub recased : (first : ℕ) → List ℕ → List ℕ
+recased first more = map (turned first) (first ∷ take (digits_after first more) more) ++ drop (digits_after first more) more
+
+-- The rest of a pattern from the byte on with which it goes wrong, as it was likely meant, if one of these bytes could be there: without
+-- its blanks, in the other case, or after a colon.
+abbrev pub meant_rest : (next : List ℕ) → List ℕ → Option (List ℕ)
+meant_rest next [] = None
+meant_rest next (b ∷ more) =
+    if is_indent b then Some (drop (prefix_len is_indent more) more) else
+    (if has (turned b b) next then Some (recased b more) else
+    (if has (byte ":") next then Some (byte ":" ∷ b ∷ more) else None))
+
+-- the bytes that could likely be after the front of a pattern
+unfoldable pub likely_after : List ℕ → List ℕ
+likely_after front = expected likely front
+
+-- what is said of a pattern by the strings that udev likely asks
+unfoldable pub likely_judgement : List ℕ → Judgement
+likely_judgement pattern = judged likely pattern
+
+-- a pattern that goes wrong at a place, as it was likely meant there
+abbrev pub step : (pattern : List ℕ) (place : ℕ) → Option (List ℕ)
+step pattern place =
+    option_map (λ rest. take place pattern ++ rest) (meant_rest (likely_after (take place pattern)) (drop place pattern))
+
+-- a text that was mended at a place, if this is said of it: it is mended again if it goes wrong later
+abbrev pub follow : (again : List ℕ → ℕ → Option (List ℕ)) (place : ℕ) (text : List ℕ) → Judgement → Option (List ℕ)
+follow again place text Fine = Some text
+follow again place text UnknownPrefix = None
+follow again place text (Dead at) = if nat_lt place at then again text at else None
+
+-- a pattern that goes wrong at a place, mended there, and again if it goes wrong later
+abbrev pub mend_once : (again : List ℕ → ℕ → Option (List ℕ)) (pattern : List ℕ) (place : ℕ) → Option (List ℕ)
+mend_once again pattern place = option_and_then (λ text. follow again place text (likely_judgement text)) (step pattern place)
+
+-- a pattern that goes wrong at a place, mended in at most so many steps
+unfoldable pub mended_in : (steps : ℕ) → (pattern : List ℕ) (place : ℕ) → Option (List ℕ)
+mended_in zero pattern place = None
+mended_in (suc n) pattern place = mend_once (mended_in n) pattern place
+
+-- a pattern of at most 256 bytes that goes wrong at a place, as it was likely meant, if that is sure
+abbrev pub mended : (pattern : List ℕ) (place : ℕ) → Option (List ℕ)
+mended pattern place = if nat_lt 256 (length pattern) then None else mended_in 4 pattern place
+
+-- what a letter in the wrong case is
+abbrev pub letter_words : ℕ → List ℕ
+letter_words b = if is_hex_digit b then codes "hexadecimal digits are " else codes "letters are "
+
+-- which case a letter should have
+abbrev pub case_words : ℕ → List ℕ
+case_words b = if is_small b then codes "upper case here" else codes "lower case here"
+
+-- what is wrong with the rest of a pattern that was meant so
+abbrev pub reason : (was now : List ℕ) → List ℕ
+reason [] now = []
+reason (b ∷ more) now = if is_indent b then codes "no blank is here" else (if begins_with (byte ":") now then codes "a colon is here" else letter_words b ++ case_words b)
+
+-- what to do about a pattern that goes wrong at a place: it is written as it was likely meant, or there is another hint
+abbrev pub mend_hint : (pattern : List ℕ) (place : ℕ) (other : List ℕ) → Option (List ℕ) → List ℕ
+mend_hint pattern place other None = other
+mend_hint pattern place other (Some text) = reason (drop place pattern) (drop place text) ++ (codes ": write " ++ shown text)
