@@ -23,23 +23,10 @@ use std::alloc::{AllocError, Global};
 /// What a database is asked, and what is said.
 #[derive(Clone, Copy)]
 struct FileForm<'a> {
-    /// The database.
-    db: &'a Db<'a>,
     /// Whether lines of JSON are printed.
     json: bool,
     /// The path that is printed for the file.
     path: &'a [u8],
-}
-
-/// A device, and the properties that it is given.
-#[derive(Clone, Copy)]
-struct Subject<'a> {
-    /// The device.
-    device: &'a [u8],
-    /// All properties.
-    found: &'a [GivenValue<'a>],
-    /// Those that no line of the record names.
-    others: &'a [GivenValue<'a>],
 }
 
 /// What is said of lines that were tried.
@@ -60,37 +47,37 @@ pub struct Tested {
     pub status: u8,
 }
 
-/// Tries a line of a record among the properties of a device. The only error, here and below, is `AllocError`.
+/// Tries a line of a record among the properties of a device, of which `others` are those that no line of the record names. The only
+/// error, here and below, is `AllocError`.
 fn try_line(
     alloc: Global,
     form: FileForm<'_>,
     told: &mut Told,
-    subject: Subject<'_>,
+    device: &[u8],
+    found: &[GivenValue<'_>],
+    others: &[GivenValue<'_>],
     line: &WantedLine<'_>,
 ) -> Result<(), AllocError>
-    requires { AscendByKey subject.found.now }
-    ensures text { OnOk result ((all : List Line)
-        → IsApart all subject.entry.found.now subject.entry.others.now
+    requires { AscendByKey found.now }
+    ensures text { OnOk result ((all : List Line) → IsApart all found.now others.now
         → told.new.text.items ≡ told.old.text.items
-        ++ tried_text form.entry.json form.entry.path.now subject.entry.device.now all
-        (map given_at subject.entry.found.now) (map pair_at subject.entry.found.now)
-        (line_at line.now)) }
-    ensures held { OnOk result ((all : List Line)
-        → IsApart all subject.entry.found.now subject.entry.others.now
+        ++ tried_text form.entry.json form.entry.path.now device.now all
+        (map given_at found.now) (map pair_at found.now) (line_at line.now)) }
+    ensures held { OnOk result ((all : List Line) → IsApart all found.now others.now
         → told.new.held.items ≡ told.old.held.items
-        ++ Wanted.holds all (map pair_at subject.entry.found.now) (line_at line.now) ∷ []) }
+        ++ Wanted.holds all (map pair_at found.now) (line_at line.now) ∷ []) }
 {
-    let instead = about(subject.found, subject.others, line);
-    let fits = holds(line, instead);
+    let about = about(found, others, line);
+    let fits = holds(line, about);
     told.held.push(fits)?;
     if fits {
         return Ok(());
     }
     let failure = Failure {
         path: form.path,
-        device: subject.device,
+        device,
         line,
-        instead,
+        instead: about,
     };
     push_failure(alloc, form.json, &mut told.text, failure)
 }
@@ -100,19 +87,20 @@ fn try_lines(
     alloc: Global,
     form: FileForm<'_>,
     told: &mut Told,
-    subject: Subject<'_>,
+    device: &[u8],
     all: &[WantedLine<'_>],
+    found: &[GivenValue<'_>],
+    others: &[GivenValue<'_>],
 ) -> Result<(), AllocError>
-    requires { IsApart (map line_at all.now) subject.found.now subject.others.now }
+    requires { IsApart (map line_at all.now) found.now others.now }
     ensures text { OnOk result (told.new.text.items ≡ told.old.text.items ++ flat_map
-        (tried_text form.entry.json form.entry.path.now subject.entry.device.now
-        (map line_at all.now) (map given_at subject.entry.found.now)
-        (map pair_at subject.entry.found.now)) (map line_at all.now)) }
-    ensures held { OnOk result (told.new.held.items ≡ told.old.held.items ++ map (Wanted.holds
-        (map line_at all.now) (map pair_at subject.entry.found.now)) (map line_at all.now)) }
+        (tried_text form.entry.json form.entry.path.now device.now (map line_at all.now)
+        (map given_at found.now) (map pair_at found.now)) (map line_at all.now)) }
+    ensures held { OnOk result (told.new.held.items ≡ told.old.held.items ++ map
+        (Wanted.holds (map line_at all.now) (map pair_at found.now)) (map line_at all.now)) }
 {
     for line in all {
-        try_line(alloc, form, told, subject, line)?;
+        try_line(alloc, form, told, device, found, others, line)?;
     }
     Ok(())
 }
@@ -120,6 +108,7 @@ fn try_lines(
 /// Tries the lines of a record for a device.
 fn try_device(
     alloc: Global,
+    db: &Db<'_>,
     form: FileForm<'_>,
     told: &mut Told,
     all: &[WantedLine<'_>],
@@ -127,35 +116,30 @@ fn try_device(
 ) -> Result<(), AllocError>
     ensures text { OnOk result (told.new.text.items ≡ told.old.text.items
         ++ Wanted.device_text form.entry.json form.entry.path.now (map line_at all.now)
-        form.entry.db.now device.now) }
+        db.now device.now) }
     ensures held { OnOk result (told.new.held.items ≡ told.old.held.items
-        ++ Wanted.device_held (map line_at all.now) form.entry.db.now device.now) }
+        ++ Wanted.device_held (map line_at all.now) db.now device.now) }
 {
-    let found = found(alloc, form.db, device)?;
+    let found = found(alloc, db, device)?;
     let others = others(alloc, all, &found)?;
-    let subject = Subject {
-        device,
-        found: &found,
-        others: &others,
-    };
-    try_lines(alloc, form, told, subject, all)
+    try_lines(alloc, form, told, device, all, &found, &others)
 }
 
 /// Tries a record for each of its devices.
 fn try_record(
     alloc: Global,
+    db: &Db<'_>,
     form: FileForm<'_>,
     told: &mut Told,
     record: &Record<'_>,
 ) -> Result<(), AllocError>
     ensures text { OnOk result (told.new.text.items ≡ told.old.text.items
-        ++ Wanted.record_text form.entry.json form.entry.path.now form.entry.db.now
-        (record_at record.now)) }
+        ++ Wanted.record_text form.entry.json form.entry.path.now db.now (record_at record.now)) }
     ensures held { OnOk result (told.new.held.items ≡ told.old.held.items
-        ++ Wanted.record_held form.entry.db.now (record_at record.now)) }
+        ++ Wanted.record_held db.now (record_at record.now)) }
 {
     for device in &record.devices {
-        try_device(alloc, form, told, &record.lines, *device)?;
+        try_device(alloc, db, form, told, &record.lines, *device)?;
     }
     Ok(())
 }
@@ -163,18 +147,19 @@ fn try_record(
 /// Tries some records.
 fn try_records(
     alloc: Global,
+    db: &Db<'_>,
     form: FileForm<'_>,
     told: &mut Told,
     records: &[Record<'_>],
 ) -> Result<(), AllocError>
     ensures text { OnOk result (told.new.text.items ≡ told.old.text.items ++ flat_map
-        (Wanted.record_text form.entry.json form.entry.path.now form.entry.db.now)
+        (Wanted.record_text form.entry.json form.entry.path.now db.now)
         (map record_at records.now)) }
     ensures held { OnOk result (told.new.held.items ≡ told.old.held.items
-        ++ flat_map (Wanted.record_held form.entry.db.now) (map record_at records.now)) }
+        ++ flat_map (Wanted.record_held db.now) (map record_at records.now)) }
 {
     for record in records {
-        try_record(alloc, form, told, record)?;
+        try_record(alloc, db, form, told, record)?;
     }
     Ok(())
 }
@@ -232,7 +217,7 @@ fn try_well_formed(
 {
     let path = file.path.as_bytes();
     let records = records_of(alloc, file.bytes)?;
-    try_records(alloc, FileForm { db, json, path }, told, &records)
+    try_records(alloc, db, FileForm { json, path }, told, &records)
 }
 
 /// The malformed lines of a test file.
