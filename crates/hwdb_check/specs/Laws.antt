@@ -85,8 +85,8 @@ pub record MendRows : Type 0 where
   pub other : meant_rest (codes "0123456789abcdef") (codes "rvn*") ≡ None
   pub end : meant_rest (codes ":") [] ≡ None
   pub long : mended (all_bytes_from 257 0) 3 ≡ None
-  pub is_capital : reason (codes "d9") (codes "D9") ≡ codes "hexadecimal digits are upper case here"
-  pub is_small : reason (codes "D9") (codes "d9") ≡ codes "hexadecimal digits are lower case here"
+  pub is_capital : reason (codes "ab") (codes "AB") ≡ codes "hexadecimal digits are upper case here"
+  pub is_small : reason (codes "AB") (codes "ab") ≡ codes "hexadecimal digits are lower case here"
   pub is_letter : reason (codes "V") (codes "v") ≡ codes "letters are lower case here"
   pub is_blank : reason (codes " x") (codes "x") ≡ codes "no blank is here"
   pub is_colon : reason (codes "r") (codes ":r") ≡ codes "a colon is here"
