@@ -579,7 +579,7 @@ WARNINGS = {
     "return": (b"a carriage return in the middle of the line", b"end each line with a newline alone"),
     "open": (b"a [ that is never closed stands for itself", b"close it with a ], or write [[] for the byte"),
     "empty": (b"a range without members", b"put the lower end of the range first"),
-    "blank": (b"a blank beside the first =", b"take it away: it belongs to the key or to the value"),
+    "blank": (b"a blank beside the first =", b"write %s"),
     "cut": (b"a # without a blank before it cuts the value", b"put a blank before a comment; a value can't hold a #"),
     "repeated": (b"a match line that stands in its record already", b"take one of the two away"),
     "replaced": (b"an assignment that line %d replaces", b"take one of the two away"),
@@ -719,6 +719,8 @@ def warnings_of(text):
         for kind, place, holds in kinds:
             if holds:
                 what, hint = WARNINGS[kind]
+                if kind == "blank":
+                    hint %= shown(key.rstrip(BLANKS)) + b"=" + shown(value.lstrip(b" \t"))
                 found.append((number, line, what % replaced[number] if kind == "replaced" else what, place, hint))
     return found
 

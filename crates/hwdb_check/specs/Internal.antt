@@ -19,7 +19,7 @@ use Rattle.hwdb_spec_commands.specs.Surroundings.{companions_text, is_alone, is_
 use Rattle.hwdb_spec_commands.specs.Unmatched.{judgement_of, likelihood_of}
 use Rattle.hwdb_spec_commands.specs.Warnings.{gives_value, greatest, last_with, misused, repeated_from, repeated_lines, replaces, replacing}
 use Rattle.hwdb_spec_commands.specs.declared.WarningKind.{WarningKind}
-use Rattle.hwdb_spec_commands.specs.declared.WarningKind.TheVariants.{Misused, Replaced, Unlikely, Unmatched, Unpaired, Unread}
+use Rattle.hwdb_spec_commands.specs.declared.WarningKind.TheVariants.{Misused, Replaced, SpacedEquals, Unlikely, Unmatched, Unpaired, Unread}
 use Rattle.hwdb_spec.specs.Lines.{Line, byte, clean_line, has, is, is_none, lines, numbered, pieces}
 use Rattle.hwdb_spec_commands.specs.Reports.{text_of_line}
 use Rattle.hwdb_text.specs.declared.outcome.Given.{Given}
@@ -57,6 +57,7 @@ pub record IsRead (r : Read) : Type 0 where
 
 -- a warning whose hint is the same for each line
 abbrev pub IsPlain : WarningKind → Type 0
+IsPlain SpacedEquals = ⊥
 IsPlain (Misused why) = ⊥
 IsPlain (Unread known) = ⊥
 IsPlain Unpaired = ⊥

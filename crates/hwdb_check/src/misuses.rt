@@ -3,7 +3,7 @@ ghost use Rattle.std.specs.Prelude.{◌≡◌, ◌++◌, OnOk};
 ghost use Rattle.hwdb_spec.specs.Lines;
 ghost use Rattle.hwdb_spec_commands.specs.Properties.{misuse_hint};
 ghost use Rattle.hwdb_spec_commands.specs.Surroundings.{unpaired_hint, unread_hint};
-ghost use Rattle.hwdb_spec_commands.specs.Warnings.{is_known, misused};
+ghost use Rattle.hwdb_spec_commands.specs.Warnings.{is_known, misused, spaced_hint};
 ghost use Rattle.hwdb_check.specs.Internal.{line_of};
 
 use crate::line_warnings::{is_property, is_spaced};
@@ -11,8 +11,9 @@ use hwdb_properties::{
     after, before, companions_of, is_known, misuse_of, push_elsewhere_hint, push_misuse_hint,
     push_unknown_hint,
 };
+use hwdb_show::push_shown;
 use hwdb_spec_commands::Misuse;
-use hwdb_text::{end_of, unindented};
+use hwdb_text::{end_of, trim, unindented};
 use std::alloc::AllocError;
 
 /// The key of a clean property line.
@@ -52,7 +53,18 @@ pub fn misuse_in(clean: &[u8]) -> Option<Misuse>
     misuse_of(key, value)
 }
 
-/// Adds what to do about a misuse in a clean line. The only error, here and below, is `AllocError`.
+/// Adds how a clean property is written that has a blank beside its `=`. The only error, here and below, is `AllocError`.
+pub fn push_spaced_hint(text: &mut Vec<u8>, clean: &[u8]) -> Result<(), AllocError>
+    ensures { OnOk result
+        (text.new.items ≡ text.old.items ++ spaced_hint (line_of 0 clean.now)) }
+{
+    text.extend_from_slice(b"write ")?;
+    push_shown(text, trim(key_of(clean)))?;
+    text.push(b'=')?;
+    push_shown(text, unindented(value_of(clean)))
+}
+
+/// Adds what to do about a misuse in a clean line.
 pub fn push_hint_of_misuse(
     text: &mut Vec<u8>,
     misuse: Misuse,

@@ -20,7 +20,9 @@ use crate::known::{Known, known_of, nothing_known};
 use crate::line_warnings::{
     LONGEST_LINE, Read, closed, is_warned, is_warned_at_all, kinds_of, wild_place,
 };
-use crate::misuses::{misuse_in, push_hint_of_misuse, push_unpaired_hint, push_unread_hint};
+use crate::misuses::{
+    misuse_in, push_hint_of_misuse, push_spaced_hint, push_unpaired_hint, push_unread_hint,
+};
 use crate::plain_files::{is_plain, tame_after, tame_size};
 use hwdb_pattern::{open_place, range_place};
 use hwdb_properties::misuse_text;
@@ -83,7 +85,6 @@ fn hint_of(kind: WarningKind) -> &'static str
         WarningKind::CarriageReturn => "end each line with a newline alone",
         WarningKind::OpenBracket => "close it with a ], or write [[] for the byte",
         WarningKind::EmptyRange => "put the lower end of the range first",
-        WarningKind::SpacedEquals => "take it away: it belongs to the key or to the value",
         WarningKind::CutValue => "put a blank before a comment; a value can't hold a #",
         WarningKind::RepeatedMatch | WarningKind::Replaced(_) => "take one of the two away",
         WarningKind::TooLongForUdev => {
@@ -92,7 +93,8 @@ fn hint_of(kind: WarningKind) -> &'static str
         WarningKind::MayBeTooDeep => {
             "shorten it: systemd 262 refuses a depth of more than 2048, which hwdb verify tells"
         }
-        WarningKind::Misused(_)
+        WarningKind::SpacedEquals
+        | WarningKind::Misused(_)
         | WarningKind::Unread(_)
         | WarningKind::Unpaired
         | WarningKind::Unmatched(_)
@@ -119,6 +121,7 @@ fn push_hint(
         (text.new.items ≡ text.old.items ++ warning_hint kind (line_of 0 clean.now)) }
 {
     match kind {
+        WarningKind::SpacedEquals => push_spaced_hint(text, clean),
         WarningKind::Misused(misuse) => push_hint_of_misuse(text, misuse, clean),
         WarningKind::Unread(known) => push_unread_hint(text, known, clean),
         WarningKind::Unpaired => push_unpaired_hint(text, clean),

@@ -125,7 +125,7 @@ ReportRows =
     ≡ codes "f:3: warning: an assignment that line 7 replaces\n      A=1\n      ^\n    hint: take one of the two away\n"
     ∷ codes "f:3: warning: a # without a blank before it cuts the value\n     A=1#c\n        ^\n    hint: put a blank before a comment; a value can't hold a #\n"
     ∷ codes "f:3: warning: a [ that is never closed stands for itself\n    ab[c\n      ^\n    hint: close it with a ], or write [[] for the byte\n"
-    ∷ codes "f:3: warning: a blank beside the first =\n     A =1\n       ^\n    hint: take it away: it belongs to the key or to the value\n"
+    ∷ codes "f:3: warning: a blank beside the first =\n     A =1\n       ^\n    hint: write A=1\n"
     ∷ codes "f:3: warning: a match line that begins with a tab\n    \\x09a\n    ^\n    hint: begin a property with a space\n"
     ∷ []
 

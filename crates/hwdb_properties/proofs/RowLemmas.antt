@@ -33,6 +33,9 @@ axes = record {
   some = refl;
   code = refl;
   none = refl;
+  capital = refl;
+  marked = refl;
+  no_digit = refl;
   six = refl;
   dash = refl;
 }

@@ -2,7 +2,7 @@
 -- files, hwdb(7) and parse_hwdb.py.
 use Rattle.std.specs.Prelude.{true, false, [], ◌∷◌, ◌≡◌, None, Some, codes}
 use Rattle.hwdb_spec.specs.Assignment.{Assignment}
-use Rattle.hwdb_spec_commands.specs.Properties.{bare_hint, bare_key, has_lost_words, is_near, is_near_name, row_misuse}
+use Rattle.hwdb_spec_commands.specs.Properties.{bare_hint, bare_key, code_hint, has_lost_words, is_near, is_near_name, row_misuse}
 use Rattle.hwdb_spec_commands.specs.Surroundings.{has_logged_code, is_alone, is_read_by_row, may_be_read, raised}
 use Rattle.hwdb_spec_commands.specs.declared.vocabulary.Misuse.TheVariants.{ScanCode, SingularMatrix, TwoDefaults, UnfitValue, ZeroRow}
 use Prim.Native.String.{String}
@@ -42,6 +42,10 @@ pub record AxisRows : Type 0 where
   pub some : IsFine "EVDEV_ABS_ axis evdev x" "EVDEV_ABS_3a" "::-5:0x1f"
   pub code : row_misuse (codes "EVDEV_ABS_ axis evdev x") (codes "EVDEV_ABS_3A") (codes "1:2") ≡ Some ScanCode
   pub none : row_misuse (codes "EVDEV_ABS_ axis evdev x") (codes "EVDEV_ABS_") (codes "1:2") ≡ Some ScanCode
+  pub capital : code_hint (codes "EVDEV_ABS_") (codes "EVDEV_ABS_3A") ≡ codes "write EVDEV_ABS_3a"
+  pub marked : code_hint (codes "KEYBOARD_KEY_") (codes "KEYBOARD_KEY_0x70039") ≡ codes "write KEYBOARD_KEY_70039"
+  pub no_digit : code_hint (codes "EVDEV_ABS_") (codes "EVDEV_ABS_x1")
+      ≡ codes "write the code in the digits 0 to 9 and a to f alone, without 0x"
   pub six : IsUnfit "EVDEV_ABS_ axis evdev x" "EVDEV_ABS_00" "1:2:3:4:5:6"
   pub dash : IsUnfit "EVDEV_ABS_ axis evdev x" "EVDEV_ABS_00" "1-2"
 

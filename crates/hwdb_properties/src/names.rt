@@ -5,7 +5,7 @@ ghost use Rattle.hwdb_spec_commands.specs.Properties;
 use crate::cuts::{after_one, first_one};
 
 /// A letter of ASCII in lower case, any other byte as it is.
-fn lower(byte: u8) -> u8
+pub fn lower(byte: u8) -> u8
     ensures { result ≡ Properties.lower byte }
 {
     if matches!(byte, b'A'..=b'Z') {

@@ -35,7 +35,7 @@ fn is_hex_digit(byte: u8) -> bool
 }
 
 /// Whether a text is one hexadecimal digit or more.
-fn is_hex(text: &[u8]) -> bool
+pub fn is_hex(text: &[u8]) -> bool
     ensures { result ≡ Properties.is_made_of Properties.is_hex_digit text.now }
 {
     for byte in text {

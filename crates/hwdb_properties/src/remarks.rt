@@ -1,14 +1,14 @@
 //! What is said of a property that doesn't fit.
-ghost use Rattle.std.specs.Prelude.{◌≡◌, ◌++◌, [], OnOk, codes, not};
+ghost use Rattle.std.specs.Prelude.{◌≡◌, ◌++◌, [], OnOk, codes, map, not};
 ghost use Rattle.hwdb_spec.specs.Lines;
 ghost use Rattle.hwdb_spec_commands.specs.Properties;
 ghost use Rattle.hwdb_spec_commands.specs.Surroundings;
 ghost use Rattle.hwdb_spec_commands.specs.declared.vocabulary.TheConstants.{KEY_HINT, KEY_NAMES, KEY_WORDS, KNOWN_BELOW, OLD_PROPERTIES, PROPERTIES};
 
 use crate::common::is_common;
-use crate::cuts::{before, front, past, without};
-use crate::names::same_letters;
-use crate::numbers::is_lower_hex;
+use crate::cuts::{before, front, past, same, without};
+use crate::names::{lower, same_letters};
+use crate::numbers::{is_hex, is_lower_hex};
 use crate::rows::{Likeness, after_word, first_row, row_form, word};
 use crate::values::{form_of, is_of_form, odd_value};
 use hwdb_spec_commands::{
@@ -247,14 +247,43 @@ fn push_value_hint(text: &mut Vec<u8>, name: &[u8]) -> Result<(), AllocError>
     push_form_hint(text, form_of(form), form)
 }
 
-/// Adds how a code is written.
-fn push_code_hint(text: &mut Vec<u8>) -> Result<(), AllocError>
-    ensures { OnOk result
-        (text.new.items ≡ text.old.items ++ Properties.misuse_hint Misuse.ScanCode [] []) }
+/// The code that ends a name, after its row's own, without a `0x`.
+fn bare_code<'a>(own: &[u8], name: &'a [u8]) -> &'a [u8]
+    ensures { result.now ≡ Properties.bare_code own.now name.now }
 {
-    let hint = "write the code in the digits 0 to 9 and a to f alone, without 0x";
-    text.extend_from_slice(hint.as_bytes())?;
+    let code = past(name, own.len());
+    if same(front(code, 2), b"0x") {
+        past(code, 2)
+    } else {
+        code
+    }
+}
+
+/// Adds a text in lower case.
+fn push_lower(text: &mut Vec<u8>, letters: &[u8]) -> Result<(), AllocError>
+    ensures { OnOk result
+        (text.new.items ≡ text.old.items ++ map Properties.lower letters.now) }
+{
+    for letter in letters {
+        text.push(lower(*letter))?;
+    }
     Ok(())
+}
+
+/// Adds how a name is written whose code isn't one.
+fn push_code_hint(text: &mut Vec<u8>, own: &[u8], name: &[u8]) -> Result<(), AllocError>
+    ensures { OnOk result
+        (text.new.items ≡ text.old.items ++ Properties.code_hint own.now name.now) }
+{
+    let code = bare_code(own, name);
+    if !is_hex(code) {
+        let hint = "write the code in the digits 0 to 9 and a to f alone, without 0x";
+        text.extend_from_slice(hint.as_bytes())?;
+        return Ok(());
+    }
+    text.extend_from_slice(b"write ")?;
+    text.extend_from_slice(own)?;
+    push_lower(text, code)
 }
 
 /// Adds what a matrix is.
@@ -333,7 +362,7 @@ pub fn push_misuse_hint(
     match misuse {
         Misuse::NearName => push_did_you_mean(text, word(near_row(name))),
         Misuse::OldName => push_old_hint(text, name),
-        Misuse::ScanCode => push_code_hint(text),
+        Misuse::ScanCode => push_code_hint(text, word(property_row(name)), name),
         Misuse::UnknownKey => push_key_hint(text, value),
         Misuse::UnfitValue => push_value_hint(text, name),
         Misuse::ZeroRow => push_matrix_hint(text),

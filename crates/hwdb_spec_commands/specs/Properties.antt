@@ -2,7 +2,7 @@
 -- what is said of a property that doesn't fit. Which forms a value has is from the heads of systemd's hwdb files, and from what
 -- libinput and udev read. By which other names people call keys is from X's keysyms and from what keys have on them. The rest is
 -- our choice.
-use Rattle.std.specs.Prelude.{Bool, true, false, ℕ, List, [], ◌∷◌, ◌++◌, ◌+◌, ◌-◌, ◌==◌, Option, None, Some, if◌then◌else◌, codes, drop, length, nat_eq, nat_lt, not, take}
+use Rattle.std.specs.Prelude.{Bool, true, false, ℕ, List, [], ◌∷◌, ◌++◌, ◌+◌, ◌-◌, ◌==◌, Option, None, Some, if◌then◌else◌, codes, drop, length, map, nat_eq, nat_lt, not, take}
 use Rattle.std.specs.List.{after_first, before_first, find, list_all, list_any, prefix_len, starts_with}
 use Rattle.std.specs.Option.{unwrap_or}
 use Rattle.std.specs.Ordering.{is_gt}
@@ -458,11 +458,23 @@ misuse_text ZeroRow = codes "a row of the matrix has zeros alone"
 misuse_text SingularMatrix = codes "the determinant of the matrix is 0"
 misuse_text TwoDefaults = codes "more than one resolution is the default"
 
+-- the code that ends a name, after its row's own, without a `0x`
+abbrev pub bare_code : (own name : List ℕ) → List ℕ
+bare_code own name =
+    let code = drop (length own) name in
+    if same (take 2 code) (codes "0x") then drop 2 code else code
+
+-- what to do about a name whose code isn't one: it is written in lower case, if it has hexadecimal digits alone
+abbrev pub code_hint : (own name : List ℕ) → List ℕ
+code_hint own name =
+    if is_made_of is_hex_digit (bare_code own name) then codes "write " ++ (own ++ map lower (bare_code own name))
+    else codes "write the code in the digits 0 to 9 and a to f alone, without 0x"
+
 -- what to do about it
 abbrev pub misuse_hint : Misuse → (name text : List ℕ) → List ℕ
 misuse_hint NearName name text = did_you_mean (word (near_row PROPERTIES.now name))
 misuse_hint OldName name text = codes "this came for it: " ++ after_word (row_for OLD_PROPERTIES.now name)
-misuse_hint ScanCode name text = codes "write the code in the digits 0 to 9 and a to f alone, without 0x"
+misuse_hint ScanCode name text = code_hint (word (property_row name)) name
 misuse_hint UnknownKey name text = key_hint text
 misuse_hint UnfitValue name text = value_hint name
 misuse_hint ZeroRow name text = codes "write in each row where an axis points, as 1, 0, 0; 0, 1, 0; 0, 0, 1"

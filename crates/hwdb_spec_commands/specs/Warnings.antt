@@ -3,7 +3,7 @@ use Rattle.std.specs.Prelude.{Bool, true, false, ℕ, List, [], ◌∷◌, ◌++
 use Rattle.std.specs.Fmt.{decimal}
 use Rattle.std.specs.List.{list_any, position_or_len, prefix_len, starts_with}
 use Rattle.std.specs.Option.{unwrap_or}
-use Rattle.hwdb_spec.specs.Lines.{Line, begins_with, byte, clean, clean_line, has, has_equals, has_key, is, is_dropped, is_indent, is_long, is_match, is_none, is_property, key, lines, value}
+use Rattle.hwdb_spec.specs.Lines.{Line, begins_with, byte, clean, clean_line, has, has_equals, has_key, is, is_dropped, is_indent, is_long, is_match, is_none, is_property, key, lines, trimmed, value}
 use Rattle.hwdb_spec.specs.Assignment.{Assignment}
 use Rattle.hwdb_spec.specs.Records.{assignments}
 use Rattle.hwdb_spec_commands.specs.Summary.{deepest_for_udev}
@@ -14,7 +14,7 @@ use Rattle.hwdb_spec.specs.Tree.{closed_part, is_open}
 use Rattle.hwdb_spec.specs.Texts.{place_text}
 use Rattle.hwdb_spec_commands.specs.Properties.{misuse, misuse_hint, misuse_text, property_row}
 use Rattle.hwdb_spec_commands.specs.Kinds.{is_told}
-use Rattle.hwdb_spec_commands.specs.Reports.{hint_line, mark_line, shown_line}
+use Rattle.hwdb_spec_commands.specs.Reports.{hint_line, mark_line, shown, shown_line}
 use Rattle.hwdb_spec_commands.specs.Surroundings.{is_unpaired, is_unread, unpaired_hint, unread_hint}
 use Rattle.hwdb_spec_commands.specs.Unmatched.{is_unmatched, judgement_hint, judgement_of, judgement_place, judgement_text, likelihood_hint, likelihood_of}
 use Rattle.hwdb_spec_commands.specs.declared.WarningKind.{WarningKind}
@@ -204,6 +204,10 @@ warning_place (Unlikely told) text clean = judgement_place told
 warning_place TooLongForUdev text clean = position_or_len is_wild clean
 warning_place MayBeTooDeep text clean = longest_line
 
+-- how a property is written that has a blank beside its `=`
+abbrev pub spaced_hint : Line → List ℕ
+spaced_hint l = codes "write " ++ (shown (trimmed (key l)) ++ byte "=" ∷ shown (drop (prefix_len is_indent (value l)) (value l)))
+
 -- what to do about a warning
 abbrev pub warning_hint : WarningKind → (clean : Line) → List ℕ
 warning_hint ByteOrderMark clean = codes "save the file without a byte order mark"
@@ -211,7 +215,7 @@ warning_hint LeadingTab clean = codes "begin a property with a space"
 warning_hint CarriageReturn clean = codes "end each line with a newline alone"
 warning_hint OpenBracket clean = codes "close it with a ], or write [[] for the byte"
 warning_hint EmptyRange clean = codes "put the lower end of the range first"
-warning_hint SpacedEquals clean = codes "take it away: it belongs to the key or to the value"
+warning_hint SpacedEquals clean = spaced_hint clean
 warning_hint CutValue clean = codes "put a blank before a comment; a value can't hold a #"
 warning_hint RepeatedMatch clean = codes "take one of the two away"
 warning_hint (Replaced by) clean = codes "take one of the two away"

@@ -19,7 +19,7 @@ mod pieces;
 mod records;
 
 pub use crate::choice::{Chosen, ChosenFile, counts, select};
-pub use crate::line::{Content, begins_with, content_of, end_of, indent_of, unindented};
+pub use crate::line::{Content, begins_with, content_of, end_of, indent_of, trim, unindented};
 pub use crate::outcome::{Assignment, Given, Parsed, Scanned};
 pub use crate::parser::{next_line, parse, scan};
 pub use crate::pieces::{Lines, Pieces};

@@ -82,7 +82,7 @@ fn is_blank(byte: u8) -> bool
 }
 
 /// The text without its trailing blanks.
-fn trim(text: &[u8]) -> &[u8]
+pub fn trim(text: &[u8]) -> &[u8]
     ensures { result.now ≡ trimmed text.now }
 {
     let mut end = text.len();
