@@ -5,7 +5,6 @@ use Rattle.std.specs.Char.{encode_utf8}
 use Rattle.std.specs.Str.{chars, is_utf8}
 use Rattle.json.specs.Print.{escape_byte, print_from}
 use Rattle.hwdb_spec.specs.Assignment.{put, put_all}
-use Rattle.hwdb_spec_commands.specs.DeviceTexts.{record_after}
 use Rattle.hwdb_spec_commands.specs.DeviceTree.{above, alike, first_given, last_after, nearest_of}
 use Rattle.hwdb_spec_commands.specs.Inputs.{after_words, count_bits}
 use Rattle.hwdb_spec_commands.specs.Json.{items_of, members_of, escaped_after}
@@ -18,7 +17,7 @@ use Rattle.hwdb_spec.specs.Tree.{some_up_to}
 use Rattle.hwdb_spec_commands.specs.Sysfs.{cut_back, first_at, replaced, value_of}
 use Rattle.hwdb_device.specs.AskedRows.{ErrorRows, FormRows, LinkRows, MissingRows}
 use Rattle.hwdb_spec.specs.Visible.{visible_after}
-use Rattle.hwdb_device.specs.Rows.{ClosestRow, JsonRow, KeysRow, LeftOutRows, ListRow, MouseRow, NearestRow, NoRow, PatternRow, StringsRow, TextRow}
+use Rattle.hwdb_device.specs.Rows.{ClosestRow, JsonRow, LeftOutRows, ListRow, NearestRow, NoRow, StringsRow, TextRow}
 
 pub text_row : TextRow
 unfolding closest_after after_words count_bits pieces asked_in flag_after strings_from told_value cut_back first_at replaced value_of put put_all digits visible_after is_utf8 chars encode_utf8
@@ -27,17 +26,6 @@ text_row = refl
 pub strings_row : StringsRow
 unfolding after_words count_bits pieces asked_in flag_after strings_from told_value cut_back first_at replaced value_of
 strings_row = refl
-
-pub keys_row : KeysRow
-unfolding after_words count_bits pieces asked_in flag_after strings_from told_value cut_back first_at replaced value_of record_after
-keys_row = refl
-
-pub mouse_row : MouseRow
-unfolding after_words count_bits pieces asked_in flag_after strings_from told_value cut_back first_at replaced value_of record_after
-mouse_row = refl
-
-pub pattern_row : PatternRow
-pattern_row = refl
 
 pub list_row : ListRow
 unfolding after_words count_bits pieces asked_in flag_after strings_from told_value cut_back first_at replaced value_of visible_after is_utf8 chars encode_utf8

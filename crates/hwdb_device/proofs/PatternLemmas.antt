@@ -1,10 +1,10 @@
 -- A pattern that is made for a text matches it.
-use Rattle.std.proofs.Common.{◌≡◌, ℕ, Bool, true, false, List, [], ◌∷◌, refl, ◌==◌, eq-eqb}
-use Rattle.hwdb_spec_commands.specs.DeviceTexts.{pattern_byte, pattern_for}
+use Rattle.std.proofs.Common.{◌≡◌, ℕ, Bool, true, false, List, [], ◌∷◌, ◌++◌, refl, ◌==◌, eq-eqb}
+use Rattle.hwdb_spec_commands.specs.DeviceRecords.{pattern_byte, pattern_for}
 use Rattle.hwdb_spec.specs.Patterns.{byte_then, literal, matches, piece_then, token_at, tokens, tokens_from}
 
 -- a byte that begins no wildcard and no bracket means itself
-itself : (b : ℕ) (rest : List ℕ) → (b == 42) ≡ false → (b == 63) ≡ false → (b == 91) ≡ false → token_at (b ∷ rest) ≡ literal b
+pub itself : (b : ℕ) (rest : List ℕ) → (b == 42) ≡ false → (b == 63) ≡ false → (b == 91) ≡ false → token_at (b ∷ rest) ≡ literal b
 unfolding token_at
 itself b rest s q o = rw s (rw q (rw o refl))
 
@@ -25,6 +25,12 @@ by_byte b rest text false false true k h es eq eo ek eh m = rw es (rw eq (rw eo 
 by_byte b rest text false false false true h es eq eo ek eh m = rw es (rw eq (rw eo (rw ek (by_any b rest text m))))
 by_byte b rest text false false false false true es eq eo ek eh m = rw es (rw eq (rw eo (rw ek (rw eh (by_any b rest text m)))))
 by_byte b rest text false false false false false es eq eo ek eh m = rw es (rw eq (rw eo (rw ek (rw eh (by_literal b rest text es eq eo m)))))
+
+-- a text, and what comes after it
+pub fronted : (front rest text : List ℕ) → matches (tokens rest) text ≡ true → matches (tokens (pattern_for front ++ rest)) (front ++ text) ≡ true
+fronted [] rest text m = m
+fronted (b ∷ front) rest text m =
+    by_byte b (pattern_for front ++ rest) (front ++ text) (b == 42) (b == 63) (b == 91) (b == 92) (b == 35) refl refl refl refl refl (fronted front rest text m)
 
 pub matched : (text : List ℕ) → matches (tokens (pattern_for text)) text ≡ true
 unfolding tokens_from matches

@@ -3,3 +3,5 @@ pub mod Internal
 pub mod Laws
 pub mod Rows
 pub mod AskedRows
+pub mod RecordLaws
+pub mod RecordRows

@@ -1,13 +1,13 @@
 -- Worked rows: what is printed of a keyboard, of a mouse and of a small device, by what strings get.
 use Rattle.std.specs.Prelude.{List, ℕ, [], ◌∷◌, ◌++◌, ◌≡◌, codes, if◌then◌else◌, map}
 use Rattle.hwdb_spec.specs.Assignment.{Assignment}
-use Rattle.hwdb_spec_commands.specs.DeviceTexts.{device_row, found_form, nearest_text, pattern_for}
+use Rattle.hwdb_spec_commands.specs.DeviceTexts.{device_row, found_form, nearest_text}
 use Rattle.hwdb_spec.specs.Folders.{same}
 use Rattle.hwdb_spec_commands.specs.Lookups.{Found, Told, lookups}
 use Rattle.hwdb_spec_commands.specs.Near.{PatternAt}
 use Rattle.hwdb_spec_commands.specs.Sysfs.{Ancestor, Device}
 use Rattle.hwdb_spec_commands.specs.declared.devices.DeviceForm.TheVariants as form
-use Rattle.hwdb_rules.specs.Rows.{keyboard, machine, mouse}
+use Rattle.hwdb_rules.specs.Rows.{keyboard, machine}
 
 -- a line of a text
 abbrev pub l : List ℕ → List ℕ
@@ -80,24 +80,6 @@ StringsRow =
     ++ (l (codes "evdev:name:AT Set _2_:phys:isa0060:ev:120013:dmi:bvrN1CET81W_1.49_:")
     ++ (l (codes "id-input:modalias:input:b0011v0001p0001eAB54-e0,1,4")
     ++ l (codes "libwacom:name:AT Set _2_:input:b0011v0001p0001eAB54-e0,1,4")))))
-
--- a record to begin with: the last string of 60-evdev for a keyboard
-abbrev pub KeysRow : Type 0
-KeysRow =
-    found_form form.Pattern (device keyboard) [] (lookups tells (device keyboard))
-    ≡ l (codes "evdev:name:AT Set _2_:phys:isa0060:ev:120013:dmi:bvrN1CET81W_1.49_:")
-    ++ (l (codes "# KEYBOARD_KEY_<scan code>=<key name>") ++ l (codes "# EVDEV_ABS_<axis>=<min>:<max>:<resolution>"))
-
--- that of 70-mouse for a mouse
-abbrev pub MouseRow : Type 0
-MouseRow =
-    found_form form.Pattern (device mouse) [] (lookups tells (device mouse))
-    ≡ l (codes "mouse:usb:v046dpc077:name:USB Mouse:")
-    ++ (l (codes "# MOUSE_DPI=<dpi>@<hz>") ++ l (codes "# MOUSE_WHEEL_CLICK_ANGLE=<degrees>"))
-
--- bytes that aren't themselves in a pattern
-abbrev pub PatternRow : Type 0
-PatternRow = pattern_for (codes "a*b?c[d]e\\f#g") ≡ codes "a?b?c?d]e?f?g"
 
 -- a line of the list
 abbrev pub ListRow : Type 0

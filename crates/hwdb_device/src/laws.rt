@@ -1,9 +1,12 @@
 //! Laws over the definitions alone. Each function does nothing: its contract is the law.
+ghost use Rattle.std.specs.List.{AllByRecursion};
 ghost use Rattle.std.specs.Prelude.{◌≡◌, List, ℕ, true};
 ghost use Rattle.hwdb_spec.specs.Answers.{is_match};
-ghost use Rattle.hwdb_spec_commands.specs.DeviceTexts;
+ghost use Rattle.hwdb_spec_commands.specs.DeviceRecords.{lasting, numbered, pattern_for};
 ghost use Rattle.hwdb_device.specs.Laws.{SameAnswersSameText, TextIsOfFiles};
-ghost use Rattle.hwdb_device.specs.Rows.{ClosestRow, JsonRow, KeysRow, LeftOutRows, ListRow, MouseRow, NearestRow, NoRow, PatternRow, StringsRow, TextRow};
+ghost use Rattle.hwdb_device.specs.RecordLaws.{IsOfModel, IsOfNumbers, OutlivesBios, OutlivesPort, of_machines};
+ghost use Rattle.hwdb_device.specs.RecordRows.{KeysRow, MachineRows, MouseRow, NumberRows, OtherRows, PatternRow};
+ghost use Rattle.hwdb_device.specs.Rows.{ClosestRow, JsonRow, LeftOutRows, ListRow, NearestRow, NoRow, StringsRow, TextRow};
 ghost use Rattle.hwdb_device.specs.AskedRows.{ErrorRows, FormRows, LinkRows, MissingRows};
 
 use hwdb_near::patterns_are_of_files;
@@ -23,18 +26,38 @@ pub fn text_is_of_files()
     same_answers_same_text();
 }
 
-/// The pattern of a record to begin with matches its string.
+/// A pattern for a text matches it. So does the pattern of a record its string, of each device and on each machine.
 pub fn pattern_is_matched()
-    ensures matches { (text : List ℕ) → is_match text (DeviceTexts.pattern_for text) ≡ true }
+    ensures bytes { (text : List ℕ) → is_match text (pattern_for text) ≡ true }
+    ensures lasting { (machine text : List ℕ) → is_match text (lasting machine text) ≡ true }
 {}
 
-/// Worked rows: what is printed of a keyboard and of a mouse.
+/// The pattern of a record matches the string of the same device in another port and of another release, and with another BIOS.
+pub fn pattern_outlives()
+    ensures port { AllByRecursion OutlivesPort numbered }
+    ensures bios { AllByRecursion OutlivesBios of_machines }
+{}
+
+/// It matches no device with another vendor or product, and none on a machine of another vendor or model.
+pub fn pattern_is_of_one()
+    ensures numbers { AllByRecursion IsOfNumbers numbered }
+    ensures model { AllByRecursion IsOfModel of_machines }
+{}
+
+/// Worked rows: patterns for strings, and the records of devices.
+pub fn record_rows()
+    ensures pattern { PatternRow }
+    ensures numbers { NumberRows }
+    ensures machine { MachineRows }
+    ensures keys { KeysRow }
+    ensures mouse { MouseRow }
+    ensures other { OtherRows }
+{}
+
+/// Worked rows: what is printed of a keyboard.
 pub fn device_rows()
     ensures text { TextRow }
     ensures strings { StringsRow }
-    ensures keys { KeysRow }
-    ensures mouse { MouseRow }
-    ensures pattern { PatternRow }
     ensures list { ListRow }
     ensures none { NoRow }
 {}

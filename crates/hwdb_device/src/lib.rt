@@ -6,6 +6,8 @@
 //! |---|---|
 //! | `printing` | what is printed of a device |
 //! | `nearest` | what is near to strings that get nothing |
+//! | `records` | records to begin with, and which strings they are for |
+//! | `lasting` | a pattern that outlives another port and another BIOS |
 //! | `row` | the line of a device in a list |
 #![tactic(auto)]
 
@@ -14,6 +16,7 @@ mod found;
 mod gifts;
 mod json_lines;
 mod kinds;
+mod lasting;
 mod laws;
 mod nearest;
 mod outcomes;
@@ -26,8 +29,8 @@ mod told;
 
 pub use hwdb_spec_commands::DeviceForm;
 pub use laws::{
-    asked_rows, device_rows, pattern_is_matched, same_answers_same_text, text_is_of_files,
-    text_rows,
+    asked_rows, device_rows, pattern_is_matched, pattern_is_of_one, pattern_outlives, record_rows,
+    same_answers_same_text, text_is_of_files, text_rows,
 };
 pub use printing::device_text;
 pub use row::device_row;

@@ -1,7 +1,9 @@
 //! What is printed of a device.
 ghost use Rattle.std.specs.Prelude.{◌≡◌, ◌++◌, IfOk};
+ghost use Rattle.hwdb_spec_commands.specs.DeviceRecords.{records_text};
 ghost use Rattle.hwdb_spec_commands.specs.DeviceTexts;
 ghost use Rattle.hwdb_spec_commands.specs.NearAsked.{database_patterns};
+ghost use Rattle.hwdb_spec_commands.specs.Sysfs.{cut_short};
 ghost use Rattle.hwdb_sysfs.specs.Views.{device_of};
 ghost use Rattle.hwdb_device.specs.Views.{all_found};
 
@@ -9,10 +11,11 @@ use crate::asking::lookups;
 use crate::found::Found;
 use crate::json_lines::lookups_json;
 use crate::nearest::push_nearest;
-use crate::records::record_text;
+use crate::records::records_text;
 use crate::strings::strings_text;
-use crate::texts::lookups_text;
+use crate::texts::{lookups_text, subsystem_of};
 use hwdb_reader::Db;
+use hwdb_rules::machine_text;
 use hwdb_spec_commands::DeviceForm;
 use hwdb_sysfs::Device;
 use std::alloc::{AllocError, Global};
@@ -34,6 +37,16 @@ fn whole_text(
     Ok(text)
 }
 
+/// The records to begin with.
+fn records(alloc: Global, device: &Device, found: &[Found<'_>]) -> Result<Vec<u8>, AllocError>
+    ensures { IfOk result (λ text. text.items
+        ≡ records_text (DeviceTexts.subsystem_of (device_of device.now).chain)
+        (cut_short device.now.machine.items) (all_found found.now)) }
+{
+    let machine = machine_text(alloc, device)?;
+    records_text(alloc, subsystem_of(device), &machine, found)
+}
+
 /// What is printed of strings that are asked for a device.
 fn found_form(
     alloc: Global,
@@ -49,7 +62,7 @@ fn found_form(
         DeviceForm::Lookups => whole_text(alloc, db, device, found),
         DeviceForm::Strings => strings_text(alloc, found),
         DeviceForm::Json => lookups_json(alloc, device, found),
-        DeviceForm::Pattern => record_text(alloc, found),
+        DeviceForm::Pattern => records(alloc, device, found),
     }
 }
 

@@ -1,102 +1,295 @@
-//! A record to begin with: a pattern for a device, and which properties people set there.
-ghost use Rattle.std.specs.Prelude.{◌≡◌, ◌++◌, option_map, IfOk, OnOk};
-ghost use Rattle.hwdb_spec_commands.specs.DeviceTexts;
+//! Records to begin with: a pattern for each prefix at which people set properties of a device, and these properties.
+ghost use Rattle.std.specs.Prelude.{◌≡◌, ◌++◌, codes, option_map, IfOk, OnOk};
+ghost use Rattle.std.specs.Option.{option_or};
+ghost use Rattle.hwdb_spec_commands.specs.DeviceRecords;
 ghost use Rattle.hwdb_device.specs.Views.{all_found};
 
 use crate::found::Found;
+use crate::lasting::push_lasting;
+use crate::told::same;
 use std::alloc::{AllocError, Global};
 
-/// The byte of a pattern for a byte of a text.
-fn pattern_byte(byte: u8) -> u8
-    ensures { result ≡ DeviceTexts.pattern_byte byte }
+/// The first string that begins so. It calls itself once for each string before it.
+#[tactic(auto, using(crate::proofs::StringLemmas::string_here, crate::proofs::StringLemmas::string_later, crate::proofs::StringLemmas::no_string))]
+fn first_string<'f>(start: &[u8], found: &'f [Found<'_>]) -> Option<&'f [u8]>
+    ensures { option_map (λ s. s.now) result
+        ≡ DeviceRecords.first_string start.now (all_found found.now) }
 {
-    match byte {
-        b'*' | b'?' | b'[' | b'\\' | b'#' => b'?',
-        _ => byte,
+    let Some((first, more)) = found.split_first() else {
+        return None;
+    };
+    if first.text.starts_with(start) {
+        return Some(&first.text);
+    }
+    first_string(start, more)
+}
+
+/// The first string that begins in one way, or else the first that begins in another.
+fn first_of_two<'f>(start: &[u8], other: &[u8], found: &'f [Found<'_>]) -> Option<&'f [u8]>
+    ensures { option_map (λ s. s.now) result
+        ≡ option_or (DeviceRecords.first_string start.now (all_found found.now))
+        (DeviceRecords.first_string other.now (all_found found.now)) }
+{
+    match first_string(start, found) {
+        Some(text) => Some(text),
+        None => first_string(other, found),
     }
 }
 
-/// Adds a pattern for a text. The only error, here and below, is `AllocError`.
-fn push_pattern(made: &mut Vec<u8>, text: &[u8]) -> Result<(), AllocError>
-    ensures { OnOk result
-        (made.new.items ≡ made.old.items ++ DeviceTexts.pattern_for text.now) }
+/// The string that names a keyboard, a touchpad or a stick.
+fn keys_string<'f>(found: &'f [Found<'_>]) -> Option<&'f [u8]>
+    ensures { option_map (λ s. s.now) result ≡ DeviceRecords.keys_string (all_found found.now) }
 {
-    for byte in text {
-        made.push(pattern_byte(*byte))?;
+    match first_of_two(b"evdev:input:b0003v", b"evdev:input:b0005v", found) {
+        Some(text) => Some(text),
+        None => first_of_two(b"evdev:atkbd:", b"evdev:name:", found),
     }
-    Ok(())
 }
 
-/// The properties that people set at a pattern for a string, by what it begins with.
-fn settings(text: &[u8]) -> Option<&'static [u8]>
-    ensures { option_map (λ s. s.now) result ≡ DeviceTexts.settings text.now }
+/// The string by which an input device on USB or Bluetooth is taken for one of some kind.
+fn kind_string<'f>(found: &'f [Found<'_>]) -> Option<&'f [u8]>
+    ensures { option_map (λ s. s.now) result ≡ DeviceRecords.kind_string (all_found found.now) }
 {
-    if text.starts_with(b"evdev:") {
-        Some(
-            b"# KEYBOARD_KEY_<scan code>=<key name>\n# EVDEV_ABS_<axis>=<min>:<max>:<resolution>\n",
-        )
-    } else if text.starts_with(b"sensor:") {
-        Some(b"# ACCEL_MOUNT_MATRIX=<x1>, <y1>, <z1>; <x2>, <y2>, <z2>; <x3>, <y3>, <z3>\n")
-    } else if text.starts_with(b"mouse:") {
-        Some(b"# MOUSE_DPI=<dpi>@<hz>\n# MOUSE_WHEEL_CLICK_ANGLE=<degrees>\n")
-    } else if text.starts_with(b"touchpad:") {
-        Some(b"# ID_INPUT_TOUCHPAD_INTEGRATION=<internal or external>\n")
-    } else if text.starts_with(b"joystick:") {
-        Some(b"# ID_INPUT_JOYSTICK_INTEGRATION=<internal or external>\n")
+    let usb = b"id-input:modalias:input:b0003v";
+    let bluetooth = b"id-input:modalias:input:b0005v";
+    first_of_two(usb, bluetooth, found)
+}
+
+/// The string of a device that may sleep, by its subsystem.
+fn sleep_string<'f>(subsystem: &[u8], found: &'f [Found<'_>]) -> Option<&'f [u8]>
+    ensures { option_map (λ s. s.now) result
+        ≡ DeviceRecords.sleep_string subsystem.now (all_found found.now) }
+{
+    if same(subsystem, b"usb") {
+        first_string(b"usb:v", found)
+    } else if same(subsystem, b"pci") {
+        first_string(b"pci:v", found)
     } else {
         None
     }
 }
 
-/// A pattern for a string, and what is set there.
-fn record_with(alloc: Global, text: &[u8], properties: &[u8]) -> Result<Vec<u8>, AllocError>
-    ensures { IfOk result
-        (λ made. made.items ≡ DeviceTexts.record_with text.now properties.now) }
+/// Adds the pattern for a string, what is set there, and an empty line. The only error, here and below, is `AllocError`.
+fn push_record(
+    alloc: Global,
+    made: &mut Vec<u8>,
+    machine: &[u8],
+    properties: &[u8],
+    text: &[u8],
+) -> Result<(), AllocError>
+    ensures { OnOk result (made.new.items ≡ made.old.items
+        ++ DeviceRecords.record_with machine.now properties.now text.now) }
 {
-    let mut made = Vec::new(alloc);
-    push_pattern(&mut made, text)?;
+    push_lasting(alloc, made, machine, text)?;
     made.push(b'\n')?;
     made.extend_from_slice(properties)?;
+    made.push(b'\n')?;
+    Ok(())
+}
+
+/// Adds the record at a string, if there is one.
+fn push_record_at(
+    alloc: Global,
+    made: &mut Vec<u8>,
+    machine: &[u8],
+    properties: &[u8],
+    string: Option<&[u8]>,
+) -> Result<(), AllocError>
+    ensures { OnOk result (made.new.items ≡ made.old.items
+        ++ DeviceRecords.record_at machine.now properties.now
+        (option_map (λ s. s.now) string.entry)) }
+{
+    match string {
+        Some(text) => push_record(alloc, made, machine, properties, text),
+        None => Ok(()),
+    }
+}
+
+/// Adds the record of keys and axes.
+fn push_keys(
+    alloc: Global,
+    made: &mut Vec<u8>,
+    machine: &[u8],
+    found: &[Found<'_>],
+) -> Result<(), AllocError>
+    ensures { OnOk result (made.new.items ≡ made.old.items
+        ++ DeviceRecords.record_at machine.now DeviceRecords.keys_properties
+        (DeviceRecords.keys_string (all_found found.now))) }
+{
+    let keys =
+        b"# KEYBOARD_KEY_<scan code>=<key name>\n# EVDEV_ABS_<axis>=<min>:<max>:<resolution>\n# POINTINGSTICK_SENSITIVITY=<0 to 255>\n";
+    push_record_at(alloc, made, machine, keys, keys_string(found))
+}
+
+/// Adds the record of the kind of an input device.
+fn push_kind(
+    alloc: Global,
+    made: &mut Vec<u8>,
+    machine: &[u8],
+    found: &[Found<'_>],
+) -> Result<(), AllocError>
+    ensures { OnOk result (made.new.items ≡ made.old.items
+        ++ DeviceRecords.record_at machine.now DeviceRecords.kind_properties
+        (DeviceRecords.kind_string (all_found found.now))) }
+{
+    let kind = b"# ID_INPUT_<kind, as JOYSTICK>=<0 or 1>\n";
+    push_record_at(alloc, made, machine, kind, kind_string(found))
+}
+
+/// Adds the record of a mouse.
+fn push_mouse(
+    alloc: Global,
+    made: &mut Vec<u8>,
+    machine: &[u8],
+    found: &[Found<'_>],
+) -> Result<(), AllocError>
+    ensures { OnOk result (made.new.items ≡ made.old.items
+        ++ DeviceRecords.record_at machine.now DeviceRecords.mouse_properties
+        (DeviceRecords.first_string (codes "mouse:") (all_found found.now))) }
+{
+    let mouse = b"# MOUSE_DPI=<dpi>@<hz>\n# MOUSE_WHEEL_CLICK_ANGLE=<degrees>\n";
+    push_record_at(alloc, made, machine, mouse, first_string(b"mouse:", found))
+}
+
+/// Adds the record of a touchpad.
+fn push_touchpad(
+    alloc: Global,
+    made: &mut Vec<u8>,
+    machine: &[u8],
+    found: &[Found<'_>],
+) -> Result<(), AllocError>
+    ensures { OnOk result (made.new.items ≡ made.old.items
+        ++ DeviceRecords.record_at machine.now DeviceRecords.touchpad_properties
+        (DeviceRecords.first_string (codes "touchpad:") (all_found found.now))) }
+{
+    let touchpad = b"# ID_INPUT_TOUCHPAD_INTEGRATION=<internal or external>\n";
+    push_record_at(
+        alloc,
+        made,
+        machine,
+        touchpad,
+        first_string(b"touchpad:", found),
+    )
+}
+
+/// Adds the record of a joystick.
+fn push_joystick(
+    alloc: Global,
+    made: &mut Vec<u8>,
+    machine: &[u8],
+    found: &[Found<'_>],
+) -> Result<(), AllocError>
+    ensures { OnOk result (made.new.items ≡ made.old.items
+        ++ DeviceRecords.record_at machine.now DeviceRecords.joystick_properties
+        (DeviceRecords.first_string (codes "joystick:") (all_found found.now))) }
+{
+    let joystick = b"# ID_INPUT_JOYSTICK_INTEGRATION=<internal or external>\n";
+    push_record_at(
+        alloc,
+        made,
+        machine,
+        joystick,
+        first_string(b"joystick:", found),
+    )
+}
+
+/// Adds the records of input devices.
+fn push_inputs(
+    alloc: Global,
+    made: &mut Vec<u8>,
+    machine: &[u8],
+    found: &[Found<'_>],
+) -> Result<(), AllocError>
+    ensures { OnOk result (made.new.items
+        ≡ made.old.items ++ DeviceRecords.input_records machine.now (all_found found.now)) }
+{
+    push_keys(alloc, made, machine, found)?;
+    push_kind(alloc, made, machine, found)?;
+    push_mouse(alloc, made, machine, found)?;
+    push_touchpad(alloc, made, machine, found)?;
+    push_joystick(alloc, made, machine, found)
+}
+
+/// Adds the record of a sensor.
+fn push_sensor(
+    alloc: Global,
+    made: &mut Vec<u8>,
+    machine: &[u8],
+    found: &[Found<'_>],
+) -> Result<(), AllocError>
+    ensures { OnOk result (made.new.items ≡ made.old.items
+        ++ DeviceRecords.record_at machine.now DeviceRecords.sensor_properties
+        (DeviceRecords.first_string (codes "sensor:") (all_found found.now))) }
+{
+    let sensor = b"# ACCEL_MOUNT_MATRIX=<x1>, <y1>, <z1>; <x2>, <y2>, <z2>; <x3>, <y3>, <z3>\n";
+    push_record_at(
+        alloc,
+        made,
+        machine,
+        sensor,
+        first_string(b"sensor:", found),
+    )
+}
+
+/// Adds the record of a device that may sleep.
+fn push_sleep(
+    alloc: Global,
+    made: &mut Vec<u8>,
+    subsystem: &[u8],
+    machine: &[u8],
+    found: &[Found<'_>],
+) -> Result<(), AllocError>
+    ensures { OnOk result (made.new.items ≡ made.old.items
+        ++ DeviceRecords.record_at machine.now DeviceRecords.sleep_properties
+        (DeviceRecords.sleep_string subsystem.now (all_found found.now))) }
+{
+    let sleep = b"# ID_AUTOSUSPEND=<0 or 1>\n# ID_AUTOSUSPEND_DELAY_MS=<milliseconds>\n";
+    push_record_at(alloc, made, machine, sleep, sleep_string(subsystem, found))
+}
+
+/// The records of all prefixes at which people set properties of the device.
+fn set_records(
+    alloc: Global,
+    subsystem: &[u8],
+    machine: &[u8],
+    found: &[Found<'_>],
+) -> Result<Vec<u8>, AllocError>
+    ensures { IfOk result (λ made. made.items
+        ≡ DeviceRecords.set_records subsystem.now machine.now (all_found found.now)) }
+{
+    let mut made = Vec::new(alloc);
+    push_inputs(alloc, &mut made, machine, found)?;
+    push_sensor(alloc, &mut made, machine, found)?;
+    push_sleep(alloc, &mut made, subsystem, machine, found)?;
     Ok(made)
 }
 
-/// The record of a string that people set properties for; of any other string what was before.
-fn record_or(alloc: Global, before: Vec<u8>, text: &[u8]) -> Result<Vec<u8>, AllocError>
-    ensures { IfOk result (λ made. made.items ≡ DeviceTexts.record_or before.items text.now) }
-{
-    match settings(text) {
-        Some(properties) => record_with(alloc, text, properties),
-        None => Ok(before),
-    }
-}
-
-/// The record of the last string that people set properties for; if there is none what was before.
-#[tactic(auto, unfolding(hwdb_spec_commands::specs::DeviceTexts::record_after))]
-fn record_after(alloc: Global, before: Vec<u8>, found: &[Found<'_>]) -> Result<Vec<u8>, AllocError>
-    ensures { IfOk result (λ made. made.items
-        ≡ DeviceTexts.record_after before.items (all_found found.now)) }
-{
-    let Some((first, more)) = found.split_first() else {
-        return Ok(before);
-    };
-    let next = record_or(alloc, before, &first.text)?;
-    record_after(alloc, next, more)
-}
-
 /// The record of the first string, for any property.
-fn first_record(alloc: Global, found: &[Found<'_>]) -> Result<Vec<u8>, AllocError>
-    ensures { IfOk result (λ made. made.items ≡ DeviceTexts.first_record (all_found found.now)) }
+fn first_record(alloc: Global, machine: &[u8], found: &[Found<'_>]) -> Result<Vec<u8>, AllocError>
+    ensures { IfOk result
+        (λ made. made.items ≡ DeviceRecords.first_record machine.now (all_found found.now)) }
 {
-    match found.split_first() {
-        Some((first, _more)) => record_with(alloc, &first.text, b"# <KEY>=<value>\n"),
-        None => Ok(Vec::new(alloc)),
-    }
+    let mut made = Vec::new(alloc);
+    let Some((first, _more)) = found.split_first() else {
+        return Ok(made);
+    };
+    push_record(alloc, &mut made, machine, b"# <KEY>=<value>\n", &first.text)?;
+    Ok(made)
 }
 
-/// What `--pattern` prints.
-pub(crate) fn record_text(alloc: Global, found: &[Found<'_>]) -> Result<Vec<u8>, AllocError>
-    ensures { IfOk result (λ made. made.items ≡ DeviceTexts.record_text (all_found found.now)) }
+/// What `--pattern` prints of the strings of a device, by its subsystem and the machine's name.
+pub(crate) fn records_text(
+    alloc: Global,
+    subsystem: &[u8],
+    machine: &[u8],
+    found: &[Found<'_>],
+) -> Result<Vec<u8>, AllocError>
+    ensures { IfOk result (λ made. made.items
+        ≡ DeviceRecords.records_text subsystem.now machine.now (all_found found.now)) }
 {
-    let first = first_record(alloc, found)?;
-    record_after(alloc, first, found)
+    let made = set_records(alloc, subsystem, machine, found)?;
+    if made.is_empty() {
+        return first_record(alloc, machine, found);
+    }
+    Ok(made)
 }

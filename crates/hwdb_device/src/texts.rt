@@ -146,7 +146,7 @@ fn push_results(text: &mut Vec<u8>, outcomes: &[Outcome<'_>]) -> Result<(), Allo
 }
 
 /// The subsystem of a device.
-fn subsystem_of(device: &Device) -> &[u8]
+pub(crate) fn subsystem_of(device: &Device) -> &[u8]
     ensures { result.now ≡ DeviceTexts.subsystem_of (device_of device.now).chain }
 {
     match device.chain.split_first() {

@@ -91,7 +91,7 @@ TextRows =
     device_text form.Lookups card some_tree ∷ device_text form.Strings card some_tree ∷ device_text form.Json card some_tree ∷ device_text form.Pattern card some_tree ∷ []
     ≡ some_text ∷ codes "pci:v1\n"
     ∷ codes "{\"rule\":\"50-udev-default\",\"device\":\"pci:v1\",\"path\":\"/devices/card\",\"properties\":{\"K\":\"1\"}}\n{\"path\":\"/devices/card\",\"result\":{\"K\":\"1\"}}\n"
-    ∷ codes "pci:v1\n# <KEY>=<value>\n" ∷ []
+    ∷ codes "pci:v1*\n# ID_AUTOSUSPEND=<0 or 1>\n# ID_AUTOSUSPEND_DELAY_MS=<milliseconds>\n\n" ∷ []
 
 abbrev pub FileRows : Type 0
 FileRows = files_device_text form.Lookups card some_file [] ≡ some_text

@@ -1,7 +1,6 @@
 -- What `device` prints of a device: the strings that udev asks for it, and what a database gives each. Then the properties that the
 -- device has in the end. The command and its forms are our choice.
-use Rattle.std.specs.Prelude.{Bool, true, ℕ, List, [], ◌∷◌, ◌++◌, ◌==◌, Option, None, Some, codes, filter, flat_map, get_or, if◌then◌else◌, map, nat_eq, not, option_map, reverse}
-use Rattle.std.specs.List.{starts_with}
+use Rattle.std.specs.Prelude.{Bool, ℕ, List, [], ◌∷◌, ◌++◌, Option, None, codes, filter, flat_map, get_or, if◌then◌else◌, map, not, option_map, reverse}
 use Rattle.std.specs.Option.{option_map_or, option_or}
 use Rattle.json.specs.Json.{Json}
 use Rattle.hwdb_spec_commands.specs.declared.devices.DeviceForm.{DeviceForm}
@@ -10,13 +9,14 @@ use Rattle.hwdb_spec.specs.Answers.{last_assignments}
 use Rattle.hwdb_spec.specs.Assignment.{Assignment, in_order, text_cmp}
 use Rattle.hwdb_spec.specs.Explanations.{explained, explanations_text}
 use Rattle.hwdb_spec.specs.Folders.{Source, all_assignments, same}
+use Rattle.hwdb_spec_commands.specs.DeviceRecords.{records_text}
 use Rattle.hwdb_spec_commands.specs.Json.{has_name, json_line, object_of, property_member, raw_members, text_json}
 use Rattle.hwdb_spec.specs.Lines.{byte, is_none}
 use Rattle.hwdb_spec_commands.specs.Near.{PatternAt}
 use Rattle.hwdb_spec_commands.specs.NearAsked.{database_patterns}
 use Rattle.hwdb_spec_commands.specs.NearPrefixes.{files_patterns, prefix_report}
 use Rattle.hwdb_spec_commands.specs.Lookups.{Found, Told, first_value, lookups}
-use Rattle.hwdb_spec_commands.specs.Sysfs.{Ancestor, At, Device, attribute_text, first_of, has_text}
+use Rattle.hwdb_spec_commands.specs.Sysfs.{Ancestor, At, Device, attribute_text, cut_short, first_of, has_text}
 use Rattle.hwdb_spec.specs.Texts.{property_text}
 use Rattle.hwdb_spec.specs.Visible.{shown_name}
 use Rattle.hwdb_spec.specs.Tree.{Tree, answers}
@@ -173,81 +173,6 @@ result_json d properties = object_of ((codes "path", text_json (path_at d 0)) �
 abbrev pub lookups_json : Device → List Found → List ℕ
 lookups_json d found = flat_map (λ f. json_line (found_json d f)) found ++ json_line (result_json d (result_of (all_gifts found)))
 
--- ---- a record to begin with
-
--- the bytes that aren't themselves in a pattern of a text file (hwdb(7), and the `\` of fnmatch(3))
-abbrev pub is_special : ℕ → Bool
-is_special b =
-    if b == byte "*" then true
-    else (if b == byte "?" then true else (if b == byte "[" then true else (if b == byte "\\" then true else b == byte "#")))
-
--- a byte of a pattern for a text
-abbrev pub pattern_byte : ℕ → ℕ
-pattern_byte b = if is_special b then byte "?" else b
-
--- a pattern for a text: as many bytes, and one that is special is any one byte
-abbrev pub pattern_for : List ℕ → List ℕ
-pattern_for text = map pattern_byte text
-
--- what is set at a pattern of any other prefix
-abbrev pub any_property : List ℕ
-any_property = codes "# <KEY>=<value>\n"
-
--- the properties that are set at a pattern of keys (60-keyboard.hwdb, 60-evdev.hwdb)
-abbrev pub key_properties : List ℕ
-key_properties = codes "# KEYBOARD_KEY_<scan code>=<key name>\n# EVDEV_ABS_<axis>=<min>:<max>:<resolution>\n"
-
--- those at a pattern of sensors (60-sensor.hwdb)
-abbrev pub sensor_properties : List ℕ
-sensor_properties = codes "# ACCEL_MOUNT_MATRIX=<x1>, <y1>, <z1>; <x2>, <y2>, <z2>; <x3>, <y3>, <z3>\n"
-
--- those at a pattern of mice (70-mouse.hwdb)
-abbrev pub mouse_properties : List ℕ
-mouse_properties = codes "# MOUSE_DPI=<dpi>@<hz>\n# MOUSE_WHEEL_CLICK_ANGLE=<degrees>\n"
-
--- those at a pattern of touchpads (70-touchpad.hwdb)
-abbrev pub touchpad_properties : List ℕ
-touchpad_properties = codes "# ID_INPUT_TOUCHPAD_INTEGRATION=<internal or external>\n"
-
--- those at a pattern of joysticks (70-joystick.hwdb)
-abbrev pub joystick_properties : List ℕ
-joystick_properties = codes "# ID_INPUT_JOYSTICK_INTEGRATION=<internal or external>\n"
-
--- whether a text begins with another
-abbrev pub begins : List ℕ → List ℕ → Bool
-begins start text = starts_with nat_eq text start
-
--- the properties that people set at a pattern for a string, by what it begins with
-abbrev pub settings : List ℕ → Option (List ℕ)
-settings text =
-    if begins (codes "evdev:") text then Some key_properties
-    else (if begins (codes "sensor:") text then Some sensor_properties
-    else (if begins (codes "mouse:") text then Some mouse_properties
-    else (if begins (codes "touchpad:") text then Some touchpad_properties
-    else (if begins (codes "joystick:") text then Some joystick_properties else None))))
-
--- a pattern for a string, and what is set there
-abbrev pub record_with : (text properties : List ℕ) → List ℕ
-record_with text properties = line_of (pattern_for text) ++ properties
-
--- the record of a string that people set properties for; of any other string what was before
-abbrev pub record_or : (before text : List ℕ) → List ℕ
-record_or before text = option_map_or (record_with text) (settings text) before
-
--- the record of the last string that people set properties for; if there is none what was before
-unfoldable pub record_after : (before : List ℕ) → List Found → List ℕ
-record_after before [] = before
-record_after before (f ∷ more) = record_after (record_or before f.text) more
-
--- the record of the first string, for any property
-abbrev pub first_record : List Found → List ℕ
-first_record [] = []
-first_record (f ∷ more) = record_with f.text any_property
-
--- What `--pattern` prints. Later rules files ask for a kind of device, and the last string of 60-evdev has the most parts.
-abbrev pub record_text : List Found → List ℕ
-record_text found = record_after (first_record found) found
-
 -- ---- what is near to strings that get nothing
 
 -- the prefixes of strings that people set properties for (60-keyboard.hwdb, 60-sensor.hwdb, 70-mouse.hwdb, 70-touchpad.hwdb,
@@ -283,7 +208,7 @@ abbrev pub found_form : DeviceForm → Device → List PatternAt → List Found 
 found_form form.Lookups d patterns found = lookups_text d found ++ nearest_text patterns found
 found_form form.Strings d patterns found = strings_text found
 found_form form.Json d patterns found = lookups_json d found
-found_form form.Pattern d patterns found = record_text found
+found_form form.Pattern d patterns found = records_text (subsystem_of d.chain) (cut_short d.machine) found
 
 -- what `device` prints of a device, over a database
 abbrev pub device_text : DeviceForm → Device → Tree → List ℕ

@@ -41,6 +41,7 @@ pub mod Wanted
 pub mod Colours
 pub mod Inputs
 pub mod Lookups
+pub mod DeviceRecords
 pub mod DeviceTexts
 pub mod DeviceAsked
 pub mod CommandLine
