@@ -5,6 +5,7 @@ pub mod Asking
 pub mod Input
 pub mod Files
 pub mod Folders
+pub mod GivenFolders
 pub mod Verify
 pub mod Dump
 pub mod Answers
@@ -12,5 +13,6 @@ pub mod List
 pub mod Ask
 pub mod Test
 pub mod Near
+pub mod Check
 pub mod Put
 pub mod Lemmas

@@ -12,7 +12,8 @@
 //! | `Input` | standard input, in place of a path that words give |
 //! | `Files` | files that are read one after another, as the front of a plan |
 //! | `Folders` | the text files of both folders, as the front of a plan |
-//! | `Verify`, `Dump`, `Test`, `Near` | the plans of these commands |
+//! | `GivenFolders` | what given paths mean: themselves, or the text files of their folders |
+//! | `Verify`, `Dump`, `Test`, `Near`, `Check` | the plans of these commands |
 //! | `Answers` | those of `query` and `explain`, also of devices of standard input |
 //! | `List`, `Ask` | those of `list` and `ask` |
 //! | `Put` | the end of `update`'s |
