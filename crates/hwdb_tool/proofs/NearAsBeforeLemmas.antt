@@ -26,7 +26,7 @@ use Rattle.hwdb_tool.proofs.AsBeforeLemmas.{LeadsOr, leads, memory_unnamed, over
 use Rattle.hwdb_tool.proofs.FilesAsBeforeLemmas.{FilesLead, files_lead}
 use Rattle.hwdb_tool.proofs.GivenLemmas.{pathless_reason}
 
-some_are : (path : List ℕ) (more : List (List ℕ)) (b : Bool) → (length (path ∷ more) == 0) ≡ b → b ≡ false
+pub some_are : (path : List ℕ) (more : List (List ℕ)) (b : Bool) → (length (path ∷ more) == 0) ≡ b → b ≡ false
 some_are path more true is = absurd (let e = eqb-true (length (path ∷ more)) 0 is in omega (arith, e))
 some_are path more false is = refl
 

@@ -3,17 +3,19 @@ use Rattle.std.specs.Prelude.{◌∷◌, ◌≡◌, ◌≤◌, ℕ, Bool, List, 
 use Rattle.std.specs.Str.{bytes_eq}
 use Rattle.hwdb_spec.specs.Outputs.{TookOne}
 use Rattle.hwdb_spec_commands.specs.Asked.{IsAnswered, IsDumped, IsListFrom, IsPrinted, database_path}
+use Rattle.hwdb_spec_commands.specs.CheckedFiles.{AreCheckedFiles, IsChecked}
 use Rattle.hwdb_spec_commands.specs.Databases.{IsSummary}
 use Rattle.hwdb_spec_commands.specs.Done.{IsAsked}
 use Rattle.hwdb_spec_commands.specs.Given.{is_dash, is_input}
 use Rattle.hwdb_spec_commands.specs.Queries.{AreDone, AreUnanswered}
 use Rattle.hwdb_spec_commands.specs.Reasons.{HasAskedReason, HasGivenReason, HasFilesReason}
 use Rattle.hwdb_spec_commands.specs.Refusals.{HasReason}
-use Rattle.hwdb_spec_commands.specs.Undone.{IsAskRefused, IsListRefused}
+use Rattle.hwdb_spec_commands.specs.Undone.{AreUncheckable, IsAskRefused, IsCheckRefused, IsListRefused}
 use Rattle.hwdb_spec_commands.specs.declared.form.Form.{Form}
 use Rattle.hwdb_spec_commands.specs.declared.form.Form.TheVariants.{Explain, Query}
 use Rattle.hwdb_spec_commands.specs.Near.{PatternAt}
 use Rattle.hwdb_spec_commands.specs.NearAsked.{IsNear}
+use Rattle.hwdb_spec_program.specs.CheckedReasons.{HasCheckedReason}
 use Rattle.hwdb_spec_program.specs.GivenDatabases.{HasDatabaseReason, OfNamed}
 use Rattle.hwdb_spec_program.specs.NearErrors.{IsNearRefused}
 use Rattle.hwdb_spec_program.specs.TestErrors.{HasTestReason, IsTestRefused}
@@ -26,6 +28,7 @@ use Rattle.hwdb_spec_commands.specs.Told.{Reads}
 use Rattle.hwdb_spec_commands.specs.declared.refusals.Refusal.{Refusal}
 use Rattle.hwdb_plan.specs.Answers.{explain_plan, query_plan}
 use Rattle.hwdb_plan.specs.Ask.{ask_plan}
+use Rattle.hwdb_plan.specs.Check.{check_plan, said_of}
 use Rattle.hwdb_plan.specs.Dump.{dump_plan}
 use Rattle.hwdb_plan.specs.Ended.{Outs, ShowsEnd}
 use Rattle.hwdb_plan.specs.Input.{OverGiven, OverNamed}
@@ -107,3 +110,12 @@ NearAsBefore w seen MayFail = (input : Option (List ℕ)) (before now : ℕ) (ro
     → OfInput input before now (λ told. Follows end_of w (near_plan told given root form) result)
     → IfOk result (λ a. (a.status ≡ 0) × OnOut (IsNear given root form input seen) (texts_in a))
     × IfErr result (IsNearRefused given root seen) × IfErr result (HasFilesReason (not (length given == 0)) given MayFail seen input before now)
+
+-- the text and the status are those of the text files that the words mean, or of those of both folders; an error is one of `check`, and
+-- what it says is so
+abbrev pub CheckAsBefore : Reads → Contents → (MayFail : (path : List ℕ) → Type 0) → Type 0
+CheckAsBefore w seen MayFail = (input : Option (List ℕ)) (before now : ℕ) (root : List ℕ) (json strict : Bool) (allowed given : List (List ℕ)) (result : Result Answer Refusal)
+    → OfInput input before now (λ told. Follows end_of w (check_plan told given root (said_of json strict allowed)) result)
+    → IfOk result (λ a. OnOut (λ text. IsChecked (AreCheckedFiles given root input seen) json strict allowed text a.status) (texts_in a))
+    × IfErr result (IsCheckRefused (AreUncheckable given root seen) (AreCheckedFiles given root input seen))
+    × IfErr result (HasCheckedReason (not (length given == 0)) MayFail seen input before now given)

@@ -1,5 +1,5 @@
 //! What follows a plan keeps the older promises of its command. Each function does nothing: its contract is the law.
-ghost use Rattle.hwdb_tool.specs.AsBefore.{AskAsBefore, DumpAsBefore, ExplainAsBefore, ListAsBefore, QueryAsBefore, TextShowsOver, VerifyAsBefore, NearAsBefore, TestAsBefore};
+ghost use Rattle.hwdb_tool.specs.AsBefore.{AskAsBefore, CheckAsBefore, DumpAsBefore, ExplainAsBefore, ListAsBefore, QueryAsBefore, TextShowsOver, VerifyAsBefore, NearAsBefore, TestAsBefore};
 
 use hwdb_plan::{only_asked_matters, over_is_over};
 use hwdb_system::System;
@@ -57,5 +57,11 @@ pub fn test_as_before<D: System>(system: &D)
 /// What follows the plan of `near` keeps those of `near`.
 pub fn near_as_before<D: System>(system: &D)
     ensures { D.Store.tells → NearAsBefore (D.System.reads system.now)
+        (D.Store.seen system.now) (D.System.may_fail system.now) }
+{}
+
+/// What follows the plan of `check` keeps those of `check`.
+pub fn check_as_before<D: System>(system: &D)
+    ensures { D.Store.tells → CheckAsBefore (D.System.reads system.now)
         (D.Store.seen system.now) (D.System.may_fail system.now) }
 {}

@@ -6,7 +6,12 @@ ghost use Rattle.hwdb_spec.specs.Folders.{Source, path_of};
 ghost use Rattle.hwdb_text.specs.Views.{choice_of};
 ghost use Rattle.hwdb_spec_commands.specs.Refusals.{HasReason};
 ghost use Rattle.hwdb_spec_commands.specs.CheckedFiles.{AreCheckedFiles, AreChosenFiles, AreGivenFiles, AreNamedFiles, IsChecked};
+ghost use Rattle.hwdb_plan.specs.Check.{check_plan, said_of, stored};
 ghost use Rattle.hwdb_plan.specs.Files.{AreFiles, OfInput, ReachesFiles, given_files, is_word, read_files};
+ghost use Rattle.hwdb_plan.specs.Folders.{texts_of_folders};
+ghost use Rattle.hwdb_plan.specs.GivenFolders.{named_files};
+ghost use Rattle.hwdb_plan.specs.Plans.{Follows};
+ghost use Rattle.hwdb_plan.specs.Plans.Plan.{Done};
 ghost use Rattle.hwdb_tool.specs.Internal.{AreTextsGiven, AreWords};
 ghost use Rattle.hwdb_spec_program.specs.CheckedReasons.{HasCheckedReason, HasNamedReason};
 ghost use Rattle.hwdb_spec_commands.specs.GivenFolders.{IsNamedUnread};
@@ -15,7 +20,7 @@ ghost use Rattle.hwdb_spec_commands.specs.Given.{any_dash};
 ghost use Rattle.hwdb_spec.specs.Texts.{max_file};
 ghost use Rattle.hwdb_spec_commands.specs.Undone.{AreNotChecked, AreUncheckable, IsCheckRefused, IsGivenUnread};
 ghost use Rattle.hwdb_spec_commands.specs.Reading.{AreUnread};
-ghost use Rattle.hwdb_tool.specs.Views.{texts_in};
+ghost use Rattle.hwdb_tool.specs.Views.{end_of, texts_in};
 
 use crate::answer::Answer;
 use crate::given::{bytes_given, input_text};
@@ -40,6 +45,10 @@ pub fn check<D: System, I: Source>(
     system: &D,
     input: &mut I,
 ) -> Result<Answer, Refusal>
+    ensures follows { D.Store.tells → OfInput (I.left input.old) (I.failures input.old)
+        (I.failures input.new) (λ told. Follows end_of (D.System.reads system.now)
+        (check_plan told (map string_bytes given.now) root.now
+        (said_of json strict (map string_bytes allowed.now))) result) }
     ensures checked { D.Store.tells → IfOk result (λ a. OnOut (λ text. IsChecked
         (AreCheckedFiles (map string_bytes given.now) root.now (I.left input.old)
         (D.Store.seen system.now)) json strict (map string_bytes allowed.now)
@@ -70,6 +79,11 @@ fn check_named<D: System, I: Source>(
     system: &D,
     input: &mut I,
 ) -> Result<Answer, Refusal>
+    ensures follows { D.Store.tells → OfInput (I.left input.old) (I.failures input.old)
+        (I.failures input.new) (λ told. Follows end_of (D.System.reads system.now)
+        (named_files (map string_bytes given.now) [] (λ paths.
+        given_files (map string_bytes given.now) told paths (λ sources.
+        Done (said_of json strict (map string_bytes allowed.now) sources)))) result) }
     ensures checked { D.Store.tells → IfOk result (λ a. OnOut (λ text. IsChecked
         (AreNamedFiles (map string_bytes given.now) (I.left input.old) (D.Store.seen system.now))
         json strict (map string_bytes allowed.now) text a.status) (texts_in a)) }
@@ -97,6 +111,10 @@ fn check_given<D: System, I: Source>(
     system: &D,
     input: &mut I,
 ) -> Result<Answer, Refusal>
+    ensures follows { D.Store.tells → OfInput (I.left input.old) (I.failures input.old)
+        (I.failures input.new) (λ told. Follows end_of (D.System.reads system.now)
+        (given_files (map string_bytes words.now) told (map string_bytes given.now)
+        (λ sources. Done (said_of json strict (map string_bytes allowed.now) sources))) result) }
     ensures checked { D.Store.tells → IfOk result (λ a. OnOut (λ text. IsChecked
         (AreGivenFiles (map string_bytes given.now) (I.left input.old) (D.Store.seen system.now))
         json strict (map string_bytes allowed.now) text a.status) (texts_in a)) }
@@ -123,6 +141,9 @@ fn check_chosen<D: System>(
     strict: bool,
     system: &D,
 ) -> Result<Answer, Refusal>
+    ensures follows { D.Store.tells → Follows end_of (D.System.reads system.now)
+        (texts_of_folders root.now (λ texts. Done (said_of json strict
+        (map string_bytes allowed.now) (stored texts.chosen texts.texts)))) result }
     ensures checked { D.Store.tells → IfOk result (λ a. OnOut (λ text. IsChecked
         (AreChosenFiles root.now (D.Store.seen system.now)) json strict
         (map string_bytes allowed.now) text a.status) (texts_in a)) }

@@ -9,6 +9,8 @@ ghost use Rattle.hwdb_text.specs.Views.{choice_of};
 ghost use Rattle.hwdb_spec_commands.specs.Refusals.{HasReason};
 ghost use Rattle.hwdb_spec_commands.specs.declared.refusals.Refusal.TheVariants.{Plain};
 ghost use Rattle.hwdb_spec_commands.specs.GivenFolders.{AreFoldersUnread, IsFolderUnread};
+ghost use Rattle.hwdb_plan.specs.GivenFolders.{files_at, files_for, named_files};
+ghost use Rattle.hwdb_plan.specs.Plans.{ReachesValue};
 
 use crate::given::is_dash;
 use hwdb_answers::ToolError;
@@ -83,6 +85,8 @@ pub fn files_in(alloc: Global, path: &str, all: &[String]) -> Result<Vec<String>
 
 /// What a path means that is no `-`.
 fn files_at<D: System>(alloc: Global, path: &str, system: &D) -> Result<Vec<String>, Refusal>
+    ensures told { D.Store.tells → ReachesValue (λ own. map string_bytes own.items)
+        (D.System.reads system.now) (files_at path.now) result }
     ensures files { D.Store.tells → is_dash path.now ≡ false → IfOk result (λ own. StandsFor
         (is_file (D.Store.seen system.now) path.now) (D.Store.seen system.now) path.now
         (map string_bytes own.items)) }
@@ -102,6 +106,8 @@ fn files_at<D: System>(alloc: Global, path: &str, system: &D) -> Result<Vec<Stri
 
 /// What a path means.
 fn files_for<D: System>(alloc: Global, path: &str, system: &D) -> Result<Vec<String>, Refusal>
+    ensures told { D.Store.tells → ReachesValue (λ own. map string_bytes own.items)
+        (D.System.reads system.now) (files_for path.now) result }
     ensures files { D.Store.tells → IfOk result (λ own. StandsFor
         (is_file (D.Store.seen system.now) path.now) (D.Store.seen system.now) path.now
         (map string_bytes own.items)) }
@@ -139,6 +145,8 @@ pub fn named_files<D: System>(
     given: &[String],
     system: &D,
 ) -> Result<Vec<String>, Refusal>
+    ensures told { D.Store.tells → ReachesValue (λ paths. map string_bytes paths.items)
+        (D.System.reads system.now) (named_files (map string_bytes given.now) []) result }
     ensures files { D.Store.tells → IfOk result (λ paths. StandFor (D.Store.seen system.now)
         (map string_bytes given.now) (map string_bytes paths.items)) }
     ensures refused { D.Store.tells → IfErr result
