@@ -3,6 +3,7 @@ pub mod Ended
 pub mod Laws
 pub mod Asking
 pub mod Input
+pub mod Given
 pub mod Files
 pub mod Folders
 pub mod GivenFolders
@@ -14,5 +15,6 @@ pub mod Ask
 pub mod Test
 pub mod Near
 pub mod Check
+pub mod Device
 pub mod Put
 pub mod Lemmas

@@ -10,12 +10,14 @@
 //! | `Laws` | what is so of every plan |
 //! | `Asking` | the database that a command asks for, as the front of a plan |
 //! | `Input` | standard input, in place of a path that words give |
+//! | `Given` | what is at a path that words give, or standard input |
 //! | `Files` | files that are read one after another, as the front of a plan |
 //! | `Folders` | the text files of both folders, as the front of a plan |
 //! | `GivenFolders` | what given paths mean: themselves, or the text files of their folders |
 //! | `Verify`, `Dump`, `Test`, `Near`, `Check` | the plans of these commands |
 //! | `Answers` | those of `query` and `explain`, also of devices of standard input |
 //! | `List`, `Ask` | those of `list` and `ask` |
+//! | `Device` | that of `device`, over what sysfs shows |
 //! | `Put` | the end of `update`'s |
 //!
 //! `laws` shows the laws.
