@@ -11,4 +11,5 @@ pub mod GivenDatabases
 pub mod ComparedDatabases
 pub mod Program
 pub mod TaskRefusals
+pub mod ProgramPlan
 pub mod Rows

@@ -18,6 +18,7 @@
 //! | `ComparedDatabases` | what `diff` compares, and its errors, with their paths |
 //! | `Program` | what the program does, by the job that its words ask for |
 //! | `TaskRefusals` | which errors end a task, and what each leaves: the promise of `program` |
+//! | `ProgramPlan` | the plan of a run, as its words compute it |
 //! | `Rows` | what some of these give: nobody has to believe them |
 #![tactic(auto)]
 

@@ -1,0 +1,124 @@
+-- The plan of a run, as its words compute it. Which words each command has is in `Jobs`. `update`, `status`, `check` and `diff` have no plan
+-- here yet, and no command has its own with `--text`. `query` is systemd-hwdb(8)'s; the rest is our choice.
+use Rattle.clap.specs.Simple.{matches_of, subcommand_of}
+use Rattle.clap.specs.Walk.{Row, Text, all_of, first_of, one_of}
+use Rattle.std.specs.Option.{option_or, unwrap_or}
+use Rattle.std.specs.Prelude.{◌-◌, ◌∷◌, ℕ, Bool, false, List, [], None, Option, Some, Result, IfSome, codes, find, if◌then◌else◌, length, option_map, take}
+use Rattle.std.specs.Str.{bytes_eq}
+use Rattle.std.specs.Str.Parse.{digits_value, without_leading_plus}
+use Rattle.hwdb_spec_commands.specs.CommandLine.{hwdb_app}
+use Rattle.hwdb_spec_commands.specs.DeviceAsked.{device_form}
+use Rattle.hwdb_spec_commands.specs.DeviceTree.{Sight, last_after}
+use Rattle.hwdb_spec_commands.specs.Jobs.{has_flag}
+use Rattle.hwdb_spec_commands.specs.NearAsked.{near_form, near_limit}
+use Rattle.hwdb_spec_commands.specs.Runs.{Told}
+use Rattle.hwdb_spec_commands.specs.Told.{Reads}
+use Rattle.hwdb_spec_commands.specs.declared.refusals.Refusal.{Refusal}
+use Rattle.hwdb_spec_commands.specs.declared.unread.Unread.{Unread}
+use Rattle.hwdb_spec_program.specs.DeviceErrors.{asked_names}
+use Rattle.hwdb_plan.specs.Answers.{explain_plan, query_plan}
+use Rattle.hwdb_plan.specs.Ask.{lone_answer}
+use Rattle.hwdb_plan.specs.Device.{OfCause, device_plan}
+use Rattle.hwdb_plan.specs.Dump.{text_form}
+use Rattle.hwdb_plan.specs.Ended.{Outs, ShowsEnd}
+use Rattle.hwdb_plan.specs.Files.{OfInput}
+use Rattle.hwdb_plan.specs.Given.{given_at, given_or_asked}
+use Rattle.hwdb_plan.specs.List.{list_plan}
+use Rattle.hwdb_plan.specs.Near.{near_plan}
+use Rattle.hwdb_plan.specs.Plans.{Plan}
+use Rattle.hwdb_plan.specs.Test.{test_plan}
+use Rattle.hwdb_plan.specs.Verify.{summary}
+
+-- What a run is told beside its files: of standard input, if a command reads that as a file; what sysfs shows; and the words of the cause
+-- if a path of sysfs can't be read.
+pub record Around : Type 0 where
+  pub input : Result (List ℕ) Unread
+  pub sight : Sight
+  pub cause : List ℕ
+
+-- ---- what words give
+-- the values of an argument, or none
+abbrev pub values_of : (id : Text) → List Row → List Text
+values_of id rows = unwrap_or (all_of id rows) []
+
+-- the value of one that a command needs
+abbrev pub value_of : (id : Text) → List Row → Text
+value_of id rows = unwrap_or (first_of id rows) []
+
+-- the number that is given as limit, in decimal digits
+abbrev pub limit_of : List Row → Option ℕ
+limit_of rows = option_map (λ text. digits_value 10 (without_leading_plus text)) (one_of (codes "limit") rows)
+
+-- all texts but the last
+abbrev pub before_last : List Text → List Text
+before_last texts = take (length texts - 1) texts
+
+-- the root that words give after the command or before it; nothing if they give none
+abbrev pub root_given : (top rows : List Row) → List ℕ
+root_given top rows = unwrap_or (option_or (first_of (codes "root") rows) (first_of (codes "root") top)) []
+
+-- ---- plans by the word of a command
+-- of `near`: its last word is the device, and those before it are files
+abbrev pub near_of : Around → (root : List ℕ) → List Row → Plan
+near_of a root rows =
+    let words = values_of (codes "MODALIAS") rows in
+    near_plan a.input (before_last words) root (near_form (has_flag (codes "json") rows) (last_after [] words) (near_limit (limit_of rows)))
+
+-- of `device`
+abbrev pub device_of : Around → (root : List ℕ) → List Row → Plan
+device_of a root rows =
+    device_plan a.sight a.cause asked_names root
+    (device_form (has_flag (codes "strings") rows) (has_flag (codes "json") rows) (has_flag (codes "pattern") rows)) (first_of (codes "DEVICE") rows)
+
+-- of `ask`
+abbrev pub ask_of : Around → List Row → Plan
+ask_of a rows = let file = value_of (codes "FILE") rows in given_at a.input file (lone_answer file (value_of (codes "MODALIAS") rows))
+
+-- each command that has a plan: its word, and its plan over what is matched after it
+abbrev pub plans : Around → (root : List ℕ) → List Row → List (Text × Plan)
+plans a root rows =
+    let json = has_flag (codes "json") rows in
+    let device = value_of (codes "MODALIAS") rows in
+    (codes "query", query_plan root json (values_of (codes "MODALIAS") rows))
+    ∷ (codes "explain", explain_plan root json device)
+    ∷ (codes "ask", ask_of a rows)
+    ∷ (codes "list", list_plan root json device (first_of (codes "after") rows) (limit_of rows))
+    ∷ (codes "near", near_of a root rows)
+    ∷ (codes "device", device_of a root rows)
+    ∷ (codes "test", test_plan a.input (values_of (codes "FILE") rows) (first_of (codes "database") rows) root json)
+    ∷ (codes "verify", given_or_asked a.input (first_of (codes "DATABASE") rows) root summary)
+    ∷ (codes "dump", given_or_asked a.input (first_of (codes "DATABASE") rows) root text_form)
+    ∷ []
+
+-- that of one, by its word
+abbrev pub command_plan : Around → (root : List ℕ) (word : Text) → List Row → Option Plan
+command_plan a root word rows = option_map (λ row. row.1) (find (λ row. bytes_eq row.0 word) (plans a root rows))
+
+-- ---- plans by words
+-- of what is matched before a command's word, and of that with what is matched after it
+abbrev pub found_plan : Around → (top : List Row) → Option (Text × List Row) → Option Plan
+found_plan a top None = None
+found_plan a top (Some found) = command_plan a (root_given top found.1) found.0 found.1
+
+-- of the words, the first of which is the program's name, over the files as they are
+abbrev pub files_plan : Around → (words : List Text) → Option Plan
+files_plan a words = found_plan a (matches_of hwdb_app words) (subcommand_of hwdb_app words)
+
+-- the command has `--text`
+abbrev pub has_text : Option (Text × List Row) → Bool
+has_text None = false
+has_text (Some found) = has_flag (codes "text") found.1
+
+-- the plan of a run with these words
+abbrev pub program_plan : Around → (words : List Text) → Option Plan
+program_plan a words = if has_text (subcommand_of hwdb_app words) then None else files_plan a words
+
+-- ---- runs
+-- so of what a run is told beside its files
+abbrev pub OfAround : Sight → (input : Option (List ℕ)) (failures_before failures_now : ℕ) → (Is : Around → Type 0) → Type 0
+OfAround sight input before now Is = OfInput input before now (λ told. OfCause (λ cause. Is (record { input = told; sight = sight; cause = cause })))
+
+-- a run that only reads shows what the plan of its words ends in, if they have one
+abbrev pub ShowsPlan : (plan : Around → Option Plan) → Reads → Sight → (input_before input_now : Told) (before now : Outs) → Result ℕ Refusal → Type 0
+ShowsPlan plan w sight input_before input_now before now result =
+    OfAround sight input_before.bytes input_before.failures input_now.failures (λ a. IfSome (plan a) (λ p. ShowsEnd w p input_before input_now before now result))
