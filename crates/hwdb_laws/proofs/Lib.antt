@@ -16,3 +16,4 @@ pub mod ComputedPlaceRows
 pub mod ComputedWordRows
 pub mod ComputedDeviceRows
 pub mod ComputedTaskRows
+pub mod ComputedPlanRows

@@ -15,3 +15,4 @@ pub mod PlaceRows
 pub mod WordRows
 pub mod DeviceRows
 pub mod TaskRows
+pub mod PlanRows

@@ -21,6 +21,7 @@
 //! | `WordRows` | what is read of the command line |
 //! | `DeviceRows` | what `device` prints |
 //! | `TaskRows` | what tasks read, and what `explain --text` says besides |
+//! | `PlanRows` | which plans words ask for |
 //!
 //! `rows` shows them.
 #![tactic(auto)]
@@ -29,6 +30,6 @@ mod rows;
 
 pub use rows::{
     answer_rows, change_rows, check_rows, colour_rows, compare_rows, device_rows, error_rows,
-    explain_rows, form_rows, likely_rows, near_rows, over_text_rows, place_rows, status_rows,
-    sysfs_rows, task_rows, update_rows, verify_rows, wanted_rows, word_rows,
+    explain_rows, form_rows, likely_rows, near_rows, over_text_rows, place_rows, plan_rows,
+    status_rows, sysfs_rows, task_rows, update_rows, verify_rows, wanted_rows, word_rows,
 };

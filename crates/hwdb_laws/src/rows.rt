@@ -10,6 +10,7 @@ ghost use Rattle.hwdb_laws.specs.FormRows;
 ghost use Rattle.hwdb_laws.specs.LikelyRows;
 ghost use Rattle.hwdb_laws.specs.OverTextRows;
 ghost use Rattle.hwdb_laws.specs.PlaceRows;
+ghost use Rattle.hwdb_laws.specs.PlanRows;
 ghost use Rattle.hwdb_laws.specs.SaidRows;
 ghost use Rattle.hwdb_laws.specs.StatusRows;
 ghost use Rattle.hwdb_laws.specs.SysfsRows;
@@ -288,4 +289,16 @@ pub fn place_rows()
     ensures update { PlaceRows.UpdateRows }
     ensures loose { PlaceRows.LooseRows }
     ensures outcome { PlaceRows.OutcomeRows }
+{}
+
+/// Which plans words ask for.
+pub fn plan_rows()
+    ensures query { PlanRows.QueryRows }
+    ensures list { PlanRows.ListRows }
+    ensures near { PlanRows.NearRows }
+    ensures device { PlanRows.DeviceRows }
+    ensures named { PlanRows.NamedRows }
+    ensures none { PlanRows.NoneRows }
+    ensures input { PlanRows.InputRows }
+    ensures sysfs { PlanRows.SysfsRows }
 {}

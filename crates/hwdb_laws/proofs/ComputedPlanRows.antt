@@ -1,0 +1,44 @@
+-- The rows, computed.
+use Rattle.clap.specs.Faults.{defaults_fault, flags_fault, walk_fault}
+use Rattle.clap.specs.Walk.{bundle_met, walked}
+use Rattle.hex.specs.Hex.{encode_with}
+use Rattle.hwdb_spec.specs.Lines.{pieces}
+use Rattle.hwdb_spec.specs.Visible.{visible_after}
+use Rattle.hwdb_spec_commands.specs.DeviceTree.{last_after}
+use Rattle.hwdb_laws.specs.PlanRows.{DeviceRows, InputRows, ListRows, NamedRows, NearRows, NoneRows, QueryRows, SysfsRows}
+use Rattle.std.specs.Char.{encode_utf8}
+use Rattle.std.specs.Fmt.{digits}
+use Rattle.std.specs.Str.{chars, is_utf8}
+use Rattle.std.proofs.Common.{refl}
+
+pub query_rows : QueryRows
+unfolding pieces visible_after is_utf8 chars encode_utf8 encode_with digits bundle_met walked flags_fault walk_fault defaults_fault last_after
+query_rows = λ a. refl
+
+pub list_rows : ListRows
+unfolding pieces visible_after is_utf8 chars encode_utf8 encode_with digits bundle_met walked flags_fault walk_fault defaults_fault last_after
+list_rows = λ a. refl
+
+pub near_rows : NearRows
+unfolding pieces visible_after is_utf8 chars encode_utf8 encode_with digits bundle_met walked flags_fault walk_fault defaults_fault last_after
+near_rows = λ a. refl
+
+pub device_rows : DeviceRows
+unfolding pieces visible_after is_utf8 chars encode_utf8 encode_with digits bundle_met walked flags_fault walk_fault defaults_fault last_after
+device_rows = λ a. refl
+
+pub named_rows : NamedRows
+unfolding pieces visible_after is_utf8 chars encode_utf8 encode_with digits bundle_met walked flags_fault walk_fault defaults_fault last_after
+named_rows = λ a. refl
+
+pub none_rows : NoneRows
+unfolding pieces visible_after is_utf8 chars encode_utf8 encode_with digits bundle_met walked flags_fault walk_fault defaults_fault last_after
+none_rows = λ a. refl
+
+pub input_rows : InputRows
+unfolding pieces visible_after is_utf8 chars encode_utf8 encode_with digits bundle_met walked flags_fault walk_fault defaults_fault last_after
+input_rows = λ sight cause. refl
+
+pub sysfs_rows : SysfsRows
+unfolding pieces visible_after is_utf8 chars encode_utf8 encode_with digits bundle_met walked flags_fault walk_fault defaults_fault last_after
+sysfs_rows = refl

@@ -1,0 +1,14 @@
+use Rattle.hwdb_laws.proofs.ComputedPlanRows.{device_rows, input_rows, list_rows, named_rows, near_rows, none_rows, query_rows, sysfs_rows}
+use Rattle.hwdb_laws.proofs.rows.plan_rows.Goals as goal
+
+pub returns : goal.returns
+returns c = record {
+  query = query_rows;
+  list = list_rows;
+  near = near_rows;
+  device = device_rows;
+  named = named_rows;
+  none = none_rows;
+  input = input_rows;
+  sysfs = sysfs_rows;
+}

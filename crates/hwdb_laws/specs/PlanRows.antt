@@ -1,0 +1,89 @@
+-- Worked rows of plans: which plan words ask for, as SYNOPSIS of hwdb(8) has the words; and what `device` ends in without sysfs, by DIAGNOSTICS.
+use Rattle.std.specs.Prelude.{◌∷◌, ◌≡◌, Err, List, None, Option, Some, [], codes, false, if◌then◌else◌, true, ℕ}
+use Rattle.std.specs.Str.{bytes_eq}
+use Rattle.clap.specs.Walk.{Text}
+use Rattle.hwdb_spec.specs.declared.errors.ToolError.TheVariants.{TooLong}
+use Rattle.hwdb_spec_commands.specs.DeviceTree.{Sight}
+use Rattle.hwdb_spec_commands.specs.NearAsked.{near_form}
+use Rattle.hwdb_spec_commands.specs.SysfsAnswers.{nothing_there, seen}
+use Rattle.hwdb_spec_commands.specs.Told.Stop.{Over, Says}
+use Rattle.hwdb_spec_commands.specs.declared.devices.DeviceForm.TheVariants.{Json, Lookups, Pattern}
+use Rattle.hwdb_spec_commands.specs.declared.unread.Unread.TheVariants as unread
+use Rattle.hwdb_spec_program.specs.DeviceErrors.{asked_names}
+use Rattle.hwdb_spec_program.specs.ProgramPlan.{Around, program_plan}
+use Rattle.hwdb_plan.specs.Answers.{explain_plan, query_plan}
+use Rattle.hwdb_plan.specs.Ask.{ask_plan}
+use Rattle.hwdb_plan.specs.Device.{device_plan}
+use Rattle.hwdb_plan.specs.Dump.{dump_plan}
+use Rattle.hwdb_plan.specs.List.{list_plan}
+use Rattle.hwdb_plan.specs.Near.{near_plan}
+use Rattle.hwdb_plan.specs.Plans.{Plan}
+use Rattle.hwdb_plan.specs.Plans.End.{Stops}
+use Rattle.hwdb_plan.specs.Plans.Plan.{Done}
+use Rattle.hwdb_plan.specs.Test.{test_plan}
+use Rattle.hwdb_plan.specs.Verify.{verify_plan}
+
+-- the plan of a run with these words after the program's name
+abbrev pub asked : Around → (words : List Text) → Option Plan
+asked a words = program_plan a (codes "hwdb" ∷ words)
+
+-- ---- which plan words ask for
+-- The root is given after the command's word, before it, or not. What comes after `--` is a device.
+abbrev pub QueryRows : Type 0
+QueryRows =
+    (a : Around)
+    → asked a (codes "query" ∷ codes "--json" ∷ codes "-r" ∷ codes "/r" ∷ codes "a" ∷ codes "--" ∷ codes "--b" ∷ []) ∷ asked a (codes "-r/s" ∷ codes "explain" ∷ codes "a" ∷ []) ∷ asked a (codes "query" ∷ codes "-" ∷ []) ∷ []
+    ≡ Some (query_plan (codes "/r") true (codes "a" ∷ codes "--b" ∷ [])) ∷ Some (explain_plan (codes "/s") false (codes "a")) ∷ Some (query_plan [] false (codes "-" ∷ [])) ∷ []
+
+abbrev pub ListRows : Type 0
+ListRows =
+    (a : Around)
+    → asked a (codes "list" ∷ codes "--after" ∷ codes "3:17::" ∷ codes "--limit=10" ∷ codes "a" ∷ []) ∷ asked a (codes "list" ∷ codes "--json" ∷ codes "a" ∷ []) ∷ []
+    ≡ Some (list_plan [] false (codes "a") (Some (codes "3:17::")) (Some 10)) ∷ Some (list_plan [] true (codes "a") None None) ∷ []
+
+-- The last word of `near` is the device, and three patterns are told if no number is given.
+abbrev pub NearRows : Type 0
+NearRows =
+    (a : Around)
+    → asked a (codes "near" ∷ codes "--limit" ∷ codes "7" ∷ codes "f" ∷ codes "g" ∷ codes "a" ∷ []) ∷ asked a (codes "near" ∷ codes "--json" ∷ codes "a" ∷ []) ∷ []
+    ≡ Some (near_plan a.input (codes "f" ∷ codes "g" ∷ []) [] (near_form false (codes "a") 7)) ∷ Some (near_plan a.input [] [] (near_form true (codes "a") 3)) ∷ []
+
+abbrev pub DeviceRows : Type 0
+DeviceRows =
+    (a : Around)
+    → asked a (codes "device" ∷ codes "--strings" ∷ codes "--pattern" ∷ codes "event3" ∷ []) ∷ asked a (codes "device" ∷ codes "-r" ∷ codes "/r" ∷ []) ∷ []
+    ≡ Some (device_plan a.sight a.cause asked_names [] Pattern (Some (codes "event3"))) ∷ Some (device_plan a.sight a.cause asked_names (codes "/r") Lookups None) ∷ []
+
+-- Files and databases that words name.
+abbrev pub NamedRows : Type 0
+NamedRows =
+    (a : Around)
+    → asked a (codes "ask" ∷ codes "f" ∷ codes "a" ∷ []) ∷ asked a (codes "verify" ∷ codes "d" ∷ []) ∷ asked a (codes "dump" ∷ codes "-r" ∷ codes "/r" ∷ [])
+    ∷ asked a (codes "test" ∷ codes "--database" ∷ codes "d" ∷ codes "f" ∷ codes "g" ∷ []) ∷ []
+    ≡ Some (ask_plan (codes "f") (codes "a") (codes "f")) ∷ Some (verify_plan (Some (codes "d")) []) ∷ Some (dump_plan None (codes "/r"))
+    ∷ Some (test_plan a.input (codes "f" ∷ codes "g" ∷ []) (Some (codes "d")) [] false) ∷ []
+
+-- Words that ask for no command, for one that has no plan yet, or for `--text`.
+abbrev pub NoneRows : Type 0
+NoneRows =
+    (a : Around) → asked a [] ∷ asked a (codes "frob" ∷ []) ∷ asked a (codes "update" ∷ []) ∷ asked a (codes "status" ∷ []) ∷ asked a (codes "verify" ∷ codes "--text" ∷ []) ∷ [] ≡ None ∷ None ∷ None ∷ None ∷ None ∷ []
+
+-- ---- what a plan ends in
+-- `-` is standard input: that is too long, and nothing else is asked.
+abbrev pub InputRows : Type 0
+InputRows =
+    (sight : Sight) (cause : List ℕ) → let a : Around = record { input = Err unread.TooLong; sight = sight; cause = cause } in
+    asked a (codes "verify" ∷ codes "-" ∷ []) ∷ asked a (codes "dump" ∷ codes "-" ∷ []) ∷ asked a (codes "ask" ∷ codes "-" ∷ codes "a" ∷ []) ∷ []
+    ≡ Some (Done (Stops (Over TooLong (codes "standard input") None))) ∷ Some (Done (Stops (Over TooLong (codes "standard input") None))) ∷ Some (Done (Stops (Over TooLong (codes "standard input") None))) ∷ []
+
+-- a file system in which this path alone leads somewhere, to itself
+abbrev pub sight_of : (place : List ℕ) → Sight
+sight_of place = record (seen nothing_there) { place = λ path. if bytes_eq path place then Some path else None }
+
+-- No sysfs, and one without its folder of devices: the path that leads nowhere is told, and the words of the cause.
+abbrev pub SysfsRows : Type 0
+SysfsRows =
+    device_plan (seen nothing_there) (codes "No such file or directory") asked_names (codes "/r") Json (Some (codes "event3"))
+    ∷ device_plan (sight_of (codes "/sys")) (codes "Permission denied") asked_names [] Lookups None ∷ []
+    ≡ Done (Stops (Says (codes "no sysfs: /r/sys: No such file or directory: mount it, or name another root")))
+    ∷ Done (Stops (Says (codes "no sysfs: /sys/devices: Permission denied: mount it, or name another root"))) ∷ []
