@@ -16,6 +16,10 @@ use Rattle.hwdb_spec_commands.specs.declared.form.Form.TheVariants.{Explain, Que
 use Rattle.hwdb_spec_commands.specs.Near.{PatternAt}
 use Rattle.hwdb_spec_commands.specs.NearAsked.{IsNear}
 use Rattle.hwdb_spec_program.specs.CheckedReasons.{HasCheckedReason}
+use Rattle.hwdb_spec_commands.specs.DeviceAsked.{IsDevicePrinted}
+use Rattle.hwdb_spec_commands.specs.DeviceTree.{Sight}
+use Rattle.hwdb_spec_commands.specs.declared.devices.DeviceForm.{DeviceForm}
+use Rattle.hwdb_spec_program.specs.DeviceErrors.{IsDeviceRefused, asked_names}
 use Rattle.hwdb_spec_program.specs.GivenDatabases.{HasDatabaseReason, OfNamed}
 use Rattle.hwdb_spec_program.specs.NearErrors.{IsNearRefused}
 use Rattle.hwdb_spec_program.specs.TestErrors.{HasTestReason, IsTestRefused}
@@ -29,6 +33,7 @@ use Rattle.hwdb_spec_commands.specs.declared.refusals.Refusal.{Refusal}
 use Rattle.hwdb_plan.specs.Answers.{explain_plan, query_plan}
 use Rattle.hwdb_plan.specs.Ask.{ask_plan}
 use Rattle.hwdb_plan.specs.Check.{check_plan, said_of}
+use Rattle.hwdb_plan.specs.Device.{OfCause, device_plan}
 use Rattle.hwdb_plan.specs.Dump.{dump_plan}
 use Rattle.hwdb_plan.specs.Ended.{Outs, ShowsEnd}
 use Rattle.hwdb_plan.specs.Input.{OverGiven, OverNamed}
@@ -119,3 +124,10 @@ CheckAsBefore w seen MayFail = (input : Option (List ℕ)) (before now : ℕ) (r
     → IfOk result (λ a. OnOut (λ text. IsChecked (AreCheckedFiles given root input seen) json strict allowed text a.status) (texts_in a))
     × IfErr result (IsCheckRefused (AreUncheckable given root seen) (AreCheckedFiles given root input seen))
     × IfErr result (HasCheckedReason (not (length given == 0)) MayFail seen input before now given)
+
+-- with status 0 what `device` prints of sysfs is printed; an error is one of `device`, and what it says of a path is so
+abbrev pub DeviceAsBefore : Reads → Sight → Contents → (MayFail : (path : List ℕ) → Type 0) → Type 0
+DeviceAsBefore w sight seen MayFail = (root : List ℕ) (form : DeviceForm) (given : Option (List ℕ)) (result : Result Answer Refusal)
+    → OfCause (λ cause. Follows end_of w (device_plan sight cause asked_names root form given) result)
+    → IfOk result (λ a. (a.status ≡ 0) × OnOut (IsDevicePrinted form asked_names root given sight seen) (texts_in a))
+    × IfErr result (IsDeviceRefused root given sight seen) × IfErr result (HasReason MayFail ⊥ seen)

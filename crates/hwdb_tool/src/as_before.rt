@@ -1,8 +1,9 @@
 //! What follows a plan keeps the older promises of its command. Each function does nothing: its contract is the law.
-ghost use Rattle.hwdb_tool.specs.AsBefore.{AskAsBefore, CheckAsBefore, DumpAsBefore, ExplainAsBefore, ListAsBefore, QueryAsBefore, TextShowsOver, VerifyAsBefore, NearAsBefore, TestAsBefore};
+ghost use Rattle.hwdb_tool.specs.AsBefore.{AskAsBefore, CheckAsBefore, DeviceAsBefore, DumpAsBefore, ExplainAsBefore, ListAsBefore, QueryAsBefore, TextShowsOver, VerifyAsBefore, NearAsBefore, TestAsBefore};
+ghost use Rattle.hwdb_spec_commands.specs.SysfsAnswers.{sight_by};
 
 use hwdb_plan::{only_asked_matters, over_is_over};
-use hwdb_system::System;
+use hwdb_system::{Machine, System};
 
 /// What follows the plan of `verify` keeps the older promises of `verify`.
 pub fn verify_as_before<D: System>(system: &D)
@@ -64,4 +65,11 @@ pub fn near_as_before<D: System>(system: &D)
 pub fn check_as_before<D: System>(system: &D)
     ensures { D.Store.tells → CheckAsBefore (D.System.reads system.now)
         (D.Store.seen system.now) (D.System.may_fail system.now) }
+{}
+
+/// What follows the plan of `device` keeps those of `device`.
+pub fn device_as_before<D: Machine>(system: &D)
+    ensures { D.Store.tells → DeviceAsBefore (D.System.reads system.now)
+        (sight_by D.answers system.now) (D.Store.seen system.now)
+        (D.System.may_fail system.now) }
 {}

@@ -14,10 +14,13 @@ ghost use Rattle.hwdb_spec_commands.specs.DatabaseErrors.{IsDatabaseRefusal};
 ghost use Rattle.hwdb_spec_commands.specs.Refusals.{HasReason};
 ghost use Rattle.hwdb_spec_program.specs.DeviceErrors.{IsDeviceRefused, IsNoSysfs, IsUnmeant, IsWorded, asked_names};
 ghost use Rattle.hwdb_spec_commands.specs.Undone.{IsUnanswered};
-ghost use Rattle.hwdb_tool.specs.Views.{texts_in};
+ghost use Rattle.hwdb_plan.specs.Asking.{asked};
+ghost use Rattle.hwdb_plan.specs.Device.{OfCause, device_answer, device_plan, devices_plan, meant_plan};
+ghost use Rattle.hwdb_plan.specs.Plans.{Follows};
+ghost use Rattle.hwdb_tool.specs.Views.{end_of, texts_in};
 
 use crate::answer::Answer;
-use crate::databases::asked;
+use crate::databases::{asked, refused_database};
 use crate::missing::{place_meant, sysfs_of};
 use hwdb_answers::ToolError;
 use hwdb_device::{DeviceForm, device_row, device_text};
@@ -54,6 +57,9 @@ pub fn device<D: Machine>(
     system: &D,
 ) -> Result<Answer, Refusal>
     ensures status { IfOk result (λ a. a.status ≡ 0) }
+    ensures follows { D.Store.tells → OfCause (λ cause. Follows end_of
+        (D.System.reads system.now) (device_plan (sight_by D.answers system.now) cause
+        asked_names root.now form (option_map (λ t. t.now) given.entry)) result) }
     ensures printed { D.Store.tells → IfOk result (λ a. OnOut (IsDevicePrinted form asked_names
         root.now (option_map (λ t. t.now) given.entry) (sight_by D.answers system.now)
         (D.Store.seen system.now)) (texts_in a)) }
@@ -77,6 +83,9 @@ fn devices_are_told<D: Machine>(_system: &D)
 /// A line for each device below the root that something is asked for.
 fn listed<D: Machine>(alloc: Global, root: &str, system: &D) -> Result<Answer, Refusal>
     ensures status { IfOk result (λ a. a.status ≡ 0) }
+    ensures follows { D.Store.tells → OfCause (λ cause. Follows end_of
+        (D.System.reads system.now)
+        (devices_plan (sight_by D.answers system.now) cause asked_names root.now) result) }
     ensures printed { D.Store.tells → IfOk result (λ a. OnOut (λ text. option_map
         (device_list (sight_by D.answers system.now) asked_names)
         (tree.sysfs_below (sight_by D.answers system.now) root.now) ≡ Some text) (texts_in a)) }
@@ -183,6 +192,9 @@ fn shown<D: Machine>(
     system: &D,
 ) -> Result<Answer, Refusal>
     ensures status { IfOk result (λ a. a.status ≡ 0) }
+    ensures follows { D.Store.tells → OfCause (λ cause. Follows end_of
+        (D.System.reads system.now) (meant_plan (sight_by D.answers system.now) cause
+        asked_names root.now given.now form) result) }
     ensures printed { D.Store.tells → IfOk result (λ a. OnOut (IsOfDevice form asked_names root.now
         given.now (sight_by D.answers system.now) (D.Store.seen system.now)) (texts_in a)) }
     ensures refused { D.Store.tells → IfErr result (IsDeviceRefused root.now (Some given.now)
@@ -223,6 +235,8 @@ fn answered<D: System>(
     system: &D,
 ) -> Result<Answer, Refusal>
     ensures status { IfOk result (λ a. a.status ≡ 0) }
+    ensures follows { D.Store.tells → Follows end_of (D.System.reads system.now)
+        (asked root.now (device_answer form (device_of device.now))) result }
     ensures printed { D.Store.tells → IfOk result (λ a. OnOut (IsAnswered root.now
         (IsTextOf (texts.device_text form (device_of device.now)))
         (D.Store.seen system.now)) (texts_in a)) }
@@ -234,7 +248,7 @@ fn answered<D: System>(
     let found = asked(alloc, root, system)?;
     match text_over(alloc, &found.bytes, device, form) {
         Ok(text) => Ok(Answer::new(alloc, text, 0)),
-        Err(error) => Err(Refusal::of_database(alloc, error, found.path.as_bytes())),
+        Err(error) => Err(refused_database(alloc, error, found.path.as_bytes())),
     }
 }
 
