@@ -1,0 +1,565 @@
+-- What is told covers what is asked.
+use Rattle.std.proofs.Common.{◌≡◌, ℕ, ◌+◌, Bool, true, false, List, [], ◌∷◌, ◌++◌, map, refl, sym, ap, subst, ◌∙◌, Option, Some, None, ◌⊎◌, inl, inr, ◌||◌}
+use Rattle.std.specs.Prelude.{if◌then◌else◌, is_some, unwrap_or, nat_eq, filter, not}
+use Rattle.std.specs.List.{starts_with, list_any}
+use Rattle.std.specs.Str.{bytes_eq}
+use Rattle.hwdb_spec.specs.Lines.{is_none}
+use Rattle.hwdb_rulefiles.specs.RuleKeys.{or_else}
+use Rattle.hwdb_rulefiles.specs.RuleTokens.{Token, is_word}
+use Rattle.hwdb_rulefiles.specs.RuleLines.{RuleLine}
+use Rattle.hwdb_rulefiles.specs.declared.pairs.Operator.{Operator}
+use Rattle.hwdb_rulefiles.specs.declared.tokens.TokenKind.{TokenKind}
+use Rattle.hwdb_rulefiles.specs.declared.tokens.TokenKind.TheVariants as Kinds
+use Rattle.hwdb_rulerun.specs.Asking.{runs, is_lookup}
+use Rattle.hwdb_rulerun.specs.Conditions.{by_operator, line_holds}
+use Rattle.hwdb_rulerun.specs.Laws.{Says}
+use Rattle.hwdb_rulerun.specs.Sights.{Known, Unknown, Missing, Text, Is, IsSight, entry_of}
+use Rattle.hwdb_rulerun.specs.Telling.{and_then, by_operator_told, line_told}
+use Rattle.std.proofs.lemmas.Slice.Eq.{bytes_eq-Decides}
+use Rattle.hwdb_rulerun.specs.Laws.{ToldIsSo}
+use Rattle.hwdb_ruleevents.specs.Changes.{Properties, Change, Put, Open, Agrees, Becomes, said, said_in, value_in, by_sure, perhaps}
+use Rattle.hwdb_ruleevents.specs.Effects as known
+use Rattle.hwdb_ruleevents.specs.Effects.{Effect, Knowledge}
+use Rattle.hwdb_ruleevents.specs.Events as real
+use Rattle.hwdb_ruleevents.specs.Events.{Event, Turn, turn, Ask, Done}
+use Rattle.hwdb_ruleevents.specs.Telling as tell
+use Rattle.hwdb_ruleevents.specs.Telling.{Told, Tale, Ways}
+use Rattle.hwdb_ruleevents.proofs.ChangeLemmas.{both_said, no_other}
+use Rattle.hwdb_ruleevents.specs.Laws.{IsEffect, IsKnown, Covers, EventsAreCovered, AreAll, AreCertain, EventsAreExact}
+
+-- properties after changes
+
+said_after : (old new : List Change) (name : List ℕ) → said_in (old ++ new) name ≡ or_else (said_in new name) (said_in old name)
+said_after [] new name = sym (no_other (said_in new name))
+said_after (c ∷ more) new name =
+    ap (λ (x : Option Known). or_else x (said c name)) (said_after more new name) ∙ both_said (said_in new name) (said_in more name) (said c name)
+
+-- something is said, but not what
+abbrev unsaid : Option Known → Option Known
+unsaid None = None
+unsaid (Some value) = Some Unknown
+
+perhaps_said : (cs : List Change) (name : List ℕ) → said_in (by_sure false cs) name ≡ unsaid (said_in cs name)
+perhaps_said [] name = refl
+perhaps_said (c ∷ more) name =
+    ap (λ (x : Option Known). or_else x (said (perhaps c) name)) (perhaps_said more name)
+    ∙ ap (or_else (unsaid (said_in more name))) (one c)
+    ∙ both (said_in more name) (said c name)
+  where
+    put : (c : Bool) (value : Known) → (if c then Some Unknown else None) ≡ unsaid (if c then Some value else None)
+    put true value = refl
+    put false value = refl
+
+    one : (c : Change) → said (perhaps c) name ≡ unsaid (said c name)
+    one (Put own value) = put (bytes_eq own name) value
+    one (Open start) = put (starts_with nat_eq name start) Unknown
+
+    both : (a b : Option Known) → or_else (unsaid a) (unsaid b) ≡ unsaid (or_else a b)
+    both None b = refl
+    both (Some x) b = refl
+
+put_so : (new old : Option Known) (before after : Option (List ℕ)) → Is (unwrap_or old Missing) before → Becomes new before after
+    → Is (unwrap_or (or_else new old) Missing) after
+put_so None old before after h b = subst (λ (x : Option (List ℕ)). Is (unwrap_or old Missing) x) (sym b) h
+put_so (Some value) old before after h b = b
+
+perhaps_so : (new old : Option Known) (before now : Option (List ℕ)) → Is (unwrap_or old Missing) before → (now ≡ before) ⊎ Becomes new before now
+    → Is (unwrap_or (or_else (unsaid new) old) Missing) now
+perhaps_so None old before now h b =
+    elim b [
+      | inl e ↦ subst (λ (x : Option (List ℕ)). Is (unwrap_or old Missing) x) (sym e) h
+      | inr e ↦ subst (λ (x : Option (List ℕ)). Is (unwrap_or old Missing) x) (sym e) h
+    ]
+perhaps_so (Some value) old before now h b = tt
+
+is_after : (old new : List Change) (name : List ℕ) (truth : Option (List ℕ))
+    → Is (unwrap_or (or_else (said_in new name) (said_in old name)) Missing) truth → Is (value_in (old ++ new) name) truth
+is_after old new name truth h = subst (λ (x : Option Known). Is (unwrap_or x Missing) truth) (sym (said_after old new name)) h
+
+is_perhaps : (old new : List Change) (name : List ℕ) (truth : Option (List ℕ))
+    → Is (unwrap_or (or_else (unsaid (said_in new name)) (said_in old name)) Missing) truth → Is (value_in (old ++ by_sure false new) name) truth
+is_perhaps old new name truth h =
+    is_after old (by_sure false new) name truth
+    (subst (λ (x : Option Known). Is (unwrap_or (or_else x (said_in old name)) Missing) truth) (sym (perhaps_said new name)) h)
+
+all_sure : (cs : List Change) → by_sure true cs ≡ cs
+all_sure [] = refl
+all_sure (c ∷ more) = ap (λ (x : List Change). c ∷ x) (all_sure more)
+
+changes_so : (sure : Bool) (cs old : List Change) (p q : Properties) → Agrees old p → ((name : List ℕ) → Becomes (said_in cs name) (p name) (q name))
+    → Agrees (old ++ by_sure sure cs) q
+changes_so true cs old p q h b =
+    λ name. subst (λ (x : List Change). Is (value_in (old ++ x) name) (q name)) (sym (all_sure cs))
+    (is_after old cs name (q name) (put_so (said_in cs name) (said_in old name) (p name) (q name) (h name) (b name)))
+changes_so false cs old p q h b =
+    λ name. is_perhaps old cs name (q name) (perhaps_so (said_in cs name) (said_in old name) (p name) (q name) (h name) (inr (b name)))
+
+unchanged_so : (sure : Bool) (cs old : List Change) (p : Properties) → sure ≡ false → Agrees old p → Agrees (old ++ by_sure sure cs) p
+unchanged_so true cs old p e h = absurd (cc)
+unchanged_so false cs old p e h =
+    λ name. is_perhaps old cs name (p name) (perhaps_so (said_in cs name) (said_in old name) (p name) (p name) (h name) (inl refl))
+
+-- effects of tokens
+
+any_name : (name : List ℕ) → starts_with nat_eq name [] ≡ true
+any_name [] = refl
+any_name (b ∷ rest) = refl
+
+opened : (name : List ℕ) (before after : Option (List ℕ)) → Becomes (said_in (Open [] ∷ []) name) before after
+opened name before after = by (starts_with nat_eq name []) (any_name name)
+  where
+    by : (c : Bool) → c ≡ true → Becomes (if c then Some Unknown else None) before after
+    by true e = tt
+    by false e = absurd (cc)
+
+less_known : (k : Knowledge) (kind : TokenKind) (o : Option (List ℕ)) (other : List ℕ) (passes : Bool) (p q : Properties)
+    → IsEffect (known.effect_of k kind (Some (unwrap_or o other))) passes p q → IsEffect (known.effect_of k kind o) passes p q
+less_known k kind (Some text) other passes p q h = h
+less_known k kind None other passes p q h = by (known.imports kind) h
+  where
+    by : (c : Bool) → IsEffect (if c then known.import_of k kind other else known.plain_of kind) passes p q
+        → IsEffect (if c then known.anything else known.plain_of kind) passes p q
+    by true h = record { succeeds = tt; changes = λ name. opened name (p name) (q name) }
+    by false h = h
+
+known_so : (v : Option (List ℕ)) → Is (known.known_value v) v
+known_so None = refl
+known_so (Some text) = refl
+
+kept_so : (v other : Option (List ℕ)) → Is (known.kept v) (if known.is_value_as_is v then v else other)
+kept_so v other = by (known.is_value_as_is v)
+  where
+    by : (c : Bool) → Is (if c then known.known_value v else Unknown) (if c then v else other)
+    by true = known_so v
+    by false = tt
+
+added_so : (old : Known) (truth other : Option (List ℕ)) (text : List ℕ) → Is old truth
+    → Is (known.added_told old text) (if known.is_value_as_is (known.added truth text) then known.added truth text else other)
+added_so Unknown truth other text h = tt
+added_so Missing truth other text h =
+    subst (λ (x : Option (List ℕ)). Is (known.kept (known.some_text text)) (if known.is_value_as_is (known.added x text) then known.added x text else other))
+    (sym h) (kept_so (known.some_text text) other)
+added_so (Text own) truth other text h = tt
+
+set_so : (o : Operator) (text : Option (List ℕ)) (unread : List ℕ) (old : Known) (truth other : Option (List ℕ)) → Is old truth
+    → Is (known.set_told o text old)
+    (let v = (if known.is_add o then known.added truth (unwrap_or text unread) else known.some_text (unwrap_or text unread)) in
+    if known.is_value_as_is v then v else other)
+set_so o None unread old truth other h = tt
+set_so o (Some text) unread old truth other h = by (known.is_add o)
+  where
+    by : (c : Bool)
+        → Is (if c then known.added_told old text else known.kept (known.some_text text))
+        (let v = (if c then known.added truth text else known.some_text text) in if known.is_value_as_is v then v else other)
+    by true = added_so old truth other text h
+    by false = kept_so (known.some_text text) other
+
+assigned_so : (o : Operator) (value : List ℕ) (text : Option (List ℕ)) (unread : List ℕ) (old : Known) (truth other : Option (List ℕ)) → Is old truth
+    → Is (known.assigned_told o value text old)
+    (let v = known.assigned o value (unwrap_or text unread) truth in if is_none value then v else (if known.is_value_as_is v then v else other))
+assigned_so o value text unread old truth other h = by (is_none value)
+  where
+    none : (c : Bool) → Is (if c then old else Missing) (if c then truth else None)
+    none true = h
+    none false = refl
+
+    by : (c : Bool)
+        → Is (if c then (if known.is_add o then old else Missing) else known.set_told o text old)
+        (let v =
+        (if c then (if known.is_add o then truth else None)
+        else (if known.is_add o then known.added truth (unwrap_or text unread) else known.some_text (unwrap_or text unread))) in
+        if c then v else (if known.is_value_as_is v then v else other))
+    by true = none (known.is_add o)
+    by false = set_so o text unread old truth other h
+
+value_so : (e : Event) (n : Turn) (p : Properties) (t : Token) (cs : List Change) → Agrees cs p
+    → Is (known.assigned_told t.operator t.value (known.text_told t.value) (value_in cs t.attribute)) (real.new_value e n p t)
+value_so e n p t cs h =
+    assigned_so t.operator t.value (known.text_told t.value) (e.text n p t) (value_in cs t.attribute) (p t.attribute) (e.sets n p t t.attribute) (h t.attribute)
+
+env_so : (own name : List ℕ) (value : Known) (new before : Option (List ℕ)) → Is value new
+    → Becomes (said_in (Put own value ∷ []) name) before (if bytes_eq own name then new else before)
+env_so own name value new before h = by (bytes_eq own name)
+  where
+    by : (c : Bool) → Becomes (if c then Some value else None) before (if c then new else before)
+    by true = h
+    by false = refl
+
+effect_so : (k : Knowledge) (e : Event) (n : Turn) (p : Properties) (t : Token) (cs : List Change) → IsKnown k e → Agrees cs p
+    → IsEffect (tell.effect_told k cs t) (e.passes n p t 0) p (real.after e n p t)
+effect_so k e n p t cs h a = by (known.is_env t.kind) refl
+  where
+    by : (c : Bool) → known.is_env t.kind ≡ c
+        → IsEffect (if c then tell.env_effect cs t else known.effect_of k t.kind (known.text_told t.value)) (e.passes n p t 0) p
+        (if c then real.with_value p t.attribute (real.new_value e n p t) else e.sets n p t)
+    by true i = record {
+      succeeds = tt;
+      changes = λ name. env_so t.attribute name _ (real.new_value e n p t) (p name) (value_so e n p t cs a);
+    }
+    by false i = less_known k t.kind (known.text_told t.value) (e.text n p t) (e.passes n p t 0) p (e.sets n p t) (h.effects n p t i)
+
+turned_so : (o : Operator) (told : Option Bool) (succeeds : Bool) → Says told succeeds → Says (by_operator_told o told) (by_operator o succeeds)
+turned_so o None succeeds h = tt
+turned_so o (Some told) succeeds h = ap (by_operator o) h
+
+plain_none : (kind : TokenKind) → (known.plain_of kind).succeeds ≡ None
+plain_none Kinds.Tag = refl
+plain_none Kinds.Devlink = refl
+plain_none kind = refl
+
+-- nothing is known of what is run if its text isn't
+effect_none : (k : Knowledge) (kind : TokenKind) → (known.effect_of k kind None).succeeds ≡ None
+effect_none k kind = by (known.imports kind)
+  where
+    by : (c : Bool) → (if c then known.anything else known.plain_of kind).succeeds ≡ None
+    by true = refl
+    by false = plain_none kind
+
+unread_none : (k : Knowledge) (cs : List Change) (t : Token) → known.text_told t.value ≡ None → (tell.effect_told k cs t).succeeds ≡ None
+unread_none k cs t e = by (known.is_env t.kind)
+  where
+    by : (c : Bool) → (if c then tell.env_effect cs t else known.effect_of k t.kind (known.text_told t.value)).succeeds ≡ None
+    by true = refl
+    by false = ap (λ (x : Option (List ℕ)). (known.effect_of k t.kind x).succeeds) e ∙ effect_none k t.kind
+
+cut_so : (o : Operator) (text : Option (List ℕ)) (told : Option Bool) (cuts succeeds : Bool) → (text ≡ None → told ≡ None) → Says told succeeds
+    → Says (by_operator_told o told) (if (if is_some text then false else cuts) then false else by_operator o succeeds)
+cut_so o (Some text) told cuts succeeds n h = turned_so o told succeeds h
+cut_so o None told cuts succeeds n h =
+    subst (λ (x : Option Bool). Says (by_operator_told o x) (if cuts then false else by_operator o succeeds)) (sym (n refl)) tt
+
+passes_so : (k : Knowledge) (e : Event) (n : Turn) (p : Properties) (t : Token) (cs : List Change) → IsKnown k e → Agrees cs p
+    → Says (tell.passes_told t (tell.effect_told k cs t)) (real.goes_on e n p t)
+passes_so k e n p t cs h a = by (runs t.kind)
+  where
+    by : (c : Bool)
+        → Says (if c then by_operator_told t.operator (tell.effect_told k cs t).succeeds else Some true) (if c then real.goes_on_after e n p t else true)
+    by true =
+        cut_so t.operator (known.text_told t.value) (tell.effect_told k cs t).succeeds (e.cuts n p t) (e.passes n p t 0) (unread_none k cs t)
+        (effect_so k e n p t cs h a).succeeds
+    by false = refl
+
+-- lookups
+
+skip_one : (t : Told) (ts : List Told) (xs : List Ask) → t.certain ≡ false → Covers ts xs → Covers (t ∷ ts) xs
+skip_one t ts [] e h = (e, h)
+skip_one t ts (x ∷ xs) e h = inr (e, h)
+
+covers_both : (ts us : List Told) (xs ys : List Ask) → Covers ts xs → Covers us ys → Covers (ts ++ us) (xs ++ ys)
+covers_both [] us [] ys h k = k
+covers_both [] us (x ∷ xs) ys h k = absurd h
+covers_both (t ∷ ts) us [] ys h k = skip_one t (ts ++ us) ys h.0 (covers_both ts us [] ys h.1 k)
+covers_both (t ∷ ts) us (x ∷ xs) ys h k =
+    elim h [ inl a ↦ inl (a.0, covers_both ts us xs ys a.1 k) | inr b ↦ inr (b.0, covers_both ts us (x ∷ xs) ys b.1 k) ]
+
+ask_so : (sure cuts : Bool) (n : Turn) (t : Token) (o : Option (List ℕ)) (unread : List ℕ) (ts : List Told) (xs : List Ask) → Covers ts xs
+    → Covers (record { at = n; token = t; text = o; certain = tell.is_certain_by sure o } ∷ ts)
+    ((if (if is_some o then false else cuts) then [] else record { at = n; token = t; text = unwrap_or o unread } ∷ []) ++ xs)
+ask_so sure cuts n t (Some text) unread ts xs h = inl (record { at = refl; token = refl; text = refl }, h)
+ask_so sure true n t None unread ts xs h = skip_one _ ts xs refl h
+ask_so sure false n t None unread ts xs h = inl (record { at = refl; token = refl; text = tt }, h)
+
+asks_so : (sure : Bool) (e : Event) (n : Turn) (p : Properties) (t : Token) (ts : List Told) (xs : List Ask) → Covers ts xs
+    → Covers (tell.told_in sure n t ++ ts) (real.ask_in e n p t ++ xs)
+asks_so sure e n p t ts xs h = by (is_lookup t)
+  where
+    by : (c : Bool)
+        → Covers ((if c then record { at = n; token = t; text = known.text_told t.value; certain = tell.is_certain sure t } ∷ [] else []) ++ ts)
+        ((if c then real.asked_in e n p t else []) ++ xs)
+    by true = ask_so sure (e.cuts n p t) n t (known.text_told t.value) (e.text n p t) ts xs h
+    by false = h
+
+uncertain : (sure : Bool) (o : Option (List ℕ)) → sure ≡ false → tell.is_certain_by sure o ≡ false
+uncertain sure None e = refl
+uncertain sure (Some text) e = e
+
+none_so : (sure : Bool) (n : Turn) (t : Token) (ts : List Told) → sure ≡ false → Covers ts [] → Covers (tell.told_in sure n t ++ ts) []
+none_so sure n t ts e h = by (is_lookup t)
+  where
+    by : (c : Bool)
+        → Covers ((if c then record { at = n; token = t; text = known.text_told t.value; certain = tell.is_certain sure t } ∷ [] else []) ++ ts) []
+    by true = (uncertain sure (known.text_told t.value) e, h)
+    by false = h
+
+-- tokens
+
+-- a tale is so of what was done
+record Tells (tale : Tale) (d : Done) : Type 0 where
+  told : Covers tale.told d.asks
+  passed : Says tale.passed d.passed
+  changes : Agrees tale.changes d.properties
+
+-- a tale is so if nothing was done
+record Skips (tale : Tale) (p : Properties) : Type 0 where
+  told : Covers tale.told []
+  changes : Agrees tale.changes p
+
+unsure : (sure : Bool) (passes : Option Bool) → sure ≡ false → tell.is_sure sure passes ≡ false
+unsure sure None e = refl
+unsure sure (Some b) e = e
+
+skip_tokens : (k : Knowledge) (sure : Bool) (n : Turn) (cs : List Change) (p : Properties) (tokens : List Token) → sure ≡ false → Agrees cs p
+    → Skips (tell.tell_tokens k sure n cs tokens) p
+skip_tokens k sure n cs p [] e h = record { told = tt; changes = h }
+skip_tokens k sure n cs p (t ∷ more) e h =
+    let effect = tell.effect_told k cs t in
+    let passes = tell.passes_told t effect in
+    let next = cs ++ by_sure sure effect.changes in
+    let a = unchanged_so sure effect.changes cs p e h in
+    by (tell.is_no passes) passes next a (skip_tokens k (tell.is_sure sure passes) n next p more (unsure sure passes e) a)
+  where
+    by : (c : Bool) (passes : Option Bool) (next : List Change) → Agrees next p → Skips (tell.tell_tokens k (tell.is_sure sure passes) n next more) p
+        → Skips (tell.told_before (tell.told_in sure n t) passes (if c then tell.ended false next else tell.tell_tokens k (tell.is_sure sure passes) n next more)) p
+    by true passes next a ih = record { told = none_so sure n t [] e tt; changes = a }
+    by false passes next a ih = record {
+      told = none_so sure n t (tell.tell_tokens k (tell.is_sure sure passes) n next more).told e ih.told;
+      changes = ih.changes;
+    }
+
+and_none : (a : Option Bool) (q : Bool) → Says a q → Says (and_then None a) q
+and_none None q h = tt
+and_none (Some true) q h = tt
+and_none (Some false) q h = h
+
+not_passed : (a : Option Bool) → Says (and_then None a) false
+not_passed None = tt
+not_passed (Some true) = tt
+not_passed (Some false) = refl
+
+-- what comes after a condition, or after something that was run
+join_so : (k : Knowledge) (e : Event) (sure : Bool) (n : Turn) (cs : List Change) (p : Properties) (tokens : List Token) (passes : Option Bool) (goes : Bool)
+    → Says passes goes → Agrees cs p
+    → ((certain : Bool) → Tells (tell.tell_tokens k certain n cs tokens) (real.run_tokens e n p tokens))
+    → Tells (tell.told_before [] passes (if tell.is_no passes then tell.ended false cs else tell.tell_tokens k (tell.is_sure sure passes) n cs tokens))
+    (if goes then real.run_tokens e n p tokens else real.stopped false p)
+join_so k e sure n cs p tokens None true s a ih =
+    let h = ih false in
+    record { told = h.told; passed = and_none (tell.tell_tokens k false n cs tokens).passed _ h.passed; changes = h.changes }
+join_so k e sure n cs p tokens None false s a ih =
+    let h = skip_tokens k false n cs p tokens refl a in
+    record { told = h.told; passed = not_passed (tell.tell_tokens k false n cs tokens).passed; changes = h.changes }
+join_so k e sure n cs p tokens (Some true) true s a ih =
+    let h = ih sure in
+    record { told = h.told; passed = h.passed; changes = h.changes }
+join_so k e sure n cs p tokens (Some true) false s a ih = absurd (cc)
+join_so k e sure n cs p tokens (Some false) true s a ih = absurd (cc)
+join_so k e sure n cs p tokens (Some false) false s a ih = record { told = tt; passed = refl; changes = a }
+
+run_tokens_so : (k : Knowledge) (e : Event) (sure : Bool) (n : Turn) (cs : List Change) (p : Properties) (tokens : List Token) → IsKnown k e → Agrees cs p
+    → Tells (tell.tell_tokens k sure n cs tokens) (real.run_tokens e n p tokens)
+run_tokens_so k e sure n cs p [] h a = record { told = tt; passed = refl; changes = a }
+run_tokens_so k e sure n cs p (t ∷ more) h a =
+    let effect = tell.effect_told k cs t in
+    let passes = tell.passes_told t effect in
+    let next = cs ++ by_sure sure effect.changes in
+    let q = real.after e n p t in
+    let b = changes_so sure effect.changes cs p q a (effect_so k e n p t cs h a).changes in
+    let j =
+    join_so k e sure n next q more passes (real.goes_on e n p t) (passes_so k e n p t cs h a) b
+    (λ certain. run_tokens_so k e certain n next q more h b) in
+    record {
+      told = asks_so sure e n p t _ _ j.told;
+      passed = j.passed;
+      changes = j.changes;
+    }
+
+-- lines
+
+listed_so : (cs : List Change) (p : Properties) (tokens : List Token) (name : List ℕ) → Agrees cs p
+    → Is (entry_of name Unknown (map (tell.entry_for cs) tokens)) (p name)
+listed_so cs p [] name h = tt
+listed_so cs p (t ∷ more) name h = by (bytes_eq t.attribute name) refl (listed_so cs p more name h)
+  where
+    by : (c : Bool) → bytes_eq t.attribute name ≡ c → Is (entry_of name Unknown (map (tell.entry_for cs) more)) (p name)
+        → Is (if c then value_in cs t.attribute else entry_of name Unknown (map (tell.entry_for cs) more)) (p name)
+    by true e ih = subst (λ (x : List ℕ). Is (value_in cs t.attribute) (p x)) ((bytes_eq-Decides t.attribute name).0 e) (h t.attribute)
+    by false e ih = ih
+
+sight_so : (k : Knowledge) (e : Event) (n : Turn) (cs : List Change) (p : Properties) (tokens : List Token) → IsKnown k e → Agrees cs p
+    → IsSight (tell.sight_at k.sight cs tokens) (real.world_at e n p)
+sight_so k e n cs p tokens h a = record {
+  action = h.action;
+  path = h.path;
+  own = h.own;
+  parents = h.parents;
+  properties = λ name. listed_so cs p tokens name a;
+}
+
+line_so : ToldIsSo → (k : Knowledge) (e : Event) (sure : Bool) (n : Turn) (cs : List Change) (p : Properties) (l : RuleLine) → IsKnown k e → Agrees cs p
+    → Tells (tell.tell_line k sure n cs l) (real.run_line e n p l)
+line_so so k e sure n cs p l h a =
+    join_so k e sure n cs p l.tokens (line_told (tell.sight_at k.sight cs l.tokens) l.tokens) (line_holds (real.world_at e n p) l.tokens)
+    (so (tell.sight_at k.sight cs l.tokens) (real.world_at e n p) l.tokens (sight_so k e n cs p l.tokens h a)) a
+    (λ certain. run_tokens_so k e certain n cs p l.tokens h a)
+
+skip_by : (k : Knowledge) (sure : Bool) (n : Turn) (cs : List Change) (p : Properties) (tokens : List Token) (holds : Option Bool) → sure ≡ false
+    → Agrees cs p → Skips (tell.tell_by holds k sure n cs tokens) p
+skip_by k sure n cs p tokens holds e a = by (tell.is_no holds) (skip_tokens k (tell.is_sure sure holds) n cs p tokens (unsure sure holds e) a)
+  where
+    by : (c : Bool) → Skips (tell.tell_tokens k (tell.is_sure sure holds) n cs tokens) p
+        → Skips (tell.told_before [] holds (if c then tell.ended false cs else tell.tell_tokens k (tell.is_sure sure holds) n cs tokens)) p
+    by true h = record { told = tt; changes = a }
+    by false h = record { told = h.told; changes = h.changes }
+
+skip_line : (k : Knowledge) (sure : Bool) (n : Turn) (cs : List Change) (p : Properties) (l : RuleLine) → sure ≡ false → Agrees cs p
+    → Skips (tell.tell_line k sure n cs l) p
+skip_line k sure n cs p l e a = skip_by k sure n cs p l.tokens (line_told (tell.sight_at k.sight cs l.tokens) l.tokens) e a
+
+-- jumps
+
+-- a way waits for a label
+abbrev Waits : (name : List ℕ) → List (List ℕ) → Type 0
+Waits name [] = ⊥
+Waits name (own ∷ more) = (own ≡ name) ⊎ Waits name more
+
+-- where udev is
+abbrev IsAt : Ways → Option (List ℕ) → Type 0
+IsAt w None = w.here ≡ true
+IsAt w (Some name) = Waits name w.waiting
+
+any_waits : (name : List ℕ) (label : Option (List ℕ)) (names : List (List ℕ)) → Waits name names → is_word label name ≡ true
+    → list_any (is_word label) names ≡ true
+any_waits name label [] h e = absurd h
+any_waits name label (own ∷ more) h e =
+    elim h
+    [ inl i ↦ first (is_word label own) (ap (is_word label) i ∙ e) | inr i ↦ second (is_word label own) (any_waits name label more i e) ]
+  where
+    first : (c : Bool) → c ≡ true → (c || list_any (is_word label) more) ≡ true
+    first true i = refl
+    first false i = absurd (cc)
+
+    second : (c : Bool) → list_any (is_word label) more ≡ true → (c || list_any (is_word label) more) ≡ true
+    second true i = refl
+    second false i = i
+
+still_waits : (name : List ℕ) (label : Option (List ℕ)) (names : List (List ℕ)) → Waits name names → is_word label name ≡ false
+    → Waits name (filter (λ own. not (is_word label own)) names)
+still_waits name label [] h e = absurd h
+still_waits name label (own ∷ more) h e = by (is_word label own) refl h (λ j. still_waits name label more j e)
+  where
+    by : (c : Bool) → is_word label own ≡ c → (own ≡ name) ⊎ Waits name more
+        → (Waits name more → Waits name (filter (λ x. not (is_word label x)) more))
+        → Waits name (if not c then own ∷ filter (λ x. not (is_word label x)) more else filter (λ x. not (is_word label x)) more)
+    by true i h ih = elim h [ inl j ↦ absurd (cc) | inr j ↦ ih j ]
+    by false i h ih = elim h [ inl j ↦ inl j | inr j ↦ inr (ih j) ]
+
+some_wait : (name : List ℕ) (names : List (List ℕ)) → Waits name names → is_none names ≡ false
+some_wait name [] h = absurd h
+some_wait name (own ∷ more) h = refl
+
+is_here : (c d : Bool) → (c ≡ true) ⊎ (d ≡ true) → (if c then true else d) ≡ true
+is_here true d h = refl
+is_here false d h = elim h [ inl e ↦ absurd (cc) | inr e ↦ e ]
+
+arrived_so : (w : Ways) (until label : Option (List ℕ)) → IsAt w until → real.is_reached until label ≡ true → (tell.arrived label w).here ≡ true
+arrived_so w None label h e = is_here w.here (list_any (is_word label) w.waiting) (inl h)
+arrived_so w (Some name) label h e = is_here w.here (list_any (is_word label) w.waiting) (inr (any_waits name label w.waiting h e))
+
+-- udev waits for a later line
+data IsLater (until : Option (List ℕ)) (w : Ways) : Type 0 where
+  Later : (name : List ℕ) → until ≡ Some name → Waits name w.waiting → IsLater until w
+
+later_so : (w : Ways) (until label : Option (List ℕ)) → IsAt w until → real.is_reached until label ≡ false → IsLater until (tell.arrived label w)
+later_so w None label h e = absurd (cc)
+later_so w (Some name) label h e = Later name refl (still_waits name label w.waiting h e)
+
+last_waits : (name : List ℕ) (names : List (List ℕ)) → Waits name (names ++ (name ∷ []))
+last_waits name [] = inl refl
+last_waits name (own ∷ more) = inr (last_waits name more)
+
+waits_too : (name other : List ℕ) (names : List (List ℕ)) → Waits name names → Waits name (names ++ (other ∷ []))
+waits_too name other [] h = absurd h
+waits_too name other (own ∷ more) h = elim h [ inl e ↦ inl e | inr e ↦ inr (waits_too name other more e) ]
+
+jumped_so : (w : Ways) (told : Option Bool) (passed : Bool) (goto : Option (List ℕ)) → w.here ≡ true → Says told passed
+    → IsAt (tell.jumped told goto w) (real.jump passed goto)
+jumped_so w told true None h s = h
+jumped_so w told false None h s = h
+jumped_so w None true (Some name) h s = last_waits name w.waiting
+jumped_so w None false (Some name) h s = h
+jumped_so w (Some true) true (Some name) h s = last_waits name w.waiting
+jumped_so w (Some true) false (Some name) h s = absurd (cc)
+jumped_so w (Some false) true (Some name) h s = absurd (cc)
+jumped_so w (Some false) false (Some name) h s = h
+
+waits_on : (w : Ways) (told : Option Bool) (goto : Option (List ℕ)) (name : List ℕ) → Waits name w.waiting → Waits name (tell.jumped told goto w).waiting
+waits_on w told None name h = h
+waits_on w None (Some other) name h = waits_too name other w.waiting h
+waits_on w (Some true) (Some other) name h = waits_too name other w.waiting h
+waits_on w (Some false) (Some other) name h = h
+
+at_label : (w : Ways) (until : Option (List ℕ)) (name : List ℕ) → until ≡ Some name → Waits name w.waiting → IsAt w until
+at_label w until name e h = subst (IsAt w) (sym e) h
+
+-- what is told of lines is so
+record Follows (s : tell.Story) (r : real.Ran) : Type 0 where
+  told : Covers s.told r.asks
+  changes : Agrees s.changes r.properties
+
+tried_so : (tale : Tale) (done : Done) (rest other : tell.Story) (ran : real.Ran) (c : Bool) → c ≡ true → Tells tale done → Follows rest ran
+    → Follows (if c then tell.story_before tale.told rest else other) (real.ran_before done.asks ran)
+tried_so tale done rest other ran true e t f = record { told = covers_both tale.told rest.told done.asks ran.asks t.told f.told; changes = f.changes }
+tried_so tale done rest other ran false e t f = absurd (cc)
+
+left_so : (tale : Tale) (p : Properties) (rest other : tell.Story) (ran : real.Ran) (c : Bool) → Skips tale p → Follows rest ran → Follows other ran
+    → Follows (if c then tell.story_before tale.told rest else other) ran
+left_so tale p rest other ran true t f g = record { told = covers_both tale.told rest.told [] ran.asks t.told f.told; changes = f.changes }
+left_so tale p rest other ran false t f g = g
+
+lines_so : ToldIsSo → (k : Knowledge) (e : Event) (file n : ℕ) (cs : List Change) (p : Properties) (w : Ways) (until : Option (List ℕ)) (lines : List RuleLine)
+    → IsKnown k e → Agrees cs p → IsAt w until → Follows (tell.tell_lines k file n cs w lines) (real.run_lines e file n p until lines)
+lines_so so k e file n cs p w until [] h a i = record { told = tt; changes = a }
+lines_so so k e file n cs p w until (l ∷ more) h a i =
+    by (real.is_reached until l.label) refl
+    (λ ds q v u b j. lines_so so k e file (n + 1) ds q v u more h b j)
+  where
+    by : (c : Bool) → real.is_reached until l.label ≡ c
+        → ((ds : List Change) (q : Properties) (v : Ways) (u : Option (List ℕ)) → Agrees ds q → IsAt v u
+        → Follows (tell.tell_lines k file (n + 1) ds v more) (real.run_lines e file (n + 1) q u more))
+        → Follows (tell.tell_lines k file n cs w (l ∷ more))
+        (if c
+        then real.ran_before (real.run_line e (turn file n) p l).asks
+        (real.run_lines e file (n + 1) (real.run_line e (turn file n) p l).properties (real.jump (real.run_line e (turn file n) p l).passed l.goto) more)
+        else real.run_lines e file (n + 1) p until more)
+    by true c ih =
+        let at : Ways = tell.arrived l.label w in
+        let tale : Tale = tell.tell_line k (is_none at.waiting) (turn file n) cs l in
+        let done : Done = real.run_line e (turn file n) p l in
+        let here = arrived_so w until l.label i c in
+        let t = line_so so k e (is_none at.waiting) (turn file n) cs p l h a in
+        tried_so tale done _ _ _ at.here here t
+        (ih tale.changes done.properties (tell.jumped tale.passed l.goto at) (real.jump done.passed l.goto) t.changes
+        (jumped_so at tale.passed done.passed l.goto here t.passed))
+    by false c ih =
+        let at : Ways = tell.arrived l.label w in
+        let tale : Tale = tell.tell_line k (is_none at.waiting) (turn file n) cs l in
+        elim (later_so w until l.label i c) [
+          | Later name u j ↦
+              let t = skip_line k (is_none at.waiting) (turn file n) cs p l (some_wait name at.waiting j) a in
+              let next : Ways = tell.jumped tale.passed l.goto at in
+              left_so tale p _ _ _ at.here t
+              (ih tale.changes p next until t.changes (at_label next until name u (waits_on at tale.passed l.goto name j)))
+              (ih cs p at until a (at_label at until name u j))
+        ]
+
+files_so : ToldIsSo → (k : Knowledge) (e : Event) (n : ℕ) (cs : List Change) (p : Properties) (files : List (List RuleLine)) → IsKnown k e → Agrees cs p
+    → Covers (tell.tell_files k n cs files) (real.run_files e n p files)
+files_so so k e n cs p [] h a = tt
+files_so so k e n cs p (lines ∷ more) h a =
+    let f = lines_so so k e n 0 cs p tell.start None lines h a refl in
+    covers_both _ _ _ _ f.told (files_so so k e (n + 1) _ _ more h f.changes)
+
+pub events_are_covered : ToldIsSo → EventsAreCovered
+events_are_covered so k e cs p files h a = files_so so k e 0 cs p files h a
+
+all_so : (ts : List Told) (xs : List Ask) → AreCertain ts → Covers ts xs → AreAll ts xs
+all_so [] [] c h = tt
+all_so [] (x ∷ xs) c h = absurd h
+all_so (t ∷ ts) [] c h = both_so t c.0 h.0
+  where
+    both_so : (t : Told) → t.certain ≡ true → t.certain ≡ false → ⊥
+    both_so t c d = absurd (cc)
+all_so (t ∷ ts) (x ∷ xs) c h = elim h [ inl a ↦ (a.0, all_so ts xs c.1 a.1) | inr b ↦ absurd (cc) ]
+
+pub events_are_exact : ToldIsSo → EventsAreExact
+events_are_exact so k e cs p files h a c = all_so (tell.tell_files k 0 cs files) (real.run_files e 0 p files) c (events_are_covered so k e cs p files h a)

@@ -1,0 +1,5 @@
+pub mod Changes
+pub mod Effects
+pub mod Events
+pub mod Telling
+pub mod Laws
