@@ -3,3 +3,4 @@ pub mod Effects
 pub mod Events
 pub mod Telling
 pub mod Laws
+pub mod Rows

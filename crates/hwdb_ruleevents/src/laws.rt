@@ -1,5 +1,6 @@
 //! What is proved of the definitions alone. These functions do nothing: what each of them ensures is a law.
 ghost use Rattle.hwdb_ruleevents.specs.Laws.{EventsAreCovered, EventsAreExact};
+ghost use Rattle.hwdb_ruleevents.specs.Rows.{JumpRows, PropertyRows, TextRows};
 
 use hwdb_rulerun::told_is_so;
 
@@ -16,3 +17,21 @@ pub fn events_are_exact()
 {
     told_is_so();
 }
+
+/// Jumps.
+#[tactic(auto, using(crate::proofs::EventRows::jump_rows_hold))]
+pub fn jump_rows()
+    ensures { JumpRows }
+{}
+
+/// Properties that rules set.
+#[tactic(auto, using(crate::proofs::EventRows::property_rows_hold))]
+pub fn property_rows()
+    ensures { PropertyRows }
+{}
+
+/// The texts of commands.
+#[tactic(auto, using(crate::proofs::EventRows::text_rows_hold))]
+pub fn text_rows()
+    ensures { TextRows }
+{}

@@ -4,9 +4,9 @@
 //!
 //! | Module | What it does |
 //! |---|---|
-//! | `laws` | what is proved of the definitions |
+//! | `laws` | what is proved of the definitions, and worked rows |
 #![tactic(auto)]
 
 mod laws;
 
-pub use laws::{events_are_covered, events_are_exact};
+pub use laws::{events_are_covered, events_are_exact, jump_rows, property_rows, text_rows};
