@@ -12,7 +12,7 @@ use Rattle.hwdb_spec.specs.declared.errors.CompileError.TheVariants as compiling
 use Rattle.hwdb_plan.specs.Laws.{AreAlike, OldOrReplaced, OneForm, OneSpelling, OneTree, TellOne}
 use Rattle.hwdb_plan.specs.Plans.{AreMadeOf, AreTooMuch, Asks, End, Ends, Plan, over, reads_over}
 use Rattle.hwdb_plan.specs.Plans.End.{Answers, Replaces, Stops}
-use Rattle.hwdb_plan.specs.Plans.Plan.{Compile, Database, Decode, Done, Folder, Ignored, Input, Names, Spell, Text}
+use Rattle.hwdb_plan.specs.Plans.Plan.{Compile, Database, Decode, Done, Folder, Ignored, Input, Inspect, Names, Spell, Text}
 use Rattle.hwdb_spec_commands.specs.Told.{Reads, Stop}
 
 abbrev pub MadeOrNot : Type 0
@@ -48,6 +48,11 @@ alike one form spelling not w (Spell text next) e f (inl (p, is, ends)) (inl (q,
 alike one form spelling not w (Spell text next) e f (inl (p, is, ends)) (inr (none, ends2)) = absurd (none p is)
 alike one form spelling not w (Spell text next) e f (inr (none, ends)) (inl (q, is, ends2)) = absurd (none q is)
 alike one form spelling not w (Spell text next) e f (inr (none, ends)) (inr (none2, ends2)) = alike one form spelling not w (next None) e f ends ends2
+alike one form spelling not w (Inspect bytes next) e f (inl (t, is, ends)) (inl (u, is2, ends2)) =
+    alike one form spelling not w (next (Some t)) e f ends (subst (λ (v : Tree). Ends w (next (Some v)) f) (one bytes u t is2 is) ends2)
+alike one form spelling not w (Inspect bytes next) e f (inl (t, is, ends)) (inr (none, ends2)) = absurd (none t is)
+alike one form spelling not w (Inspect bytes next) e f (inr (none, ends)) (inl (u, is, ends2)) = absurd (none u is)
+alike one form spelling not w (Inspect bytes next) e f (inr (none, ends)) (inr (none2, ends2)) = alike one form spelling not w (next None) e f ends ends2
 alike one form spelling not w (Decode bytes bad next) e f (inl (t, is, ends)) (inl (u, is2, ends2)) =
     alike one form spelling not w (next t) e f ends (subst (λ (v : Tree). Ends w (next v) f) (one bytes u t is2 is) ends2)
 alike one form spelling not w (Decode bytes bad next) e f (inl (t, is, ends)) (inr (n, has, same)) = absurd (has.no_tree t is)
@@ -99,6 +104,8 @@ over_is_over is made w (Folder path next) e ends =
 over_is_over is made w (Ignored folder next) e ends = over_is_over is made w (next (w.ignored folder)) e ends
 over_is_over is made w (Spell text next) e (inl (p, is_p, ends)) = inl (p, is_p, over_is_over is made w (next (Some p)) e ends)
 over_is_over is made w (Spell text next) e (inr (none, ends)) = inr (none, over_is_over is made w (next None) e ends)
+over_is_over is made w (Inspect bytes next) e (inl (t, is_t, ends)) = inl (t, is_t, over_is_over is made w (next (Some t)) e ends)
+over_is_over is made w (Inspect bytes next) e (inr (none, ends)) = inr (none, over_is_over is made w (next None) e ends)
 over_is_over is made w (Decode bytes bad next) e (inl (t, is_t, ends)) = inl (t, is_t, over_is_over is made w (next t) e ends)
 over_is_over is made w (Decode bytes bad next) e (inr fault) = inr fault
 over_is_over is made w (Compile etc usr most bad next) e (inl (b, is_b, ends)) = inl (b, is_b, over_is_over is made w (next b) e ends)
@@ -126,6 +133,8 @@ over_is_no_more is made w (Folder path next) e ends =
 over_is_no_more is made w (Ignored folder next) e ends = over_is_no_more is made w (next (w.ignored folder)) e ends
 over_is_no_more is made w (Spell text next) e (inl (p, is_p, ends)) = inl (p, is_p, over_is_no_more is made w (next (Some p)) e ends)
 over_is_no_more is made w (Spell text next) e (inr (none, ends)) = inr (none, over_is_no_more is made w (next None) e ends)
+over_is_no_more is made w (Inspect bytes next) e (inl (t, is_t, ends)) = inl (t, is_t, over_is_no_more is made w (next (Some t)) e ends)
+over_is_no_more is made w (Inspect bytes next) e (inr (none, ends)) = inr (none, over_is_no_more is made w (next None) e ends)
 over_is_no_more is made w (Decode bytes bad next) e (inl (t, is_t, ends)) = inl (t, is_t, over_is_no_more is made w (next t) e ends)
 over_is_no_more is made w (Decode bytes bad next) e (inr fault) = inr fault
 over_is_no_more is made w (Compile etc usr most bad next) e (inl (b, is_b, ends)) = inl (b, is_b, over_is_no_more is made w (next b) e ends)
@@ -149,6 +158,8 @@ only_asked w x (Ignored folder next) e same ends =
     only_asked w x (next (x.ignored folder)) e (λ q asks. same q (inr (x.ignored folder, asks))) (subst (λ r. Ends w (next r) e) (same folder (inl refl)).ignored ends)
 only_asked w x (Spell text next) e same (inl (p, is, ends)) = inl (p, is, only_asked w x (next (Some p)) e (λ q asks. same q (Some p, asks)) ends)
 only_asked w x (Spell text next) e same (inr (none, ends)) = inr (none, only_asked w x (next None) e (λ q asks. same q (None, asks)) ends)
+only_asked w x (Inspect bytes next) e same (inl (t, is, ends)) = inl (t, is, only_asked w x (next (Some t)) e (λ q asks. same q (Some t, asks)) ends)
+only_asked w x (Inspect bytes next) e same (inr (none, ends)) = inr (none, only_asked w x (next None) e (λ q asks. same q (None, asks)) ends)
 only_asked w x (Decode bytes bad next) e same (inl (t, is, ends)) = inl (t, is, only_asked w x (next t) e (λ q asks. same q (t, asks)) ends)
 only_asked w x (Decode bytes bad next) e same (inr fault) = inr fault
 only_asked w x (Compile etc usr most bad next) e same (inl (b, is, ends)) = inl (b, is, only_asked w x (next b) e (λ q asks. same q (b, asks)) ends)

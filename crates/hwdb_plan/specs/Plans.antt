@@ -40,6 +40,8 @@ pub data Plan : Type 0 where
   Ignored : (folder : List ℕ) → (Result (List (List ℕ)) Unread → Plan) → Plan
   -- a text spells a position, or none
   Spell : (text : List ℕ) → (Option Position → Plan) → Plan
+  -- bytes are the database of a tree, or none
+  Inspect : (bytes : List ℕ) → (Option Tree → Plan) → Plan
   -- bytes are the database of a tree, or have some fault: which of several is told is left open
   Decode : (bytes : List ℕ) → (bad : DbFault → Stop) → (Tree → Plan) → Plan
   -- text files make a database, or are too much for one: which of several reasons is told is left open
@@ -65,6 +67,10 @@ AreTooMuch etc usr most e = IsRefusal etc usr most e
 abbrev pub SpellsNone : (text : List ℕ) → Type 0
 SpellsNone text = (p : Position) → IsSpelling p text → ⊥
 
+-- the bytes are the database of no tree
+abbrev pub IsOfNone : (bytes : List ℕ) → Type 0
+IsOfNone bytes = (t : Tree) → IsDatabase bytes t → ⊥
+
 -- the plan ends so if this is told
 unfoldable pub Ends : Reads → Plan → End → Type 0
 Ends w (Done e) end = end ≡ e
@@ -75,6 +81,7 @@ Ends w (Names folder next) end = Ends w (next (w.names folder)) end
 Ends w (Folder path next) end = Ends w (next (w.folder path)) end
 Ends w (Ignored folder next) end = Ends w (next (w.ignored folder)) end
 Ends w (Spell text next) end = ((p : Position) × IsSpelling p text × Ends w (next (Some p)) end) ⊎ (SpellsNone text × Ends w (next None) end)
+Ends w (Inspect bytes next) end = ((t : Tree) × IsDatabase bytes t × Ends w (next (Some t)) end) ⊎ (IsOfNone bytes × Ends w (next None) end)
 Ends w (Decode bytes bad next) end = ((t : Tree) × IsDatabase bytes t × Ends w (next t) end) ⊎ ((f : DbFault) × IsNoDatabase bytes f × (end ≡ Stops (bad f)))
 Ends w (Compile etc usr most bad next) end =
     ((bytes : List ℕ) × AreMadeOf etc usr most bytes × Ends w (next bytes) end) ⊎ ((e : CompileError) × AreTooMuch etc usr most e × (end ≡ Stops (bad e)))
@@ -107,6 +114,7 @@ over is made (Names folder next) = Names folder (λ r. over is made (next r))
 over is made (Folder path next) = if is path then over is made (next (Ok None)) else Folder path (λ r. over is made (next r))
 over is made (Ignored folder next) = Ignored folder (λ r. over is made (next r))
 over is made (Spell text next) = Spell text (λ p. over is made (next p))
+over is made (Inspect bytes next) = Inspect bytes (λ t. over is made (next t))
 over is made (Decode bytes bad next) = Decode bytes bad (λ t. over is made (next t))
 over is made (Compile etc usr most bad next) = Compile etc usr most bad (λ bytes. over is made (next bytes))
 
@@ -132,5 +140,6 @@ Asks (Names folder next) path = (path ≡ folder) ⊎ ((r : Result (List (List �
 Asks (Folder at next) path = (path ≡ at) ⊎ ((r : Result (Option (List (List ℕ))) Unlisted) × Asks (next r) path)
 Asks (Ignored folder next) path = (path ≡ folder) ⊎ ((r : Result (List (List ℕ)) Unread) × Asks (next r) path)
 Asks (Spell text next) path = (p : Option Position) × Asks (next p) path
+Asks (Inspect bytes next) path = (t : Option Tree) × Asks (next t) path
 Asks (Decode bytes bad next) path = (t : Tree) × Asks (next t) path
 Asks (Compile etc usr most bad next) path = (bytes : List ℕ) × Asks (next bytes) path
