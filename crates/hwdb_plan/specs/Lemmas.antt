@@ -7,3 +7,5 @@ pub mod GivenFolders
 pub mod Ends
 pub mod Streams
 pub mod Put
+pub mod Readable
+pub mod Update

@@ -17,4 +17,7 @@ pub mod Near
 pub mod Check
 pub mod Device
 pub mod Put
+pub mod Readable
+pub mod Update
+pub mod Putting
 pub mod Lemmas

@@ -1,33 +1,27 @@
 -- A run does what its plan ends in.
-use Rattle.std.proofs.Common.{◌≡◌, ◌∙◌, ◌⊎◌, inl, inr, ap, sym, subst, Bool, List, None, Option, Some, Result, Ok, Err, MatchResult, ℕ, refl}
+use Rattle.std.proofs.Common.{◌≡◌, ◌∙◌, ◌⊎◌, inl, inr, ap, sym, subst, List, None, Option, Some, Result, Ok, Err, MatchResult, ℕ, refl}
 use Rattle.std.specs.Io.KnownBytes.{Appends}
 use Rattle.std.specs.Result.{IsErrAnd}
-use Rattle.hwdb_spec.specs.CompileErrors.{IsRefusal}
 use Rattle.hwdb_spec_commands.specs.Databases.{IsNoDatabase}
-use Rattle.hwdb_spec.specs.Errors.{refusal_of_compile}
-use Rattle.hwdb_spec.specs.Folders.{FaultIn, Source, faults_of_files}
 use Rattle.hwdb_spec.specs.Format.{IsDatabase}
 use Rattle.hwdb_spec_commands.specs.Refusals.{IsOfCause}
 use Rattle.hwdb_spec_commands.specs.Runs.{AreKept, Files, HasTaken, Told, World}
 use Rattle.hwdb_spec_commands.specs.Streams.{texts_of}
-use Rattle.hwdb_spec.specs.Texts.{devices_of, faults_text, status_of}
+use Rattle.hwdb_spec.specs.Texts.{devices_of}
 use Rattle.hwdb_spec.specs.Tree.{Tree}
 use Rattle.hwdb_spec.specs.declared.DbFault.{DbFault}
 use Rattle.hwdb_spec_commands.specs.declared.form.Form.{Form}
-use Rattle.hwdb_spec.specs.declared.errors.CompileError.{CompileError}
-use Rattle.hwdb_spec.specs.declared.errors.CompileError.TheVariants as compiling
 use Rattle.hwdb_spec.specs.declared.errors.ToolError.TheVariants as error
 use Rattle.hwdb_spec.specs.declared.errors.ToolError.TheVariants.{BadDatabase}
 use Rattle.hwdb_spec_commands.specs.declared.refusals.Refusal.{Refusal}
 use Rattle.hwdb_spec_commands.specs.declared.refusals.Refusal.TheVariants as refusal
-use Rattle.hwdb_plan.specs.Put.{put_plan}
 use Rattle.hwdb_plan.specs.Answers.{streamed}
 use Rattle.hwdb_plan.specs.Dump.{bad_database}
-use Rattle.hwdb_plan.specs.Ended.{Does, IsUnput, Leaves, OnLines, Outs, Prints, ReplacesWith, ShowsEnd, StreamsTo, outs, outs_of, whole}
-use Rattle.hwdb_plan.specs.Plans.{AreMadeOf, End, Ends, Follows, Next, Plan}
+use Rattle.hwdb_plan.specs.Ended.{Does, Leaves, OnLines, Outs, Prints, ShowsEnd, StreamsTo, outs_of, whole}
+use Rattle.hwdb_plan.specs.Plans.{End, Ends, Follows, Next, Plan}
 use Rattle.hwdb_plan.specs.Plans.End.{Answers, Lines, Replaces, Stops, Streams}
 use Rattle.hwdb_spec_commands.specs.Told.{Reads, Stop, stop_of}
-use Rattle.hwdb_spec_commands.specs.Told.Stop.{Over, Plain}
+use Rattle.hwdb_spec_commands.specs.Told.Stop.{Over}
 
 -- an answer that was had and printed, or not: of any type that has a status and two texts
 module _ {Y : Type 0} (status : Y → ℕ) (err out : Y → List ℕ) where
@@ -106,34 +100,6 @@ module _ (w : Reads) (p : Next → Plan) (path bytes : List ℕ) (step : (next :
   unfolding Ends
   stream_shows form t is ib im before now result streams quiet =
       inl (Streams (λ lines. texts_of form lines t), step (streamed form) (Streams (λ lines. texts_of form lines t)) (inl (t, is, refl)), (streams, quiet))
-
--- ---- a database in its place
-module _ (w : Reads) (etc usr : List Source) (most : ℕ) (strict : Bool) (folder : List ℕ) where
-  abbrev Puts : Plan
-  Puts = put_plan etc usr None most strict folder
-
-  pub put_does : (bytes : List ℕ) (t : Tree) (faults : List FaultIn) → AreMadeOf etc usr most bytes → IsDatabase bytes t → faults ≡ faults_of_files etc usr → (before now : World) (result : Result ℕ Refusal)
-      → ReplacesWith folder bytes (faults_text faults) (status_of strict faults) before.files now.files before.err now.err result ⊎ IsUnput before.files now.files before.err now.err result
-      → now.out ≡ before.out → Does w Puts before now result
-  unfolding Ends
-  put_does bytes t faults made is same before now result (inl replaces) quiet =
-      inl (
-        Replaces folder bytes (faults_text (faults_of_files etc usr)) (status_of strict (faults_of_files etc usr)),
-        inl (bytes, made, inl (t, is, refl)),
-        (subst (λ (l : List FaultIn). ReplacesWith folder bytes (faults_text l) (status_of strict l) before.files now.files before.err now.err result) same replaces, quiet),
-      )
-  put_does bytes t faults made is same before now result (inr unput) quiet =
-      inr ((unput.0, ap (λ (x : Told). outs x now.out) unput.1 ∙ ap (λ (x : Told). outs before.err x) quiet), unput.2)
-
-  pub uncompiled_does : (e : CompileError) (r : Refusal) (before : World) → IsRefusal etc usr most e → r ≡ refusal.Plain (refusal_of_compile e) → Does w Puts before before (Err r)
-  unfolding Ends
-  uncompiled_does compiling.Memory r before much is = inr ((is, refl), nothing_changed before.files)
-  uncompiled_does compiling.TooManyFiles r before much is =
-      inl (Stops (Plain error.TooManyFiles), inr (compiling.TooManyFiles, much, refl), ((ap stop_of is, refl), nothing_changed before.files))
-  uncompiled_does compiling.TooManyLines r before much is =
-      inl (Stops (Plain error.TooManyLines), inr (compiling.TooManyLines, much, refl), ((ap stop_of is, refl), nothing_changed before.files))
-  uncompiled_does compiling.TooLarge r before much is =
-      inl (Stops (Plain error.TooLarge), inr (compiling.TooLarge, much, refl), ((ap stop_of is, refl), nothing_changed before.files))
 
 -- ---- an end leaves one status, and one text on each output, if no output fails
 -- devices that tell what they had before

@@ -17,7 +17,7 @@ pub kept : {D : Type 0} (files : D → Files) (old new : D) → new ≡ old → 
 kept files old new same = subst (λ d. AreKept (files old) (files d)) (sym same) record { same = λ p. refl; no_more = λ p v l. l }
 
 module _ (folder bytes said : List ℕ) (status : ℕ) (before now : Files) (err_before err_now : Told) where
-  abbrev Ended : Refusal → Type 0
+  abbrev pub Ended : Refusal → Type 0
   Ended r = ReplacesWith folder bytes said status before now err_before err_now (Err r) ⊎ IsUnput before now err_before err_now (Err r)
 
   over : (u : Unreplaced) (path : List ℕ) (r : Refusal) → IsOfUpdate (Replace u) path r → path ≡ path_in folder database_name → HasTaken said err_before err_now
