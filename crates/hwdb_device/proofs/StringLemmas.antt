@@ -1,5 +1,5 @@
 -- The first string that begins in some way.
-use Rattle.std.proofs.Common.{◌≡◌, ◌∙◌, ap, refl, ℕ, true, false, None, Some, List, [], ◌∷◌, cond, length, map, ◌==◌, arith}
+use Rattle.std.proofs.Common.{◌≡◌, ◌∙◌, ap, sym, refl, ℕ, Bool, true, false, None, Some, List, [], ◌∷◌, cond, length, map, arith}
 use Rattle.hwdb_spec.specs.Lines.{is_none}
 use Rattle.hwdb_spec_commands.specs.DeviceRecords.{begins, first_string}
 use Rattle.hwdb_spec_commands.specs.Lookups.{Found}
@@ -16,9 +16,8 @@ no_string start of (x ∷ list) h = absurd (omega arith)
 
 -- ---- records, or the record of any string
 
-kept_here : (made other : List ℕ) → (length made == 0) ≡ false → made ≡ cond (is_none made) other made
-kept_here [] other h = let e : true ≡ false = h in absurd (cc)
-kept_here (b ∷ more) other h = refl
+pub kept : (made records other : List ℕ) → made ≡ records → is_none made ≡ false → made ≡ cond (is_none records) other records
+kept made records other e h = e ∙ sym (ap (λ (c : Bool). cond c other records) (ap is_none (sym e) ∙ h))
 
-pub kept : (made records other : List ℕ) → made ≡ records → (length made == 0) ≡ false → made ≡ cond (is_none records) other records
-kept made records other e h = kept_here made other h ∙ ap (λ (l : List ℕ). cond (is_none l) other l) e
+pub none_made : (made records other text : List ℕ) → made ≡ records → is_none made ≡ true → text ≡ other → text ≡ cond (is_none records) other records
+none_made made records other text e h t = t ∙ sym (ap (λ (c : Bool). cond c other records) (ap is_none (sym e) ∙ h))

@@ -1,6 +1,7 @@
 //! Records to begin with: a pattern for each prefix at which people set properties of a device, and these properties.
 ghost use Rattle.std.specs.Prelude.{◌≡◌, ◌++◌, codes, option_map, IfOk, OnOk};
 ghost use Rattle.std.specs.Option.{option_or};
+ghost use Rattle.hwdb_spec.specs.Lines.{is_none};
 ghost use Rattle.hwdb_spec_commands.specs.DeviceRecords;
 ghost use Rattle.hwdb_device.specs.Views.{all_found};
 
@@ -277,6 +278,13 @@ fn first_record(alloc: Global, machine: &[u8], found: &[Found<'_>]) -> Result<Ve
     Ok(made)
 }
 
+/// Whether there is no record.
+fn is_nothing(made: &[u8]) -> bool
+    ensures { result ≡ is_none made.now }
+{
+    made.is_empty()
+}
+
 /// What `--pattern` prints of the strings of a device, by its subsystem and the machine's name.
 pub(crate) fn records_text(
     alloc: Global,
@@ -288,7 +296,7 @@ pub(crate) fn records_text(
         ≡ DeviceRecords.records_text subsystem.now machine.now (all_found found.now)) }
 {
     let made = set_records(alloc, subsystem, machine, found)?;
-    if made.is_empty() {
+    if is_nothing(&made) {
         return first_record(alloc, machine, found);
     }
     Ok(made)

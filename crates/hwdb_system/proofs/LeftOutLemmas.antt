@@ -137,7 +137,7 @@ named_less root contents gone etc usr etc2 usr2 in_etc in_usr is_etc is_usr = re
 }
 
 -- ---- what is said of them
-lines_more : (root : List ℕ) (cs : List Choice) (text : List ℕ) (c : Choice) (cause : Option Cause) (words : List ℕ) → AreTold root cs text
+pub lines_more : (root : List ℕ) (cs : List Choice) (text : List ℕ) (c : Choice) (cause : Option Cause) (words : List ℕ) → AreTold root cs text
     → AreTold root (cs ++ c ∷ []) (text ++ left_out_line (root ++ path_of c) cause words)
 lines_more root [] text c cause words told =
     (cause, words, [], ap (λ l. l ++ left_out_line (root ++ path_of c) cause words) told ∙ sym (append-nil (left_out_line (root ++ path_of c) cause words)), refl)

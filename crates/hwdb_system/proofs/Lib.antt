@@ -2,6 +2,7 @@ pub mod LeftOutLemmas
 pub mod LineLemmas
 pub mod MemoryLemmas
 pub mod NameLemmas
+pub mod ReadableLemmas
 pub mod ReasonLemmas
 pub mod RootLemmas
 pub mod SelectionLemmas

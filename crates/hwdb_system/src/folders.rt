@@ -13,7 +13,7 @@ ghost use Rattle.hwdb_spec_commands.specs.Told.{IsListedTo, IsReadTo};
 ghost use Rattle.hwdb_spec_commands.specs.declared.refusals.Refusal.TheVariants.{Plain};
 ghost use Rattle.hwdb_plan.specs.Folders.{paths_of, read_texts, texts_of_folders, texts_of_names};
 ghost use Rattle.hwdb_plan.specs.Plans.{ReachesValue};
-ghost use Rattle.hwdb_system.specs.Selections.{texts_in};
+ghost use Rattle.hwdb_system.specs.Selections.{IsAmong, texts_in};
 
 use crate::files::joined;
 use crate::system::System;
@@ -63,6 +63,7 @@ pub fn selected_of<D: System>(
 ) -> Result<Selection, Refusal>
     ensures told { D.Store.tells → ReachesValue texts_in (D.System.reads system.now)
         (texts_of_names root.now (map string_bytes etc.now) (map string_bytes usr.items)) result }
+    ensures among { IfOk result (IsAmong (map string_bytes etc.now) (map string_bytes usr.items)) }
     ensures count { IfOk result (λ s. length s.texts.items ≡ length s.chosen.items) }
     ensures storable { IfOk result (λ s. All IsStorableChoice (map choice_of s.chosen.items)) }
     ensures selected { (files : Contents)

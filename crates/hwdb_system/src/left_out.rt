@@ -1,9 +1,12 @@
 //! Chosen text files that can't be read: an update may leave them out, and says so.
-ghost use Rattle.std.specs.Prelude.{◌≡◌, ◌≢◌, ◌⊎◌, ◌++◌, ◌∷◌, [], ℕ, List, All, Err, IfErr, IfOk, OnOk, cond, filter, length, map, not, string_bytes, true};
+ghost use Rattle.std.specs.Prelude.{◌≡◌, ◌≢◌, ◌⊎◌, ◌++◌, ◌∷◌, [], ℕ, List, All, Err, IfErr, IfOk, OnOk, cond, false, filter, length, map, not, string_bytes, true};
 ghost use Rattle.hwdb_spec.specs.Folders.{lists};
 ghost use Rattle.hwdb_text.specs.Views.{IsStorableChoice, choice_of};
 ghost use Rattle.hwdb_spec.specs.Selected.{AreNamed, AreSelected};
 ghost use Rattle.hwdb_system.specs.Internal.{IsNameSet};
+ghost use Rattle.hwdb_plan.specs.Folders.{choose};
+ghost use Rattle.hwdb_plan.specs.Readable.{LeftOut, ReachesOf, is_read_error, look, none_left_out, others, read_names, readable_texts};
+ghost use Rattle.hwdb_system.specs.Selections.{AreLeftOutBy, IsReadableOf, IsSelectionBut};
 ghost use Rattle.hwdb_system.specs.LeftOut.{AreFound, AreToldOf, IsNoted, IsNotedOf};
 ghost use Rattle.hwdb_spec_commands.specs.LeftOutTold.{AreSelectedLess, AreUnreadLess, left_out_line};
 ghost use Rattle.hwdb_spec_commands.specs.LeftOut.{less};
@@ -11,7 +14,7 @@ ghost use Rattle.hwdb_spec_commands.specs.Reading.{AreUnread, AreUnreadIn, IsCho
 ghost use Rattle.hwdb_spec_commands.specs.Refusals.{HasReason, IsUnreadable, file_text};
 ghost use Rattle.hwdb_spec_commands.specs.declared.refusals.Refusal.TheVariants.{Plain};
 
-use crate::folders::{ETC_FILES, Selection, USR_FILES, listed, read_file, selected, selected_of};
+use crate::folders::{ETC_FILES, Selection, USR_FILES, listed, read_file, selected_of};
 use crate::system::System;
 use hwdb_io::Cause;
 use hwdb_show::push_name;
@@ -107,6 +110,7 @@ fn push_line(said: &mut Vec<u8>, path: &[u8], cause: Option<Cause>) -> Result<()
 fn note(said: &mut Vec<u8>, refusal: Refusal) -> Result<(), Refusal>
     ensures noted { OnOk result (IsNoted refusal said.old.items said.new.items) }
     ensures refused { IfErr result (λ r. (r ≡ Plain ToolError.Memory) ⊎ (r ≡ refusal)) }
+    ensures other { IfErr result (λ r. is_read_error r ≡ false) }
 {
     match refusal {
         Refusal::At(ToolError::Read, path, cause) => {
@@ -135,6 +139,7 @@ fn push_unread(
         (map string_bytes found.old.names.items) (map string_bytes found.new.names.items)
         found.old.said.items found.new.said.items) }
     ensures refused { IfErr result (λ r. (r ≡ Plain ToolError.Memory) ⊎ (read ≡ Err r)) }
+    ensures other { IfErr result (λ r. is_read_error r ≡ false) }
 {
     match read {
         Ok(_) => Ok(()),
@@ -157,6 +162,10 @@ fn find_unreadable<D: System>(
     ensures told { IfOk result (λ u. AreToldOf
         (IsUnreadable (D.System.may_fail system.now) (D.Store.seen system.now)) root.now
         (map choice_of chosen.now) (map string_bytes u.names.items) u.said.items) }
+    ensures follows { D.Store.tells → (words : List (List ℕ)) × ReachesOf
+        (λ u. AreLeftOutBy root.now (map string_bytes u.names.items) u.said.items)
+        (D.System.reads system.now)
+        (look root.now (map choice_of chosen.now) words none_left_out) result }
     ensures refused { IfErr result (λ r. (r ≡ Plain ToolError.Memory)
         ⊎ IsChosenUnread root.now (map choice_of chosen.now) r) }
     ensures reason { IfErr result (HasReason
@@ -183,6 +192,11 @@ fn unreadable_of<D: System>(
     usr: &[String],
     system: &D,
 ) -> Result<Unreadable, Refusal>
+    ensures follows { D.Store.tells → (words : List (List ℕ)) × ReachesOf
+        (λ u. AreLeftOutBy root.now (map string_bytes u.names.items) u.said.items)
+        (D.System.reads system.now)
+        (λ next. choose (map string_bytes etc.now) (map string_bytes usr.now)
+        (λ chosen. look root.now chosen words none_left_out next)) result }
     ensures found { AreNamed root.now (D.Store.seen system.now) (D.Store.seen system.now)
         (map string_bytes etc.now) (map string_bytes usr.now)
         → IfOk result (λ u. AreFound (D.System.may_fail system.now) root.now
@@ -208,6 +222,12 @@ fn selected_but<D: System>(
     names: &[String],
     system: &D,
 ) -> Result<Selection, Refusal>
+    ensures follows { AreNamed root.now (D.Store.seen system.now) (D.Store.seen system.now)
+        (map string_bytes etc.now) (map string_bytes usr.now) → D.Store.tells
+        → (left : LeftOut) → map (λ c. c.name) left.files ≡ map string_bytes names.now
+        → ReachesOf (IsSelectionBut left) (D.System.reads system.now)
+        (read_names root.now (others left.files (map string_bytes etc.now))
+        (others left.files (map string_bytes usr.now)) left) result }
     ensures count { IfOk result (λ s. length s.texts.items ≡ length s.chosen.items) }
     ensures storable { IfOk result (λ s. All IsStorableChoice (map choice_of s.chosen.items)) }
     ensures selected { AreNamed root.now (D.Store.seen system.now) (D.Store.seen system.now)
@@ -238,6 +258,9 @@ fn selected_less<D: System>(
     root: &str,
     system: &D,
 ) -> Result<ReadableSelection, Refusal>
+    ensures follows { D.Store.tells → (words : List (List ℕ)) × ReachesOf
+        (IsReadableOf root.now) (D.System.reads system.now)
+        (readable_texts true root.now words) result }
     ensures count { IfOk result
         (λ r. length r.selection.texts.items ≡ length r.selection.chosen.items) }
     ensures storable { IfOk result
@@ -262,7 +285,7 @@ fn selected_less<D: System>(
     })
 }
 
-/// Chooses among the text files of both folders below the root, and reads the chosen ones, as [`selected`] does. If
+/// Chooses among the text files of both folders below the root, and reads the chosen ones, as [`selected`](crate::selected) does. If
 /// `skip`, a chosen one that can't be read is left out.
 pub fn selected_readable<D: System>(
     alloc: Global,
@@ -270,6 +293,9 @@ pub fn selected_readable<D: System>(
     skip: bool,
     system: &D,
 ) -> Result<ReadableSelection, Refusal>
+    ensures follows { D.Store.tells → (words : List (List ℕ)) × ReachesOf
+        (IsReadableOf root.now) (D.System.reads system.now)
+        (readable_texts skip root.now words) result }
     ensures count { IfOk result
         (λ r. length r.selection.texts.items ≡ length r.selection.chosen.items) }
     ensures storable { IfOk result
@@ -284,13 +310,15 @@ pub fn selected_readable<D: System>(
         (HasReason (D.System.may_fail system.now) ⊥ (D.Store.seen system.now)) }
     ensures unread { IfErr result (λ r. r ≢ Plain ToolError.Write) }
 {
-    match selected(alloc, root, system) {
+    let etc = listed(alloc, root, ETC_FILES, system)?;
+    let usr = listed(alloc, root, USR_FILES, system)?;
+    match selected_of(alloc, root, &etc, usr, system) {
         Ok(selection) => Ok(ReadableSelection {
             selection,
             said: Vec::new(alloc),
         }),
         Err(refusal) => {
-            if skip && refusal.is_unread() {
+            if skip {
                 selected_less(alloc, root, system)
             } else {
                 Err(refusal)

@@ -1,4 +1,4 @@
-use Rattle.std.proofs.Common.{ℕ, List, [], ⊎_elim, inl, inr, ◌≡◌, ◌≤◌, All, length, map, string_bytes, ◌∙◌, ap, sym, subst, Err, Global, Ok, Vec}
+use Rattle.std.proofs.Common.{refl, ℕ, List, [], ⊎_elim, inl, inr, ◌≡◌, ◌≤◌, All, length, map, string_bytes, ◌∙◌, ap, sym, subst, Err, Global, Ok, Vec}
 use Rattle.std.proofs.lemmas.List.Elements.{All-map}
 use Rattle.hwdb_spec.specs.Selected.{IsListed, AreNamed, AreTexts}
 use Rattle.hwdb_text.specs.Views.{choice_of}
@@ -99,3 +99,12 @@ returns-clause-told g c = λ tells.
     (chosen_read w root etc usr items c.in_ok-chosen.ensures.few c.in_ok-texts.texts reads next e
     (subst (λ l. Ends w (next (with_texts usr l (items c.in_ok-texts.texts))) e) c.in_ok-chosen.ensures.chosen
     (subst (λ l. Ends w (next (with_texts (map string_bytes l) (map choice_of c.in_ok-chosen.chosen.items) (items c.in_ok-texts.texts))) e) (sym c.deref.ensures.value) ends)))
+
+pub returns-clause-among : goal.returns-clause-among
+returns-clause-among g c =
+    let etc = map string_bytes c.args.etc.now in
+    record {
+      listed = refl;
+      chosen = subst (λ l. map choice_of c.in_ok-chosen.chosen.items ≡ choice etc (map string_bytes l)) c.deref.ensures.value c.in_ok-chosen.ensures.chosen;
+      few = subst (λ l. length (names etc (map string_bytes l)) ≤ max_files) c.deref.ensures.value c.in_ok-chosen.ensures.few;
+    }
