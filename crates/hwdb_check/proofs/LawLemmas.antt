@@ -161,11 +161,13 @@ fine_after (suc n) pattern place text e = by (step pattern place) (λ now at k. 
         → (if b then mended_in n now at else None) ≡ Some text → likely_judgement text ≡ Fine
     later true now at again k = again k
     later false now at again k = absurd cc
+
     told : (now : List ℕ) (j : Judgement) → ((at : ℕ) → mended_in n now at ≡ Some text → likely_judgement text ≡ Fine)
         → likely_judgement now ≡ j → follow (mended_in n) place now j ≡ Some text → likely_judgement text ≡ Fine
     told now Fine again is k = let same : now ≡ text = cc in subst (λ (t : List ℕ). likely_judgement t ≡ Fine) same is
     told now UnknownPrefix again is k = absurd cc
     told now (Dead at) again is k = later (nat_lt place at) now at (again at) k
+
     by : (s : Option (List ℕ)) → ((now : List ℕ) (at : ℕ) → mended_in n now at ≡ Some text → likely_judgement text ≡ Fine)
         → option_and_then (λ now. follow (mended_in n) place now (likely_judgement now)) s ≡ Some text → likely_judgement text ≡ Fine
     by None again k = absurd cc

@@ -56,7 +56,8 @@ pub use files::{Checked, TextFile, check_files, reports_of};
 pub use hwdb_show::push_shown;
 pub use kinds::{KINDS, Telling};
 pub use laws::{
-    deep_lines_are_told, kinds_are_named, likelihood_is_judged, mends_are_likely, patterns_are_judged,
+    deep_lines_are_told, kinds_are_named, likelihood_is_judged, mends_are_likely,
+    patterns_are_judged,
 };
 pub use line_texts::{LineStart, find_line, first_start};
 pub use tallies::push_count;

@@ -126,11 +126,7 @@ fn failure_line(alloc: Global, failure: Failure<'_>) -> Result<Vec<u8>, AllocErr
 }
 
 /// Adds the line of JSON.
-pub fn push_json(
-    alloc: Global,
-    text: &mut Vec<u8>,
-    failure: Failure<'_>,
-) -> Result<(), AllocError>
+pub fn push_json(alloc: Global, text: &mut Vec<u8>, failure: Failure<'_>) -> Result<(), AllocError>
     ensures { OnOk result (text.new.items ≡ text.old.items ++ json_line
         (failure_json failure.entry.path.now failure.entry.device.now
         (line_at failure.entry.line.now) (map given_at failure.entry.instead.now))) }
