@@ -14,6 +14,7 @@
 //! | `Json` | each line of JSON that is printed, and what is read of one |
 //! | `Reports` | the reports of a file's faults |
 //! | `Properties` | which properties are known, which values they take, and what is said of others |
+//! | `Mends` | what a pattern was likely meant to be that no string of udev matches |
 //! | `Unmatched` | what is said of a pattern that matches no text that udev asks, or none that it likely asks |
 //! | `Surroundings` | what is said of a property because of the patterns and properties around it |
 //! | `Kinds` | the names of faults and warnings, and which warnings are told |
@@ -46,6 +47,7 @@
 //! | `Colours` | how a text is shown in colour |
 //! | `Inputs` | what kinds of input device udev sees in one |
 //! | `Lookups` | the strings that udev's rules ask for a device, in their order |
+//! | `DeviceRecords` | the records that `device --pattern` prints |
 //! | `DeviceTexts` | what `device` prints: the strings that are asked for a device, and what each gets |
 //! | `DeviceAsked` | the device that `device` is asked for, what it prints, and what it says if there is none |
 //! | `CommandLine` | the command line as data: options, arguments and commands |
