@@ -1,7 +1,7 @@
 -- What is said of a property because of what is around it: the patterns of its record, and the other properties that these are
--- given. Below which prefixes a property is read is from the heads of systemd's hwdb files and from udev's rules, as are the prefixes
--- below which all names are known. Which properties of a wheel belong together is from 70-mouse.hwdb and parse_hwdb.py. How Linux logs
--- the code of a key is from its driver atkbd. The rest is our choice.
+-- given. Below which prefixes a property is read is from the heads of systemd's hwdb files and from udev's rules. So are the prefixes below
+-- which all names are known. Which properties of a wheel belong together is from 70-mouse.hwdb and parse_hwdb.py. How Linux logs the code
+-- of a key is from its driver atkbd. The rest is our choice.
 use Rattle.std.specs.Prelude.{Bool, true, false, ℕ, List, [], ◌∷◌, ◌++◌, ◌+◌, ◌==◌, if◌then◌else◌, codes, drop, filter, is_some, length, nat_eq, nat_lt, not, take}
 use Rattle.std.specs.List.{list_all, list_any, starts_with}
 use Rattle.hwdb_spec.specs.Assignment.{Assignment}
