@@ -1,0 +1,5 @@
+pub mod TextLemmas
+pub mod RuleLemmas
+pub mod OverlapLemmas
+pub mod SampleLemmas
+pub mod ComputedRows

@@ -1,0 +1,4 @@
+pub mod Samples
+pub mod Views
+pub mod Internal
+pub mod Rows

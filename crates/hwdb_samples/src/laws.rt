@@ -1,0 +1,19 @@
+//! Worked rows: these functions do nothing, and what each of them ensures is so.
+ghost use Rattle.hwdb_samples.specs.Rows.{GivenRows, LaterRows, MetRows, RuleRows, SameRows, SettledRows, ShownRows};
+
+/// What rules give devices.
+#[tactic(auto, using(crate::proofs::ComputedRows::given_rows_hold, crate::proofs::ComputedRows::later_rows_hold))]
+pub fn given_rows()
+    ensures given { GivenRows }
+    ensures later { LaterRows }
+{}
+
+/// What two sides give, and what is shown of them.
+#[tactic(auto, using(crate::proofs::ComputedRows::same_rows_hold, crate::proofs::ComputedRows::rule_rows_hold, crate::proofs::ComputedRows::met_rows_hold, crate::proofs::ComputedRows::shown_rows_hold, crate::proofs::ComputedRows::settled_rows_hold))]
+pub fn sample_rows()
+    ensures same { SameRows }
+    ensures rule { RuleRows }
+    ensures met { MetRows }
+    ensures shown { ShownRows }
+    ensures settled { SettledRows }
+{}

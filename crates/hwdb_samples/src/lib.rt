@@ -1,0 +1,24 @@
+//! Devices made of patterns: what a change of text files does, shown without a list of devices.
+//!
+//! | Module | What it does |
+//! |---|---|
+//! | `rules` | what the rules of one key give a device |
+//! | `overlap` | whether two patterns match no device both, or one all that the other does |
+//! | `agreement` | whether two sides give the same to each device that a pattern matches |
+//! | `changes` | the patterns of rules that one side alone has, or has at another place |
+//! | `texts` | a short text that a pattern matches |
+//! | `samples` | the samples of two sides |
+//! | `laws` | worked rows of the definitions |
+#![tactic(auto)]
+
+mod agreement;
+mod changes;
+mod laws;
+mod overlap;
+mod rules;
+mod samples;
+mod texts;
+
+pub use laws::{given_rows, sample_rows};
+pub use rules::{Rule, given};
+pub use samples::{Sample, Samples, samples_of};
