@@ -13,6 +13,7 @@ use Rattle.hwdb_spec_program.specs.DeviceErrors.{asked_names}
 use Rattle.hwdb_spec_program.specs.ProgramPlan.{Around, program_plan}
 use Rattle.hwdb_plan.specs.Answers.{explain_plan, query_plan}
 use Rattle.hwdb_plan.specs.Ask.{ask_plan}
+use Rattle.hwdb_plan.specs.Check.{check_plan, said_of}
 use Rattle.hwdb_plan.specs.Device.{device_plan}
 use Rattle.hwdb_plan.specs.Dump.{dump_plan}
 use Rattle.hwdb_plan.specs.List.{list_plan}
@@ -62,6 +63,13 @@ NamedRows =
     ∷ asked a (codes "test" ∷ codes "--database" ∷ codes "d" ∷ codes "f" ∷ codes "g" ∷ []) ∷ []
     ≡ Some (ask_plan (codes "f") (codes "a") (codes "f")) ∷ Some (verify_plan (Some (codes "d")) []) ∷ Some (dump_plan None (codes "/r"))
     ∷ Some (test_plan a.input (codes "f" ∷ codes "g" ∷ []) (Some (codes "d")) [] false) ∷ []
+
+-- Kinds that are allowed are told as they are given, and `--strict` may stand before the command's word.
+abbrev pub CheckRows : Type 0
+CheckRows =
+    (a : Around)
+    → asked a (codes "--strict" ∷ codes "check" ∷ codes "--allow" ∷ codes "near-name" ∷ codes "-r" ∷ codes "/r" ∷ codes "--allow=scan-code" ∷ codes "f" ∷ codes "-" ∷ []) ∷ asked a (codes "check" ∷ codes "--json" ∷ []) ∷ []
+    ≡ Some (check_plan a.input (codes "f" ∷ codes "-" ∷ []) (codes "/r") (said_of false true (codes "near-name" ∷ codes "scan-code" ∷ []))) ∷ Some (check_plan a.input [] [] (said_of true false [])) ∷ []
 
 -- Words that ask for no command, for one that has no plan yet, or for `--text`.
 abbrev pub NoneRows : Type 0

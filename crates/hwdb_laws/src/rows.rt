@@ -297,6 +297,7 @@ pub fn plan_rows()
     ensures list { PlanRows.ListRows }
     ensures near { PlanRows.NearRows }
     ensures device { PlanRows.DeviceRows }
+    ensures check { PlanRows.CheckRows }
     ensures named { PlanRows.NamedRows }
     ensures none { PlanRows.NoneRows }
     ensures input { PlanRows.InputRows }

@@ -1,9 +1,9 @@
--- The plan of a run, as its words compute it. Which words each command has is in `Jobs`. `update`, `status`, `check` and `diff` have no plan
--- here yet, and no command has its own with `--text`. `query` is systemd-hwdb(8)'s; the rest is our choice.
+-- The plan of a run, as its words compute it. Which words each command has is in `Jobs`. `update`, `status` and `diff` have no plan here
+-- yet, and no command has its own with `--text`. `query` is systemd-hwdb(8)'s; the rest is our choice.
 use Rattle.clap.specs.Simple.{matches_of, subcommand_of}
 use Rattle.clap.specs.Walk.{Row, Text, all_of, first_of, one_of}
 use Rattle.std.specs.Option.{option_or, unwrap_or}
-use Rattle.std.specs.Prelude.{◌-◌, ◌∷◌, ℕ, Bool, false, List, [], None, Option, Some, Result, IfSome, codes, find, if◌then◌else◌, length, option_map, take}
+use Rattle.std.specs.Prelude.{◌-◌, ◌||◌, ◌∷◌, ℕ, Bool, false, List, [], None, Option, Some, Result, IfSome, codes, find, if◌then◌else◌, length, option_map, take}
 use Rattle.std.specs.Str.{bytes_eq}
 use Rattle.std.specs.Str.Parse.{digits_value, without_leading_plus}
 use Rattle.hwdb_spec_commands.specs.CommandLine.{hwdb_app}
@@ -18,6 +18,7 @@ use Rattle.hwdb_spec_commands.specs.declared.unread.Unread.{Unread}
 use Rattle.hwdb_spec_program.specs.DeviceErrors.{asked_names}
 use Rattle.hwdb_plan.specs.Answers.{explain_plan, query_plan}
 use Rattle.hwdb_plan.specs.Ask.{lone_answer}
+use Rattle.hwdb_plan.specs.Check.{check_plan, said_of}
 use Rattle.hwdb_plan.specs.Device.{OfCause, device_plan}
 use Rattle.hwdb_plan.specs.Dump.{text_form}
 use Rattle.hwdb_plan.specs.Ended.{Outs, ShowsEnd}
@@ -57,6 +58,10 @@ before_last texts = take (length texts - 1) texts
 abbrev pub root_given : (top rows : List Row) → List ℕ
 root_given top rows = unwrap_or (option_or (first_of (codes "root") rows) (first_of (codes "root") top)) []
 
+-- warnings count, by the words after the command or before it
+abbrev pub strict_given : (top rows : List Row) → Bool
+strict_given top rows = has_flag (codes "strict") rows || has_flag (codes "strict") top
+
 -- ---- plans by the word of a command
 -- of `near`: its last word is the device, and those before it are files
 abbrev pub near_of : Around → (root : List ℕ) → List Row → Plan
@@ -70,13 +75,18 @@ device_of a root rows =
     device_plan a.sight a.cause asked_names root
     (device_form (has_flag (codes "strings") rows) (has_flag (codes "json") rows) (has_flag (codes "pattern") rows)) (first_of (codes "DEVICE") rows)
 
+-- of `check`
+abbrev pub check_of : Around → (root : List ℕ) (strict : Bool) → List Row → Plan
+check_of a root strict rows =
+    check_plan a.input (values_of (codes "FILE") rows) root (said_of (has_flag (codes "json") rows) strict (values_of (codes "allow") rows))
+
 -- of `ask`
 abbrev pub ask_of : Around → List Row → Plan
 ask_of a rows = let file = value_of (codes "FILE") rows in given_at a.input file (lone_answer file (value_of (codes "MODALIAS") rows))
 
 -- each command that has a plan: its word, and its plan over what is matched after it
-abbrev pub plans : Around → (root : List ℕ) → List Row → List (Text × Plan)
-plans a root rows =
+abbrev pub plans : Around → (root : List ℕ) (strict : Bool) → List Row → List (Text × Plan)
+plans a root strict rows =
     let json = has_flag (codes "json") rows in
     let device = value_of (codes "MODALIAS") rows in
     (codes "query", query_plan root json (values_of (codes "MODALIAS") rows))
@@ -85,20 +95,21 @@ plans a root rows =
     ∷ (codes "list", list_plan root json device (first_of (codes "after") rows) (limit_of rows))
     ∷ (codes "near", near_of a root rows)
     ∷ (codes "device", device_of a root rows)
+    ∷ (codes "check", check_of a root strict rows)
     ∷ (codes "test", test_plan a.input (values_of (codes "FILE") rows) (first_of (codes "database") rows) root json)
     ∷ (codes "verify", given_or_asked a.input (first_of (codes "DATABASE") rows) root summary)
     ∷ (codes "dump", given_or_asked a.input (first_of (codes "DATABASE") rows) root text_form)
     ∷ []
 
 -- that of one, by its word
-abbrev pub command_plan : Around → (root : List ℕ) (word : Text) → List Row → Option Plan
-command_plan a root word rows = option_map (λ row. row.1) (find (λ row. bytes_eq row.0 word) (plans a root rows))
+abbrev pub command_plan : Around → (root : List ℕ) (strict : Bool) (word : Text) → List Row → Option Plan
+command_plan a root strict word rows = option_map (λ row. row.1) (find (λ row. bytes_eq row.0 word) (plans a root strict rows))
 
 -- ---- plans by words
 -- of what is matched before a command's word, and of that with what is matched after it
 abbrev pub found_plan : Around → (top : List Row) → Option (Text × List Row) → Option Plan
 found_plan a top None = None
-found_plan a top (Some found) = command_plan a (root_given top found.1) found.0 found.1
+found_plan a top (Some found) = command_plan a (root_given top found.1) (strict_given top found.1) found.0 found.1
 
 -- of the words, the first of which is the program's name, over the files as they are
 abbrev pub files_plan : Around → (words : List Text) → Option Plan

@@ -1,4 +1,4 @@
-use Rattle.hwdb_laws.proofs.ComputedPlanRows.{device_rows, input_rows, list_rows, named_rows, near_rows, none_rows, query_rows, sysfs_rows}
+use Rattle.hwdb_laws.proofs.ComputedPlanRows.{check_rows, device_rows, input_rows, list_rows, named_rows, near_rows, none_rows, query_rows, sysfs_rows}
 use Rattle.hwdb_laws.proofs.rows.plan_rows.Goals as goal
 
 pub returns : goal.returns
@@ -7,6 +7,7 @@ returns c = record {
   list = list_rows;
   near = near_rows;
   device = device_rows;
+  check = check_rows;
   named = named_rows;
   none = none_rows;
   input = input_rows;
