@@ -21,7 +21,7 @@ pub struct Asked<'a> {
 }
 
 /// What a line runs after its conditions.
-fn runs(kind: TokenKind) -> bool
+pub fn runs(kind: TokenKind) -> bool
     ensures { result ≡ Asking.runs kind }
 {
     match kind {
@@ -58,7 +58,7 @@ fn is_hwdb(command: &[u8]) -> bool
 }
 
 /// Whether a token asks the hardware database.
-fn is_lookup(token: &Token) -> bool
+pub fn is_lookup(token: &Token) -> bool
     ensures { result ≡ Asking.is_lookup (token_of token.now) }
 {
     is_import(token.kind) && is_hwdb(&token.value)

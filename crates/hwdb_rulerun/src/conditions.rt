@@ -17,7 +17,7 @@ use std::alloc::{AllocError, Global};
 pub const ATTRIBUTE_SIZE: usize = 511;
 
 /// Both, if a no decides.
-fn and_then(one: Option<bool>, other: Option<bool>) -> Option<bool>
+pub fn and_then(one: Option<bool>, other: Option<bool>) -> Option<bool>
     ensures { result ≡ Telling.and_then one other }
 {
     match one {
@@ -55,7 +55,7 @@ fn by_operator(operator: Operator, fits: bool) -> bool
 }
 
 /// What a token makes of what is told of a comparison.
-fn by_operator_told(operator: Operator, fits: Option<bool>) -> Option<bool>
+pub fn by_operator_told(operator: Operator, fits: Option<bool>) -> Option<bool>
     ensures { result ≡ Telling.by_operator_told operator fits }
 {
     match fits {

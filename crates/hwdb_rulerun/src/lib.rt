@@ -17,11 +17,11 @@ mod laws;
 mod matching;
 mod sights;
 
-pub use asking::{Asked, lookups};
+pub use asking::{Asked, is_lookup, lookups, runs};
 pub use causes::cause;
-pub use conditions::{ATTRIBUTE_SIZE, line_told};
+pub use conditions::{ATTRIBUTE_SIZE, and_then, by_operator_told, line_told};
 pub use laws::{
     cause_is_there, condition_rows, lookup_rows, lookups_are_covered, match_rows, told_is_so,
 };
-pub use matching::told_fit;
+pub use matching::{has_byte, is_wild, told_fit};
 pub use sights::{Entry, Known, Seen, Sight};

@@ -34,7 +34,8 @@ fn folded(alloc: Global, folds: bool, text: &[u8]) -> Result<Vec<u8>, AllocError
     Ok(all)
 }
 
-fn is_wild(byte: u8) -> bool
+/// *, ? or [
+pub fn is_wild(byte: u8) -> bool
     ensures { result ≡ Matching.is_wild byte }
 {
     matches!(byte, b'*' | b'?' | b'[')
