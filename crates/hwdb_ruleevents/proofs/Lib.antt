@@ -1,3 +1,4 @@
 pub mod ChangeLemmas
+pub mod TellLemmas
 pub mod EventLemmas
 pub mod EventRows

@@ -3,4 +3,10 @@ pub mod Effects
 pub mod Events
 pub mod Telling
 pub mod Laws
+pub mod ChangeViews
+pub mod TextViews
+pub mod EffectViews
+pub mod TellViews
+pub mod Internal
+pub mod FileViews
 pub mod Rows

@@ -1,12 +1,22 @@
-//! Which lookups the lines of udev's rules ask for one device: jumps, and properties that rules set.
-//!
-//! The definitions and their laws alone. `specs/Events` says what udev does, `specs/Telling` what is told of it.
+//! What the lines of udev's rules ask for one device: jumps, properties that rules set, and lookups, each certain or perhaps.
 //!
 //! | Module | What it does |
 //! |---|---|
-//! | `laws` | what is proved of the definitions, and worked rows |
+//! | `changes` | what is known of properties while rules run |
+//! | `effects` | what is known of a token that is run |
+//! | `telling` | what is told of a line |
+//! | `files` | jumps, and what is told of the lines of files |
+//! | `laws` | what is proved of the definitions alone |
 #![tactic(auto)]
 
+mod changes;
+mod effects;
+mod files;
 mod laws;
+mod telling;
 
+pub use changes::Change;
+pub use effects::{Command, Knowledge};
+pub use files::tell_files;
 pub use laws::{events_are_covered, events_are_exact, jump_rows, property_rows, text_rows};
+pub use telling::Told;

@@ -1,0 +1,233 @@
+//! Jumps, and what is told of the lines of files.
+ghost use Rattle.std.specs.Prelude.{◌≡◌, ◌++◌, map, filter, not, IfOk, OnOk};
+ghost use Rattle.std.specs.List.{list_any};
+ghost use Rattle.hwdb_spec.specs.Lines.{is_none};
+ghost use Rattle.hwdb_rulefiles.specs.PairViews.{value_view};
+ghost use Rattle.hwdb_rulefiles.specs.RuleTokens.{is_word};
+ghost use Rattle.hwdb_rulefiles.specs.LineViews.{line_of};
+ghost use Rattle.hwdb_rulefiles.specs.Views.{text_of};
+ghost use Rattle.hwdb_ruleevents.specs.Telling;
+ghost use Rattle.hwdb_ruleevents.specs.Internal;
+ghost use Rattle.hwdb_ruleevents.specs.Events.{turn};
+ghost use Rattle.hwdb_ruleevents.specs.ChangeViews.{change_of};
+ghost use Rattle.hwdb_ruleevents.specs.EffectViews.{knowledge_of};
+ghost use Rattle.hwdb_ruleevents.specs.TellViews.{told_of, turn_of};
+ghost use Rattle.hwdb_ruleevents.specs.FileViews.{lines_of, progress_of, story_of, ways_of};
+
+use crate::changes::Change;
+use crate::effects::Knowledge;
+use crate::telling::{Place, Told, tell_line};
+use hwdb_rulefiles::RuleLine;
+use std::alloc::{AllocError, Global};
+
+/// Where the ways are of which one is taken: here, or at labels for which they wait.
+#[derive(Drop)]
+pub struct Ways<'a> {
+    here: bool,
+    waiting: Vec<&'a [u8]>,
+}
+
+/// What is told of lines.
+#[derive(Drop)]
+pub struct Story<'a> {
+    /// Their lookups, in their order.
+    pub told: Vec<Told<'a>>,
+    /// What is known of properties after them.
+    pub changes: Vec<Change<'a>>,
+}
+
+/// What is told of the lines so far, and where the ways are.
+#[derive(Drop)]
+pub struct Progress<'a> {
+    story: Story<'a>,
+    ways: Ways<'a>,
+}
+
+fn is_label(label: &Option<Vec<u8>>, name: &[u8]) -> bool
+    ensures { result ≡ is_word (value_view label.now) name.now }
+{
+    match label {
+        None => false,
+        Some(text) => text.as_slice() == name,
+    }
+}
+
+/// Whether a way waits for a line. All are looked at: the time grows with the lines times the jumps that are open.
+fn waits(label: &Option<Vec<u8>>, waiting: &[&[u8]]) -> bool
+    ensures { result ≡ list_any (is_word (value_view label.now)) (map text_of waiting.now) }
+{
+    for name in waiting {
+        if is_label(label, name) {
+            return true;
+        }
+    }
+    false
+}
+
+/// The ways that wait for another line.
+fn others<'a>(
+    alloc: Global,
+    label: &Option<Vec<u8>>,
+    waiting: &[&'a [u8]],
+) -> Result<Vec<&'a [u8]>, AllocError>
+    ensures { IfOk result (λ all. map text_of all.items
+        ≡ filter (λ name. not (is_word (value_view label.now) name)) (map text_of waiting.now)) }
+{
+    let mut all = Vec::new(alloc);
+    for name in waiting {
+        if !is_label(label, name) {
+            all.push(*name)?;
+        }
+    }
+    Ok(all)
+}
+
+/// Those that waited for a line are here.
+fn arrived<'a>(
+    alloc: Global,
+    label: &Option<Vec<u8>>,
+    ways: Ways<'a>,
+) -> Result<Ways<'a>, AllocError>
+    ensures { IfOk result (λ w. ways_of w
+        ≡ Telling.arrived (value_view label.now) (ways_of ways.entry)) }
+{
+    let here = ways.here || waits(label, &ways.waiting);
+    let waiting = others(alloc, label, &ways.waiting)?;
+    Ok(Ways { here, waiting })
+}
+
+/// A way waits for a line with this name.
+fn waiting_for<'a>(here: bool, ways: Ways<'a>, name: &'a [u8]) -> Result<Ways<'a>, AllocError>
+    ensures { IfOk result (λ w. ways_of w ≡ Telling.waiting_for here (ways_of ways.entry) name.now) }
+{
+    let mut waiting = ways.waiting;
+    waiting.push(name)?;
+    Ok(Ways { here, waiting })
+}
+
+/// A line that comes to its end, or may come to it, jumps.
+fn jumped<'a>(
+    passed: Option<bool>,
+    goto: &'a Option<Vec<u8>>,
+    ways: Ways<'a>,
+) -> Result<Ways<'a>, AllocError>
+    ensures { IfOk result (λ w. ways_of w
+        ≡ Telling.jumped passed (value_view goto.now) (ways_of ways.entry)) }
+{
+    match goto {
+        None => Ok(ways),
+        Some(name) => match passed {
+            Some(false) => Ok(ways),
+            Some(true) => waiting_for(false, ways, name),
+            None => waiting_for(ways.here, ways, name),
+        },
+    }
+}
+
+/// A line that some way comes to.
+fn tried<'a>(
+    alloc: Global,
+    knowledge: &Knowledge<'a>,
+    at: Place,
+    progress: Progress<'a>,
+    line: &'a RuleLine,
+) -> Result<Progress<'a>, AllocError>
+    ensures { IfOk result (λ p. progress_of p ≡ Internal.tried (knowledge_of knowledge.now)
+        at.sure (turn_of at) (progress_of progress.entry) (line_of line.now)) }
+{
+    let Progress { story, ways } = progress;
+    let Story { mut told, changes } = story;
+    let tale = tell_line(alloc, knowledge, at, changes, line)?;
+    told.extend_from_slice(&tale.told)?;
+    let ways = jumped(tale.passed, &line.goto, ways)?;
+    Ok(Progress {
+        story: Story {
+            told,
+            changes: tale.changes,
+        },
+        ways,
+    })
+}
+
+/// Whether no way waits.
+#[tactic(auto, using(crate::proofs::TellLemmas::nobody_waits))]
+fn is_nobody(waiting: &[&[u8]]) -> bool
+    ensures { result ≡ is_none (map text_of waiting.now) }
+{
+    waiting.is_empty()
+}
+
+/// One more line.
+fn step<'a>(
+    alloc: Global,
+    knowledge: &Knowledge<'a>,
+    place: (usize, usize),
+    progress: Progress<'a>,
+    line: &'a RuleLine,
+) -> Result<Progress<'a>, AllocError>
+    ensures { IfOk result (λ p. progress_of p ≡ Internal.step (knowledge_of knowledge.now)
+        (turn place.0 place.1) (progress_of progress.entry) (line_of line.now)) }
+{
+    let Progress { story, ways } = progress;
+    let ways = arrived(alloc, &line.label, ways)?;
+    if !ways.here {
+        return Ok(Progress { story, ways });
+    }
+    let at = Place {
+        file: place.0,
+        line: place.1,
+        sure: is_nobody(&ways.waiting),
+    };
+    tried(alloc, knowledge, at, Progress { story, ways }, line)
+}
+
+/// What is told of the lines of a file.
+#[tactic(auto, using(crate::proofs::TellLemmas::line_on))]
+fn tell_lines<'a>(
+    alloc: Global,
+    knowledge: &Knowledge<'a>,
+    file: usize,
+    story: Story<'a>,
+    lines: &'a [RuleLine],
+) -> Result<Story<'a>, AllocError>
+    ensures { IfOk result (λ s. story_of s ≡ Telling.story_before (story_of story.entry).told
+        (Telling.tell_lines (knowledge_of knowledge.now) file 0 (story_of story.entry).changes
+        Telling.start (map line_of lines.now))) }
+{
+    let mut progress = Progress {
+        story,
+        ways: Ways {
+            here: true,
+            waiting: Vec::new(alloc),
+        },
+    };
+    for (number, line) in lines.iter().enumerate() {
+        progress = step(alloc, knowledge, (file, number), progress, line)?;
+    }
+    Ok(progress.story)
+}
+
+/// What is told of the lookups of rules files, one after the other, with what is known of properties before them.
+///
+/// # Errors
+///
+/// `AllocError` at any allocation that fails.
+#[tactic(auto, using(crate::proofs::TellLemmas::file_on))]
+pub fn tell_files<'a>(
+    alloc: Global,
+    knowledge: &Knowledge<'a>,
+    changes: Vec<Change<'a>>,
+    files: &[&'a [RuleLine]],
+) -> Result<Vec<Told<'a>>, AllocError>
+    ensures { IfOk result (λ all. map told_of all.items ≡ Telling.tell_files
+        (knowledge_of knowledge.now) 0 (map change_of changes.entry.items) (map lines_of files.now)) }
+{
+    let mut story = Story {
+        told: Vec::new(alloc),
+        changes,
+    };
+    for (number, lines) in files.iter().enumerate() {
+        story = tell_lines(alloc, knowledge, number, story, lines)?;
+    }
+    Ok(story.told)
+}

@@ -1,0 +1,322 @@
+//! What is told of the tokens of a line, and of a line.
+ghost use Rattle.std.specs.Prelude.{◌≡◌, ◌++◌, ◌∷◌, [], map, true, false, Option, Some, None, IfOk, OnOk};
+ghost use Rattle.hwdb_rulefiles.specs.TokenViews.{token_of};
+ghost use Rattle.hwdb_rulefiles.specs.LineViews.{line_of};
+ghost use Rattle.hwdb_rulerun.specs.Telling as RunTelling;
+ghost use Rattle.hwdb_rulerun.specs.Views.{entry_view, known_of, sight_of};
+ghost use Rattle.hwdb_ruleevents.specs.Telling;
+ghost use Rattle.hwdb_ruleevents.specs.Effects;
+ghost use Rattle.hwdb_ruleevents.specs.ChangeViews.{change_of};
+ghost use Rattle.hwdb_ruleevents.specs.EffectViews.{effect_view, knowledge_of};
+ghost use Rattle.hwdb_ruleevents.specs.TextViews.{text_view};
+ghost use Rattle.hwdb_ruleevents.specs.TellViews.{turn_of, told_of, tale_of};
+
+use crate::changes::{Change, put_all, value_in};
+use crate::effects::{Effect, Knowledge, assigned_told, effect_of, text_told};
+use hwdb_rulefiles::{Operator, RuleLine, Token, TokenKind};
+use hwdb_rulerun::{Entry, Sight, and_then, by_operator_told, is_lookup, line_told, runs};
+use std::alloc::{AllocError, Global};
+
+/// A lookup that is told.
+#[derive(Clone, Copy)]
+pub struct Told<'a> {
+    /// The number of its file, from 0.
+    pub file: usize,
+    /// The number of its line among those of the file, from 0.
+    pub line: usize,
+    /// Its token.
+    pub token: &'a Token,
+    /// The text of its command, if it is known.
+    pub text: Option<&'a [u8]>,
+    /// Whether it is asked, or may be asked.
+    pub certain: bool,
+}
+
+/// What is told of a line: its lookups, whether it comes to its end, and what is known of properties after it.
+#[derive(Drop)]
+pub struct Tale<'a> {
+    /// Its lookups.
+    pub told: Vec<Told<'a>>,
+    /// Whether it comes to its end.
+    pub passed: Option<bool>,
+    /// What is known of properties.
+    pub changes: Vec<Change<'a>>,
+}
+
+/// A line that is tried, or that may be tried.
+#[derive(Clone, Copy)]
+pub struct Place {
+    /// The number of its file.
+    pub file: usize,
+    /// Its number among the lines of the file.
+    pub line: usize,
+    /// Whether it is tried for certain.
+    pub sure: bool,
+}
+
+impl Place {
+    /// The same line, tried for certain or not.
+    fn with(self, sure: bool) -> Place
+        ensures line { turn_of result ≡ turn_of self }
+        ensures sure { result.sure ≡ sure }
+    {
+        Place {
+            file: self.file,
+            line: self.line,
+            sure,
+        }
+    }
+}
+
+/// Whether a lookup with this text is certain.
+fn is_certain(sure: bool, text: Option<&[u8]>) -> bool
+    ensures { result ≡ Telling.is_certain_by sure (text_view text.entry) }
+{
+    match text {
+        None => false,
+        Some(_) => sure,
+    }
+}
+
+fn is_env(kind: TokenKind) -> bool
+    ensures { result ≡ Effects.is_env kind }
+{
+    match kind {
+        TokenKind::Env => true,
+        _ => false,
+    }
+}
+
+fn is_no(passes: Option<bool>) -> bool
+    ensures { result ≡ Telling.is_no passes }
+{
+    match passes {
+        Some(false) => true,
+        _ => false,
+    }
+}
+
+/// Whether what comes after a condition is certain.
+fn is_sure(sure: bool, passes: Option<bool>) -> bool
+    ensures { result ≡ Telling.is_sure sure passes }
+{
+    match passes {
+        None => false,
+        Some(_) => sure,
+    }
+}
+
+/// What a line sees of the properties that it names.
+fn entries<'a>(
+    alloc: Global,
+    changes: &[Change<'a>],
+    tokens: &'a [Token],
+) -> Result<Vec<Entry<'a>>, AllocError>
+    ensures { IfOk result (λ all. map entry_view all.items
+        ≡ map (Telling.entry_for (map change_of changes.now)) (map token_of tokens.now)) }
+{
+    let mut all = Vec::new(alloc);
+    for token in tokens {
+        all.push(Entry {
+            name: &token.attribute,
+            value: value_in(changes, &token.attribute),
+        })?;
+    }
+    Ok(all)
+}
+
+/// The conditions of a line, as far as they are known.
+fn holds(
+    alloc: Global,
+    sight: &Sight<'_>,
+    changes: &[Change<'_>],
+    tokens: &[Token],
+) -> Result<Option<bool>, AllocError>
+    ensures { IfOk result (λ told. told ≡ RunTelling.line_told
+        (Telling.sight_at (sight_of sight.now) (map change_of changes.now) (map token_of tokens.now))
+        (map token_of tokens.now)) }
+{
+    let entries = entries(alloc, changes, tokens)?;
+    let seen = Sight {
+        action: sight.action,
+        path: sight.path,
+        own: sight.own,
+        parents: sight.parents,
+        properties: &entries,
+        closed: false,
+    };
+    line_told(alloc, &seen, tokens)
+}
+
+/// The effect of ENV.
+fn env_effect<'a>(
+    alloc: Global,
+    changes: &[Change<'a>],
+    token: &'a Token,
+) -> Result<Effect<'a>, AllocError>
+    ensures { IfOk result (λ e. effect_view e
+        ≡ Telling.env_effect (map change_of changes.now) (token_of token.now)) }
+{
+    let old = value_in(changes, &token.attribute);
+    let value = assigned_told(token.operator, &token.value, old);
+    let mut new = Vec::new(alloc);
+    new.push(Change::Put(&token.attribute, value))?;
+    Ok(Effect {
+        succeeds: None,
+        changes: new,
+    })
+}
+
+/// The effect of a token.
+fn effect_told<'a>(
+    alloc: Global,
+    knowledge: &Knowledge<'a>,
+    changes: &[Change<'a>],
+    token: &'a Token,
+) -> Result<Effect<'a>, AllocError>
+    ensures { IfOk result (λ e. effect_view e ≡ Telling.effect_told
+        (knowledge_of knowledge.now) (map change_of changes.now) (token_of token.now)) }
+{
+    if is_env(token.kind) {
+        return env_effect(alloc, changes, token);
+    }
+    effect_of(alloc, knowledge, token.kind, text_told(&token.value))
+}
+
+/// Whether a line goes on after something that succeeds, or not.
+fn passes_by(kind: TokenKind, operator: Operator, succeeds: Option<bool>) -> Option<bool>
+    ensures { result ≡ Telling.passes_by kind operator succeeds }
+{
+    if runs(kind) {
+        return by_operator_told(operator, succeeds);
+    }
+    Some(true)
+}
+
+impl<'a> Tale<'a> {
+    /// Nothing is told yet.
+    fn new(alloc: Global, changes: Vec<Change<'a>>) -> Tale<'a>
+        ensures { tale_of result ≡ Telling.ended true (map change_of changes.entry.items) }
+    {
+        Tale {
+            told: Vec::new(alloc),
+            passed: Some(true),
+            changes,
+        }
+    }
+
+    /// Adds the lookup of a token.
+    fn ask(&mut self, at: Place, token: &'a Token) -> Result<(), AllocError>
+        ensures { OnOk result (tale_of self.new
+            ≡ Telling.asked (tale_of self.old) (Telling.told_in at.sure (turn_of at) (token_of token.now))) }
+    {
+        if !is_lookup(token) {
+            return Ok(());
+        }
+        let text = text_told(&token.value);
+        let certain = is_certain(at.sure, text);
+        self.told.push(Told {
+            file: at.file,
+            line: at.line,
+            token,
+            text,
+            certain,
+        })?;
+        Ok(())
+    }
+
+    /// A token is run, or may be run. Gives whether it is passed.
+    fn run(
+        &mut self,
+        alloc: Global,
+        knowledge: &Knowledge<'a>,
+        at: Place,
+        token: &'a Token,
+    ) -> Result<Option<bool>, AllocError>
+        ensures tale { OnOk result (tale_of self.new ≡ Telling.run_in
+            (knowledge_of knowledge.now) at.sure (turn_of at) (tale_of self.old) (token_of token.now)) }
+        ensures passes { IfOk result (λ passes. passes ≡ Telling.passes_told (token_of token.now)
+            (Telling.effect_told (knowledge_of knowledge.now) (tale_of self.old).changes (token_of token.now))) }
+    {
+        let effect = effect_told(alloc, knowledge, &self.changes, token)?;
+        let passes = passes_by(token.kind, token.operator, effect.succeeds);
+        self.ask(at, token)?;
+        self.passed = and_then(self.passed, passes);
+        put_all(&mut self.changes, at.sure, &effect.changes)?;
+        Ok(passes)
+    }
+}
+
+/// Tokens that run, or that may run.
+#[tactic(auto, using(crate::proofs::TellLemmas::goes_on, crate::proofs::TellLemmas::stops, crate::proofs::TellLemmas::no_token))]
+fn tell_tokens<'a>(
+    alloc: Global,
+    knowledge: &Knowledge<'a>,
+    at: Place,
+    changes: Vec<Change<'a>>,
+    tokens: &'a [Token],
+) -> Result<Tale<'a>, AllocError>
+    ensures { IfOk result (λ tale. tale_of tale ≡ Telling.tell_tokens (knowledge_of knowledge.now)
+        at.sure (turn_of at) (map change_of changes.entry.items) (map token_of tokens.now)) }
+{
+    let mut tale = Tale::new(alloc, changes);
+    let mut sure = at.sure;
+    for token in tokens {
+        let here = at.with(sure);
+        let passes = tale.run(alloc, knowledge, here, token)?;
+        if is_no(passes) {
+            return Ok(tale);
+        }
+        sure = is_sure(sure, passes);
+    }
+    Ok(tale)
+}
+
+/// Nothing is told of a line whose conditions don't hold.
+fn ended<'a>(alloc: Global, changes: Vec<Change<'a>>) -> Tale<'a>
+    ensures { tale_of result ≡ Telling.ended false (map change_of changes.entry.items) }
+{
+    Tale {
+        told: Vec::new(alloc),
+        passed: Some(false),
+        changes,
+    }
+}
+
+/// A line whose conditions hold, or may hold, or don't.
+fn tell_by<'a>(
+    alloc: Global,
+    knowledge: &Knowledge<'a>,
+    at: Place,
+    tale: (Option<bool>, Vec<Change<'a>>),
+    tokens: &'a [Token],
+) -> Result<Tale<'a>, AllocError>
+    ensures { IfOk result (λ t. tale_of t ≡ Telling.tell_by tale.entry.0 (knowledge_of knowledge.now)
+        at.sure (turn_of at) (map change_of tale.entry.1.items) (map token_of tokens.now)) }
+{
+    let (holds, changes) = tale;
+    if is_no(holds) {
+        let mut told = ended(alloc, changes);
+        told.passed = and_then(holds, told.passed);
+        return Ok(told);
+    }
+    let here = at.with(is_sure(at.sure, holds));
+    let mut told = tell_tokens(alloc, knowledge, here, changes, tokens)?;
+    told.passed = and_then(holds, told.passed);
+    Ok(told)
+}
+
+/// A line that is tried, or that may be tried.
+pub fn tell_line<'a>(
+    alloc: Global,
+    knowledge: &Knowledge<'a>,
+    at: Place,
+    changes: Vec<Change<'a>>,
+    line: &'a RuleLine,
+) -> Result<Tale<'a>, AllocError>
+    ensures { IfOk result (λ tale. tale_of tale ≡ Telling.tell_line (knowledge_of knowledge.now)
+        at.sure (turn_of at) (map change_of changes.entry.items) (line_of line.now)) }
+{
+    let holds = holds(alloc, &knowledge.sight, &changes, &line.tokens)?;
+    tell_by(alloc, knowledge, at, (holds, changes), &line.tokens)
+}
