@@ -307,7 +307,8 @@ fn set_told<'a>(operator: Operator, text: Option<&'a [u8]>, old: Known<'_>) -> K
 /// What is known of what ENV makes of a property.
 pub fn assigned_told<'a>(operator: Operator, value: &'a [u8], old: Known<'a>) -> Known<'a>
     ensures { known_of result
-        ≡ Effects.assigned_told operator value.now (Effects.text_told value.now) (known_of old.entry) }
+        ≡ Effects.assigned_told operator value.now (Effects.text_told value.now)
+        (known_of old.entry) }
 {
     if !value.is_empty() {
         return set_told(operator, text_told(value), old);

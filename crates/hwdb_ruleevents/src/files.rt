@@ -98,7 +98,8 @@ fn arrived<'a>(
 
 /// A way waits for a line with this name.
 fn waiting_for<'a>(here: bool, ways: Ways<'a>, name: &'a [u8]) -> Result<Ways<'a>, AllocError>
-    ensures { IfOk result (λ w. ways_of w ≡ Telling.waiting_for here (ways_of ways.entry) name.now) }
+    ensures { IfOk result
+        (λ w. ways_of w ≡ Telling.waiting_for here (ways_of ways.entry) name.now) }
 {
     let mut waiting = ways.waiting;
     waiting.push(name)?;
@@ -220,7 +221,8 @@ pub fn tell_files<'a>(
     files: &[&'a [RuleLine]],
 ) -> Result<Vec<Told<'a>>, AllocError>
     ensures { IfOk result (λ all. map told_of all.items ≡ Telling.tell_files
-        (knowledge_of knowledge.now) 0 (map change_of changes.entry.items) (map lines_of files.now)) }
+        (knowledge_of knowledge.now) 0 (map change_of changes.entry.items)
+        (map lines_of files.now)) }
 {
     let mut story = Story {
         told: Vec::new(alloc),

@@ -133,7 +133,8 @@ fn holds(
     tokens: &[Token],
 ) -> Result<Option<bool>, AllocError>
     ensures { IfOk result (λ told. told ≡ RunTelling.line_told
-        (Telling.sight_at (sight_of sight.now) (map change_of changes.now) (map token_of tokens.now))
+        (Telling.sight_at (sight_of sight.now) (map change_of changes.now)
+        (map token_of tokens.now))
         (map token_of tokens.now)) }
 {
     let entries = entries(alloc, changes, tokens)?;
@@ -208,7 +209,8 @@ impl<'a> Tale<'a> {
     /// Adds the lookup of a token.
     fn ask(&mut self, at: Place, token: &'a Token) -> Result<(), AllocError>
         ensures { OnOk result (tale_of self.new
-            ≡ Telling.asked (tale_of self.old) (Telling.told_in at.sure (turn_of at) (token_of token.now))) }
+            ≡ Telling.asked (tale_of self.old)
+            (Telling.told_in at.sure (turn_of at) (token_of token.now))) }
     {
         if !is_lookup(token) {
             return Ok(());
@@ -234,9 +236,11 @@ impl<'a> Tale<'a> {
         token: &'a Token,
     ) -> Result<Option<bool>, AllocError>
         ensures tale { OnOk result (tale_of self.new ≡ Telling.run_in
-            (knowledge_of knowledge.now) at.sure (turn_of at) (tale_of self.old) (token_of token.now)) }
+            (knowledge_of knowledge.now) at.sure (turn_of at) (tale_of self.old)
+            (token_of token.now)) }
         ensures passes { IfOk result (λ passes. passes ≡ Telling.passes_told (token_of token.now)
-            (Telling.effect_told (knowledge_of knowledge.now) (tale_of self.old).changes (token_of token.now))) }
+            (Telling.effect_told (knowledge_of knowledge.now) (tale_of self.old).changes
+            (token_of token.now))) }
     {
         let effect = effect_told(alloc, knowledge, &self.changes, token)?;
         let passes = passes_by(token.kind, token.operator, effect.succeeds);
@@ -256,8 +260,9 @@ fn tell_tokens<'a>(
     changes: Vec<Change<'a>>,
     tokens: &'a [Token],
 ) -> Result<Tale<'a>, AllocError>
-    ensures { IfOk result (λ tale. tale_of tale ≡ Telling.tell_tokens (knowledge_of knowledge.now)
-        at.sure (turn_of at) (map change_of changes.entry.items) (map token_of tokens.now)) }
+    ensures { IfOk result (λ tale. tale_of tale
+        ≡ Telling.tell_tokens (knowledge_of knowledge.now) at.sure (turn_of at)
+        (map change_of changes.entry.items) (map token_of tokens.now)) }
 {
     let mut tale = Tale::new(alloc, changes);
     let mut sure = at.sure;
@@ -291,8 +296,9 @@ fn tell_by<'a>(
     tale: (Option<bool>, Vec<Change<'a>>),
     tokens: &'a [Token],
 ) -> Result<Tale<'a>, AllocError>
-    ensures { IfOk result (λ t. tale_of t ≡ Telling.tell_by tale.entry.0 (knowledge_of knowledge.now)
-        at.sure (turn_of at) (map change_of tale.entry.1.items) (map token_of tokens.now)) }
+    ensures { IfOk result (λ t. tale_of t
+        ≡ Telling.tell_by tale.entry.0 (knowledge_of knowledge.now) at.sure (turn_of at)
+        (map change_of tale.entry.1.items) (map token_of tokens.now)) }
 {
     let (holds, changes) = tale;
     if is_no(holds) {
