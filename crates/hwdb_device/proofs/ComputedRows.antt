@@ -5,6 +5,7 @@ use Rattle.std.specs.Char.{encode_utf8}
 use Rattle.std.specs.Str.{chars, is_utf8}
 use Rattle.json.specs.Print.{escape_byte, print_from}
 use Rattle.hwdb_spec.specs.Assignment.{put, put_all}
+use Rattle.strsim.specs.Edits.{cost_at, next_row, rows}
 use Rattle.hwdb_spec_commands.specs.DeviceTree.{above, alike, first_given, last_after, nearest_of}
 use Rattle.hwdb_spec_commands.specs.Inputs.{after_words, count_bits}
 use Rattle.hwdb_spec_commands.specs.Json.{items_of, members_of, escaped_after}
@@ -55,7 +56,7 @@ unfolding above first_given last_after pieces after_words count_bits asked_in fl
 link_rows = refl
 
 pub missing_rows : MissingRows
-unfolding alike first_given last_after nearest_of pieces put put_all visible_after is_utf8 chars encode_utf8
+unfolding alike cost_at next_row rows first_given last_after nearest_of pieces put put_all visible_after is_utf8 chars encode_utf8
 missing_rows = refl
 
 pub error_rows : ErrorRows

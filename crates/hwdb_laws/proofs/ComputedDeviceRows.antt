@@ -11,6 +11,7 @@ use Rattle.hwdb_spec.specs.Records.{behind, first_section, sections_from}
 use Rattle.hwdb_spec.specs.Tree.{answers, some_up_to, values_below, values_under}
 use Rattle.hwdb_spec.specs.Visible.{visible_after}
 use Rattle.hwdb_spec_commands.specs.DeviceRecords.{from_first, up_to_colons}
+use Rattle.strsim.specs.Edits.{cost_at, next_row, rows}
 use Rattle.hwdb_spec_commands.specs.DeviceTree.{above, alike, first_given, last_after, nearest_of}
 use Rattle.hwdb_spec_commands.specs.Json.{escaped_after, items_of, members_of}
 use Rattle.hwdb_spec_commands.specs.Lookups.{asked_in, flag_after, strings_from, told_value}
@@ -36,27 +37,27 @@ use Rattle.std.specs.Prelude.{[], map, reverse}
 use Rattle.std.proofs.Common.{◌∙◌, ap, refl}
 
 pub meant_rows : MeantRows
-unfolding pieces numbered trimmed first_section sections_from behind records_from tokens_from token_at item_at items_from bracket_at classes nodes nodes_of depth depth_of explained first_of once last_up_to first_up_to some_up_to values_under values_below ascending put put_all assignment_cmp position_cmp matches some_ending byte_then piece_then visible_after is_utf8 chars encode_utf8 digits encode_with items_of members_of escaped_after escape_byte print_from answers effective_of last_of_each last_value strings_from asked_in told_value flag_after cut_back replaced value_of first_at last_after above first_given alike nearest_of from_first up_to_colons closest_after last_matching last_assignments is_after
+unfolding pieces numbered trimmed first_section sections_from behind records_from tokens_from token_at item_at items_from bracket_at classes nodes nodes_of depth depth_of explained first_of once last_up_to first_up_to some_up_to values_under values_below ascending put put_all assignment_cmp position_cmp matches some_ending byte_then piece_then visible_after is_utf8 chars encode_utf8 digits encode_with items_of members_of escaped_after escape_byte print_from answers effective_of last_of_each last_value strings_from asked_in told_value flag_after cut_back replaced value_of first_at last_after above first_given alike cost_at next_row rows nearest_of from_first up_to_colons closest_after last_matching last_assignments is_after
 meant_rows = refl
 
 pub list_rows : ListRows
-unfolding pieces numbered trimmed first_section sections_from behind records_from tokens_from token_at item_at items_from bracket_at classes nodes nodes_of depth depth_of explained first_of once last_up_to first_up_to some_up_to values_under values_below ascending put put_all assignment_cmp position_cmp matches some_ending byte_then piece_then visible_after is_utf8 chars encode_utf8 digits encode_with items_of members_of escaped_after escape_byte print_from answers effective_of last_of_each last_value strings_from asked_in told_value flag_after cut_back replaced value_of first_at last_after above first_given alike nearest_of from_first up_to_colons closest_after last_matching last_assignments is_after
+unfolding pieces numbered trimmed first_section sections_from behind records_from tokens_from token_at item_at items_from bracket_at classes nodes nodes_of depth depth_of explained first_of once last_up_to first_up_to some_up_to values_under values_below ascending put put_all assignment_cmp position_cmp matches some_ending byte_then piece_then visible_after is_utf8 chars encode_utf8 digits encode_with items_of members_of escaped_after escape_byte print_from answers effective_of last_of_each last_value strings_from asked_in told_value flag_after cut_back replaced value_of first_at last_after above first_given alike cost_at next_row rows nearest_of from_first up_to_colons closest_after last_matching last_assignments is_after
 list_rows = refl
 
 pub nothing_rows : NothingRows
-unfolding pieces numbered trimmed first_section sections_from behind records_from tokens_from token_at item_at items_from bracket_at classes nodes nodes_of depth depth_of explained first_of once last_up_to first_up_to some_up_to values_under values_below ascending put put_all assignment_cmp position_cmp matches some_ending byte_then piece_then visible_after is_utf8 chars encode_utf8 digits encode_with items_of members_of escaped_after escape_byte print_from answers effective_of last_of_each last_value strings_from asked_in told_value flag_after cut_back replaced value_of first_at last_after above first_given alike nearest_of from_first up_to_colons closest_after last_matching last_assignments is_after
+unfolding pieces numbered trimmed first_section sections_from behind records_from tokens_from token_at item_at items_from bracket_at classes nodes nodes_of depth depth_of explained first_of once last_up_to first_up_to some_up_to values_under values_below ascending put put_all assignment_cmp position_cmp matches some_ending byte_then piece_then visible_after is_utf8 chars encode_utf8 digits encode_with items_of members_of escaped_after escape_byte print_from answers effective_of last_of_each last_value strings_from asked_in told_value flag_after cut_back replaced value_of first_at last_after above first_given alike cost_at next_row rows nearest_of from_first up_to_colons closest_after last_matching last_assignments is_after
 nothing_rows = (refl, refl, refl, refl, refl)
 
 pub name_rows : NameRows
-unfolding pieces numbered trimmed first_section sections_from behind records_from tokens_from token_at item_at items_from bracket_at classes nodes nodes_of depth depth_of explained first_of once last_up_to first_up_to some_up_to values_under values_below ascending put put_all assignment_cmp position_cmp matches some_ending byte_then piece_then visible_after is_utf8 chars encode_utf8 digits encode_with items_of members_of escaped_after escape_byte print_from answers effective_of last_of_each last_value strings_from asked_in told_value flag_after cut_back replaced value_of first_at last_after above first_given alike nearest_of from_first up_to_colons closest_after last_matching last_assignments is_after
+unfolding pieces numbered trimmed first_section sections_from behind records_from tokens_from token_at item_at items_from bracket_at classes nodes nodes_of depth depth_of explained first_of once last_up_to first_up_to some_up_to values_under values_below ascending put put_all assignment_cmp position_cmp matches some_ending byte_then piece_then visible_after is_utf8 chars encode_utf8 digits encode_with items_of members_of escaped_after escape_byte print_from answers effective_of last_of_each last_value strings_from asked_in told_value flag_after cut_back replaced value_of first_at last_after above first_given alike cost_at next_row rows nearest_of from_first up_to_colons closest_after last_matching last_assignments is_after
 name_rows = refl
 
 pub text_rows : TextRows
-unfolding pieces numbered trimmed first_section sections_from behind records_from tokens_from token_at item_at items_from bracket_at classes nodes nodes_of depth depth_of explained first_of once last_up_to first_up_to some_up_to values_under values_below ascending put put_all assignment_cmp position_cmp matches some_ending byte_then piece_then visible_after is_utf8 chars encode_utf8 digits encode_with items_of members_of escaped_after escape_byte print_from answers effective_of last_of_each last_value strings_from asked_in told_value flag_after cut_back replaced value_of first_at last_after above first_given alike nearest_of from_first up_to_colons closest_after last_matching last_assignments is_after
+unfolding pieces numbered trimmed first_section sections_from behind records_from tokens_from token_at item_at items_from bracket_at classes nodes nodes_of depth depth_of explained first_of once last_up_to first_up_to some_up_to values_under values_below ascending put put_all assignment_cmp position_cmp matches some_ending byte_then piece_then visible_after is_utf8 chars encode_utf8 digits encode_with items_of members_of escaped_after escape_byte print_from answers effective_of last_of_each last_value strings_from asked_in told_value flag_after cut_back replaced value_of first_at last_after above first_given alike cost_at next_row rows nearest_of from_first up_to_colons closest_after last_matching last_assignments is_after
 text_rows = refl
 
 pub file_rows : FileRows
-unfolding pieces numbered trimmed first_section sections_from behind records_from tokens_from token_at item_at items_from bracket_at classes nodes nodes_of depth depth_of explained first_of once last_up_to first_up_to some_up_to values_under values_below ascending put put_all assignment_cmp position_cmp matches some_ending byte_then piece_then visible_after is_utf8 chars encode_utf8 digits encode_with items_of members_of escaped_after escape_byte print_from answers effective_of last_of_each last_value strings_from asked_in told_value flag_after cut_back replaced value_of first_at last_after above first_given alike nearest_of from_first up_to_colons closest_after last_matching last_assignments is_after
+unfolding pieces numbered trimmed first_section sections_from behind records_from tokens_from token_at item_at items_from bracket_at classes nodes nodes_of depth depth_of explained first_of once last_up_to first_up_to some_up_to values_under values_below ascending put put_all assignment_cmp position_cmp matches some_ending byte_then piece_then visible_after is_utf8 chars encode_utf8 digits encode_with items_of members_of escaped_after escape_byte print_from answers effective_of last_of_each last_value strings_from asked_in told_value flag_after cut_back replaced value_of first_at last_after above first_given alike cost_at next_row rows nearest_of from_first up_to_colons closest_after last_matching last_assignments is_after
 file_rows =
     ap (λ es. found_form form.Lookups card (gathered (map pattern_of (map (λ e. e.1) es))) (lookups (told_of_files some_file []) card))
     (entries_built (map entry_of (reverse (all_assignments some_file []))))

@@ -1,9 +1,10 @@
 -- Where sysfs has a device, and what is read of it and its parents. The folders are those of the kernel's sysfs-rules.rst; which
 -- files are read is what sd-device of systemd 257 does. That a name is looked for in every class and bus is our choice.
-use Rattle.std.specs.Prelude.{Bool, false, ℕ, List, [], ◌∷◌, ◌++◌, ◌+◌, ◌*◌, ◌/◌, ◌%◌, ◌==◌, Option, None, Some, if◌then◌else◌, codes, drop, filter_map, flat_map, length, map, nat_eq, nat_lt, not, option_map, reverse}
+use Rattle.std.specs.Prelude.{Bool, false, ℕ, List, [], ◌∷◌, ◌++◌, ◌+◌, ◌-◌, ◌*◌, ◌/◌, ◌%◌, ◌==◌, Option, None, Some, if◌then◌else◌, codes, drop, filter_map, flat_map, length, map, nat_eq, nat_le, nat_lt, not, option_map, reverse}
 use Rattle.std.specs.Fmt.{decimal}
 use Rattle.std.specs.List.{starts_with}
 use Rattle.std.specs.Option.{option_map_or, unwrap_or}
+use Rattle.strsim.specs.Edits.{levenshtein_row}
 use Rattle.hwdb_spec.specs.Assignment.{in_order, text_cmp}
 use Rattle.hwdb_spec.specs.Folders.{same}
 use Rattle.hwdb_spec.specs.Lines.{begins_with, byte, has, is, pieces}
@@ -211,16 +212,28 @@ unfoldable pub alike : List ℕ → List ℕ → ℕ
 alike (a ∷ more) (b ∷ rest) = if a == b then 1 + alike more rest else 0
 alike _ _ = 0
 
--- of a name and one before it, the one that begins more as the wanted name; of two that begin as much the one before
+-- Whether few letters lead to a name: one in three may be wrong (Levenshtein). No file has a name of over 255 bytes.
+abbrev pub is_misspelt : (wanted name : List ℕ) → Bool
+is_misspelt wanted name =
+    if nat_lt 255 (length wanted) then false else nat_le (levenshtein_row nat_eq wanted name (length name)) (length wanted / 3)
+
+-- How near a name is. One that few letters lead to counts before all others, fewer letters before more, and then a longer beginning
+-- that is alike.
+abbrev pub likeness : (wanted name : List ℕ) → ℕ
+likeness wanted name =
+    if is_misspelt wanted name then 256 * (length wanted - levenshtein_row nat_eq wanted name (length name)) + alike name wanted
+    else alike name wanted
+
+-- of a name and one before it, the one that is nearer; of two that are as near the one before
 abbrev pub nearer : (wanted before name : List ℕ) → List ℕ
-nearer wanted before name = if nat_lt (alike before wanted) (alike name wanted) then name else before
+nearer wanted before name = if nat_lt (likeness wanted before) (likeness wanted name) then name else before
 
 -- the nearest of some names, and of one before them
 unfoldable pub nearest_of : (wanted before : List ℕ) → List (List ℕ) → List ℕ
 nearest_of wanted before [] = before
 nearest_of wanted before (name ∷ rest) = nearest_of wanted (nearer wanted before name) rest
 
--- the name in a class or at a bus that begins most as the one that is wanted; empty if none begins as it does
+-- the name in a class or at a bus that is nearest to the one that is wanted; empty if none is near
 abbrev pub near_name : Sight → (sys wanted : List ℕ) → List ℕ
 near_name sight sys wanted = nearest_of wanted [] (flat_map (names_in sight) (folders_with_links sight sys))
 

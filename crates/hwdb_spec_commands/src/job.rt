@@ -84,7 +84,7 @@ pub enum Task {
         strings: bool,
         /// Whether as JSON.
         json: bool,
-        /// Whether a record to begin with is printed.
+        /// Whether records to begin with are printed.
         pattern: bool,
     },
     /// Print what changed from one side to another: a database, a text file, a folder of text files or a root.

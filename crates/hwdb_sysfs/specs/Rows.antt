@@ -1,8 +1,8 @@
 -- Worked rows over a small sysfs: a keyboard at its port, and a disk's node. It isn't told where the link of `event9` leads, and what is
 -- in the file of `mouse2`. What the definitions give when they are computed.
-use Rattle.std.specs.Prelude.{◌≡◌, ℕ, List, [], ◌∷◌, Option, Some, None, codes, find, map, option_map, false}
+use Rattle.std.specs.Prelude.{◌≡◌, ℕ, List, [], ◌∷◌, Option, Some, None, codes, find, map, option_map, replicate, false}
 use Rattle.std.specs.Option.{option_map_or}
-use Rattle.hwdb_spec_commands.specs.DeviceTree.{Node, Sight, all_links, device_at, device_for, kernel_name, last_name, major, minor, missing_folder, near_name, sysfs_below, unread_for}
+use Rattle.hwdb_spec_commands.specs.DeviceTree.{Node, Sight, all_links, device_at, device_for, kernel_name, last_name, likeness, major, minor, missing_folder, near_name, sysfs_below, unread_for}
 use Rattle.hwdb_spec.specs.Folders.{same}
 
 -- what is beside a text in a table
@@ -103,6 +103,12 @@ SysfsRows =
     (map (sysfs_below small) ([] ∷ codes "/r" ∷ codes "/x" ∷ []) ≡ Some (codes "/sys") ∷ None ∷ None ∷ [])
     × (map (missing_folder small) ([] ∷ codes "/r" ∷ codes "/x" ∷ []) ≡ None ∷ Some (codes "/r/sys/devices") ∷ Some (codes "/x/sys") ∷ [])
 
--- what is near: `event33` begins most as `event3`; of names that begin as much the first in order; nothing begins as `x`
+-- What is near: few letters lead from `evnt3`, `evetn3`, `Event3` and `prt` to a name. Of two that are as near it is the first in order.
+-- Of `eve` only the beginning is alike, and nothing is near `x`. Letters aren't counted of a text that is too long for a name.
 abbrev pub NearRows : Type 0
-NearRows = map (near_name small (codes "/sys")) (codes "event33" ∷ codes "eve" ∷ codes "x" ∷ []) ≡ codes "event3" ∷ codes "event3" ∷ [] ∷ []
+NearRows =
+    (map (near_name small (codes "/sys")) (codes "event33" ∷ codes "evnt3" ∷ codes "evetn3" ∷ codes "Event3" ∷ codes "prt" ∷ codes "eve" ∷ codes "x" ∷ [])
+    ≡ codes "event3" ∷ codes "event3" ∷ codes "event3" ∷ codes "event3" ∷ codes "port" ∷ codes "event3" ∷ [] ∷ [])
+    × (map (likeness (codes "event4")) (codes "event4" ∷ codes "evnt4" ∷ codes "evt4" ∷ codes "event" ∷ codes "evt" ∷ codes "ev" ∷ [])
+    ≡ 1542 ∷ 1282 ∷ 1026 ∷ 1285 ∷ 2 ∷ 2 ∷ [])
+    × (likeness (replicate 256 65) (replicate 256 65) ≡ 256)

@@ -7,6 +7,7 @@ use crate::files::DeviceFiles;
 use crate::finding::folders_with_links;
 use crate::names::names_in;
 use std::alloc::{AllocError, Global};
+use strsim::generic_levenshtein;
 
 /// How many bytes two texts begin with alike.
 #[tactic(auto, unfolding(hwdb_spec_commands::specs::DeviceTree::alike))]
@@ -26,11 +27,29 @@ fn alike(one: &[u8], other: &[u8]) -> usize
     1 + alike(more, rest)
 }
 
-/// Of a name and one before it the one that begins more as the name that is wanted.
+/// No file has a longer name.
+const LONGEST_NAME: usize = 255;
+
+/// How near a name is to the one that is wanted: one that few letters lead to counts before one that only begins alike.
+fn likeness(alloc: Global, wanted: &[u8], name: &[u8]) -> Result<usize, AllocError>
+    ensures { IfOk result (λ n. n ≡ tree.likeness wanted.now name.now) }
+{
+    let begun = alike(name, wanted);
+    if wanted.len() > LONGEST_NAME {
+        return Ok(begun);
+    }
+    let edits = generic_levenshtein(alloc, wanted, name)?;
+    if edits > wanted.len() / 3 {
+        return Ok(begun);
+    }
+    Ok((LONGEST_NAME + 1) * (wanted.len() - edits) + begun)
+}
+
+/// Of a name and one before it the one that is nearer to the name that is wanted.
 fn nearer(alloc: Global, wanted: &[u8], before: Vec<u8>, name: &[u8]) -> Result<Vec<u8>, AllocError>
     ensures { IfOk result (λ v. v.items ≡ tree.nearer wanted.now before.items name.now) }
 {
-    if alike(&before, wanted) < alike(name, wanted) {
+    if likeness(alloc, wanted, &before)? < likeness(alloc, wanted, name)? {
         Vec::from_slice(alloc, name)
     } else {
         Ok(before)
@@ -57,9 +76,11 @@ fn nearest_of(
     Ok(nearest)
 }
 
-/// The name in a class or at a bus that begins most as the one that is wanted, which no device has. Empty if none begins as it does.
+/// The name in a class or at a bus that is nearest to the one that is wanted, which no device has: few letters lead to it, or it begins
+/// alike. Empty if none is near.
 ///
-/// The only error is want of memory. Looks into each class and bus once.
+/// The only error is want of memory. Looks into each class and bus once. Time grows with the names, and with the wanted one's length up
+/// to 255 bytes.
 #[tactic(auto, unfolding(hwdb_spec_commands::specs::DeviceTree::nearest_of))]
 pub fn near_name<F: DeviceFiles>(
     alloc: Global,
