@@ -175,7 +175,8 @@ fn push_head(
     }
     if has_head(pattern) {
         let words = "the device has no prefix: put ";
-        return push_between(text, words, head_of(pattern), " before it");
+        let advice = " before it; 'hwdb device' says what udev asks for a device";
+        return push_between(text, words, head_of(pattern), advice);
     }
     push_byte(text, wanted, left)
 }

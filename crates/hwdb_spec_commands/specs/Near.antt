@@ -188,7 +188,8 @@ byte_text wanted left = if is_replacement wanted left then replaced_text wanted 
 abbrev pub head_text : (pattern device wanted left : List ℕ) → List ℕ
 head_text pattern device wanted left =
     if has_head device then codes "the device begins with " ++ (quoted (head_of device) ++ codes ": begin the pattern with that")
-    else (if has_head pattern then codes "the device has no prefix: put " ++ (quoted (head_of pattern) ++ codes " before it")
+    else (if has_head pattern
+    then codes "the device has no prefix: put " ++ (quoted (head_of pattern) ++ codes " before it; 'hwdb device' says what udev asks for a device")
     else byte_text wanted left)
 
 -- Why a pattern stops after so many bytes of a device, and what to do, by what is left of both. One of the two ends, their first
