@@ -1,6 +1,6 @@
 -- An update that ends with an error after its files were read.
 use Rattle.std.specs.Io.KnownBytes.{Appends}
-use Rattle.std.proofs.Common.{◌≡◌, ◌≢◌, ◌++◌, inl, inr, ap, subst, sym, refl, ℕ, Bool, List, Result, Ok, Err, IfErr}
+use Rattle.std.proofs.Common.{◌≡◌, ◌≢◌, inl, inr, ap, subst, sym, refl, ℕ, Bool, List, Result, Ok, Err, IfErr}
 use Rattle.hwdb_spec_commands.specs.Runs.{AreKept, Files, Told}
 use Rattle.hwdb_spec_commands.specs.Emptied.{IsLossOf}
 use Rattle.hwdb_spec.specs.Folders.{chosen_of}

@@ -1,11 +1,14 @@
 //! What `update` says if there are no text files: which database that may assign something is replaced by an empty one, or hidden by it.
-ghost use Rattle.std.specs.Prelude.{◌≡◌, ◌≤◌, ◌++◌, List, Some, codes, false, length, option_map, true, IfErr, IfOk, IfSome, OnOk};
+ghost use Rattle.std.specs.Prelude.{◌≡◌, ◌≤◌, ◌++◌, [], List, Some, codes, false, length, option_map, true, IfErr, IfOk, IfSome, OnOk};
 ghost use Rattle.hwdb_spec_commands.specs.Asked;
 ghost use Rattle.hwdb_spec_commands.specs.Commands.{removing_words, update_words};
 ghost use Rattle.hwdb_spec_commands.specs.Emptied;
 ghost use Rattle.hwdb_spec_commands.specs.Emptied.{IsLoss, IsLossOf, IsLossUnseen, IsLost, IsOneUnseen, line_if};
 ghost use Rattle.hwdb_spec.specs.Folders.{Choice};
 ghost use Rattle.hwdb_spec_commands.specs.Refusals.{HasReason, IsUnreadAt};
+ghost use Rattle.hwdb_plan.specs.Plans.{ReachesValue};
+ghost use Rattle.hwdb_plan.specs.Update.{loss_of, lost_in};
+ghost use Rattle.hwdb_plan.specs.Lemmas.Update.{IsLostBy, IsLostIf};
 ghost use Rattle.hwdb_spec_commands.specs.Status.{is_bare};
 ghost use Rattle.hwdb_spec.specs.Store as spec;
 ghost use Rattle.hwdb_spec.specs.System.{bytes_at};
@@ -40,7 +43,8 @@ fn is_nothing(amount: Amount) -> bool
 
 /// Whether something is lost if these bytes are replaced or hidden.
 fn is_lost_of(alloc: Global, bytes: &[u8]) -> Result<bool, AllocError>
-    ensures { IfOk result (λ lost. IsLost (Some bytes.now) lost) }
+    ensures lost { IfOk result (λ lost. IsLost (Some bytes.now) lost) }
+    ensures by { IfOk result (IsLostBy bytes.now) }
 {
     law_one_tree();
     let amount = amount_of(alloc, bytes)?;
@@ -49,7 +53,8 @@ fn is_lost_of(alloc: Global, bytes: &[u8]) -> Result<bool, AllocError>
 
 /// The same of a database that was found, if there is one.
 fn is_lost_if(alloc: Global, found: &Option<FoundDatabase>) -> Result<bool, AllocError>
-    ensures { IfOk result (λ lost. IsLost (option_map (λ f. f.bytes.items) found.now) lost) }
+    ensures lost { IfOk result (λ lost. IsLost (option_map (λ f. f.bytes.items) found.now) lost) }
+    ensures by { IfOk result (IsLostIf (option_map (λ f. f.bytes.items) found.now)) }
 {
     match found {
         Some(found) => is_lost_of(alloc, found.bytes.as_slice()),
@@ -64,6 +69,8 @@ fn is_lost_in<D: System>(
     folder: &str,
     system: &D,
 ) -> Result<bool, Refusal>
+    ensures follows { D.Store.tells → ReachesValue (λ lost. lost) (D.System.reads system.now)
+        (lost_in (spec.path_in (root.now ++ folder.now) spec.database_name)) result }
     ensures lost { D.Store.tells → IfOk result (λ lost. IsLost
         (bytes_at (D.Store.seen system.now)
         (spec.path_in (root.now ++ folder.now) spec.database_name)) lost) }
@@ -215,6 +222,8 @@ fn loss_of_empty<D: System>(
     usr: bool,
     system: &D,
 ) -> Result<Vec<u8>, Refusal>
+    ensures follows { D.Store.tells → ReachesValue (λ text. text.items)
+        (D.System.reads system.now) (loss_of [] root.now usr) result }
     ensures loss { D.Store.tells → IfOk result
         (λ text. IsLoss root.now usr (D.Store.seen system.now) text.items) }
     ensures refused { D.Store.tells
@@ -236,6 +245,9 @@ pub(crate) fn loss_if<D: System>(
     bare: bool,
     system: &D,
 ) -> Result<Vec<u8>, Refusal>
+    ensures follows { (chosen : List Choice) → bare ≡ is_bare chosen → D.Store.tells
+        → ReachesValue (λ text. text.items) (D.System.reads system.now)
+        (loss_of chosen root.now usr) result }
     ensures loss { (chosen : List Choice) → bare ≡ is_bare chosen → D.Store.tells → IfOk result
         (λ text. IsLossOf chosen root.now usr (D.Store.seen system.now) text.items) }
     ensures refused { (chosen : List Choice) → bare ≡ is_bare chosen → D.Store.tells

@@ -4,8 +4,13 @@ ghost use Rattle.hwdb_spec.specs.Flushing.{HandsOn};
 ghost use Rattle.hwdb_spec_commands.specs.Progress.{given_where};
 ghost use Rattle.hwdb_spec.specs.Store as spec;
 ghost use Rattle.hwdb_spec.specs.System as Folder;
-ghost use Rattle.hwdb_spec.specs.Texts.{max_file};
-ghost use Rattle.hwdb_spec.specs.Folders.{Choice};
+ghost use Rattle.hwdb_spec.specs.Texts.{max_file, status_of};
+ghost use Rattle.hwdb_spec.specs.Folders.{Choice, Source};
+ghost use Rattle.hwdb_plan.specs.Putting.{OldOrPut, PutsEnd, SaysThenPuts};
+ghost use Rattle.hwdb_plan.specs.Put.{put_plan};
+ghost use Rattle.hwdb_plan.specs.Update.{left_out_plan, put_files, update_plan};
+ghost use Rattle.hwdb_spec_commands.specs.Told.{Reads};
+ghost use Rattle.hwdb_system.specs.Selections.{IsSelectionOf};
 ghost use Rattle.hwdb_text.specs.Views.{IsStorableChoice, choice_of};
 ghost use Rattle.hwdb_compile.specs.Views.{ForFolders};
 ghost use Rattle.hwdb_text.specs.Views.{choice_in};
@@ -14,7 +19,7 @@ ghost use Rattle.hwdb_spec_commands.specs.UpdateErrors.{IsUpdateRefusal, OnUnrep
 ghost use Rattle.hwdb_spec_commands.specs.Done.{OldOrWritten, Updated, OldOrUpdated, OldOrUpdatedLess};
 ghost use Rattle.hwdb_spec_commands.specs.LeftOutTold.{AreTold};
 ghost use Rattle.hwdb_spec_commands.specs.Refusals.{HasReason};
-ghost use Rattle.hwdb_tool.specs.Emptying.{AfterLoss, IsUpdatedTold};
+ghost use Rattle.hwdb_tool.specs.Emptying.{AfterLoss, IsUpdatedTold, PutsFiles, status_by};
 ghost use Rattle.hwdb_tool.specs.Internal.{IsOfSelection};
 ghost use Rattle.hwdb_spec_commands.specs.Readable.{IsUpdateRefused, IsUpdatedLess};
 ghost use Rattle.hwdb_spec_commands.specs.LeftOut.{status_less};
@@ -27,7 +32,7 @@ use crate::progress::progress;
 use hwdb_answers::{ToolError, put_in_place};
 use hwdb_compile::compile_chosen;
 use hwdb_io::{MAX_BYTES, Sink};
-use hwdb_replace::{DATABASE, Store, Unreplaced};
+use hwdb_replace::{DATABASE, Unreplaced};
 use hwdb_system::{Refusal, Selection, System, path_in, selected_readable, with_texts};
 use hwdb_text::ChosenFile;
 use std::alloc::Global;
@@ -35,7 +40,7 @@ use std::alloc::Global;
 /// Compiles chosen files, says of them what is to be said, and puts their database in its place in a folder of the
 /// store. Their fault lines are said. If the names of /usr/lib's files are given, it is said before which files they are and how
 /// much they assign. Before all that comes what is lost. Returns the status: 1 if `strict` and there is a fault line, else 0.
-fn update_files<S: Store, E: Sink>(
+fn update_files<S: System, E: Sink>(
     alloc: Global,
     files: &[ChosenFile<'_>],
     loss: &[u8],
@@ -46,28 +51,38 @@ fn update_files<S: Store, E: Sink>(
     err: &mut E,
 ) -> Result<u8, ToolError>
     requires { All IsStorableChoice (map choice_in files.now) }
+    ensures follows { let left = files_by S.Store.seen S.System.may_fail S.Store.may_leave
+        S.Store.failures in S.Store.tells → PutsFiles result loss.now
+        (option_map (λ l. map string_bytes l.now) listed.entry) strict folder.now files.now
+        (left store.old) (left store.new)
+        (told_by E.taken E.failures err.old) (told_by E.taken E.failures err.new) }
     ensures updated { let names = option_map (λ l. map string_bytes l.now) listed.entry in
         IfOk result (λ status. AfterLoss loss.now files.now (λ before etc usr.
         Updated etc usr names max_file strict status
-        before.bytes (E.taken err.new) (λ database. S.tells → spec.InPlace folder.now database
-        (S.seen store.old) (S.seen store.new) (S.may_leave store.new)))
+        before.bytes (E.taken err.new) (λ database. S.Store.tells → spec.InPlace folder.now database
+        (S.Store.seen store.old) (S.Store.seen store.new) (S.Store.may_leave store.new)))
         (told_by E.taken E.failures err.old)) }
     ensures status { IfOk result (λ status. status ≤ 1) }
-    ensures any_moment { S.tells → ForFolders files.now (λ etc usr.
-        spec.LeavesOnly S.moment S.left_since store.old store.new
-        (OldOrWritten etc usr folder.now (S.seen store.old) (S.may_leave store.old))) }
+    ensures any_moment { S.Store.tells → ForFolders files.now (λ etc usr.
+        spec.LeavesOnly S.Store.moment S.Store.left_since store.old store.new
+        (OldOrWritten etc usr folder.now (S.Store.seen store.old) (S.Store.may_leave store.old))) }
+    ensures any_crash { let names = option_map (λ l. map string_bytes l.now) listed.entry in
+        S.Store.tells → (w : Reads) (less : ℕ → ℕ) → ForFolders files.now (λ etc usr.
+        spec.LeavesOnly S.Store.moment S.Store.left_since store.old store.new (OldOrPut w
+        (put_plan loss.now etc usr names (λ faults. less (status_of strict faults)) folder.now)
+        (S.Store.seen store.old) (S.Store.may_leave store.old))) }
 
     ensures refusals { IfErr result
         (λ e. ForFolders files.now (λ etc usr. IsUpdateRefusal etc usr max_file e)) }
     ensures unreplaced { let names = option_map (λ l. map string_bytes l.now) listed.entry in
         IfErr result (OnUnreplaced (λ u. AfterLoss loss.now files.now (λ before etc usr.
         (E.failures err.new ≡ before.failures) × UpdateUndone etc usr names folder.now
-        before.bytes (E.taken err.new) S.tells (S.seen store.old) (S.seen store.new)
-        (S.may_leave store.old) (S.may_leave store.new) u)
+        before.bytes (E.taken err.new) S.Store.tells (S.Store.seen store.old)
+        (S.Store.seen store.new) (S.Store.may_leave store.old) (S.Store.may_leave store.new) u)
         (told_by E.taken E.failures err.old))) }
-    ensures unwritten { S.tells → IfErr result (OnUnreplaced
-        (λ _. IsUnwritable folder.now (S.seen store.old)
-        (S.failures store.old) (S.failures store.new))) }
+    ensures unwritten { S.Store.tells → IfErr result (OnUnreplaced
+        (λ _. IsUnwritable folder.now (S.Store.seen store.old)
+        (S.Store.failures store.old) (S.Store.failures store.new))) }
     ensures cut_short { let names = option_map (λ l. map string_bytes l.now) listed.entry in
         IsErrOf result ToolError.Write → (store.new ≡ store.old) × ForFolders files.now
         (λ etc usr. WasSayingCut loss.now etc usr names
@@ -110,9 +125,21 @@ fn update_selected<D: System, E: Sink>(
     requires whole { length selection.now.texts.items ≡ length selection.now.chosen.items }
     requires storable { All IsStorableChoice (map choice_of selection.now.chosen.items) }
     ensures status { IfOk result (λ status. status ≤ 1) }
+    ensures follows { let left = files_by D.Store.seen D.System.may_fail D.Store.may_leave
+        D.Store.failures in D.Store.tells → (of_etc of_usr : List Source) (less : ℕ → ℕ)
+        → IsSelectionOf of_etc of_usr selection.now → PutsEnd (D.System.reads system.old)
+        (put_files root.now usr verbose (λ faults. less (status_of strict faults)) of_etc of_usr)
+        (left system.old) (left system.new) (told_by E.taken E.failures err.old)
+        (told_by E.taken E.failures err.new) (status_by less result) }
     ensures any_moment { (files : spec.Contents) → IsOfSelection root.now files selection.now
         → D.Store.tells → spec.LeavesOnly D.Store.moment D.Store.left_since system.old system.new
         (OldOrUpdated root.now usr files (D.Store.seen system.old) (D.Store.may_leave system.old)) }
+    ensures any_crash { D.Store.tells → (of_etc of_usr : List Source) (less : ℕ → ℕ)
+        → IsSelectionOf of_etc of_usr selection.now
+        → spec.LeavesOnly D.Store.moment D.Store.left_since system.old system.new
+        (OldOrPut (D.System.reads system.old)
+        (put_files root.now usr verbose (λ faults. less (status_of strict faults)) of_etc of_usr)
+        (D.Store.seen system.old) (D.Store.may_leave system.old)) }
     ensures updated { (files : spec.Contents) → IsOfSelection root.now files selection.now
         → D.Store.tells → IfOk result (λ status. IsUpdatedTold root.now usr verbose strict status
         files (D.Store.seen system.old) (told_by E.taken E.failures err.old) (E.taken err.new)
@@ -174,9 +201,19 @@ pub fn update<D: System, E: Sink>(
     err: &mut E,
 ) -> Result<u8, Refusal>
     ensures status { IfOk result (λ status. status ≤ 1) }
+    ensures follows { let left = files_by D.Store.seen D.System.may_fail D.Store.may_leave
+        D.Store.failures in D.Store.tells → (words : List (List ℕ)) × SaysThenPuts
+        (D.System.reads system.old) (left_out_plan root.now skip words)
+        (update_plan root.now usr strict verbose skip words) (left system.old) (left system.new)
+        (told_by E.taken E.failures err.old) (told_by E.taken E.failures err.new) result }
     ensures any_moment { D.Store.tells
         → spec.LeavesOnly D.Store.moment D.Store.left_since system.old system.new
         (OldOrUpdatedLess (D.System.may_fail system.old) root.now usr skip
+        (D.Store.seen system.old) (D.Store.may_leave system.old)) }
+    ensures any_crash { D.Store.tells → (words : List (List ℕ))
+        × spec.LeavesOnly D.Store.moment D.Store.left_since system.old system.new
+        (OldOrPut (D.System.reads system.old)
+        (update_plan root.now usr strict verbose skip words)
         (D.Store.seen system.old) (D.Store.may_leave system.old)) }
     ensures updated { D.Store.tells → IfOk result (λ status. IsUpdatedLess root.now usr verbose
         strict skip status (files_by D.Store.seen D.System.may_fail D.Store.may_leave

@@ -1,6 +1,6 @@
-use Rattle.std.proofs.Common.{sym, ◌∙◌}
+use Rattle.std.proofs.Common.{Global, Vec, sym, ◌∙◌, ℕ}
 use Rattle.hwdb_spec_commands.specs.Emptied.{IsLossOf, IsLossUnseen}
-use Rattle.hwdb_tool.proofs.EmptyingLemmas.{loss_bare, unseen_bare}
+use Rattle.hwdb_tool.proofs.EmptyingLemmas.{loss_bare, loss_if_bare, loss_if_full, unseen_bare}
 use Rattle.hwdb_tool.proofs.emptied.loss_if.Goals as goal
 use Rattle.hwdb_spec.specs.Lemmas.Calls.{each_error, each_value}
 
@@ -17,3 +17,11 @@ returns-then-bare-clause-refused g c = λ chosen is tells.
     let seen = g.D.Store.seen c.args.system.now in
     each_error _ (IsLossUnseen chosen root seen) c.loss_of_empty.result
     (λ r unseen. unseen_bare chosen root seen r (sym c.if-bare.true ∙ is) unseen) (c.loss_of_empty.ensures.refused tells)
+
+pub returns-then-bare-clause-follows : goal.returns-then-bare-clause-follows
+returns-then-bare-clause-follows g c = λ chosen is tells.
+    loss_if_bare (g.D.System.reads c.args.system.now) c.args.root.now c.args.usr (λ (v : Vec ℕ Global). v.items) c.loss_of_empty.result chosen (sym c.if-bare.true ∙ is) (c.loss_of_empty.ensures.follows tells)
+
+pub returns-else-bare-clause-follows : goal.returns-else-bare-clause-follows
+returns-else-bare-clause-follows g c = λ chosen is tells.
+    loss_if_full (g.D.System.reads c.args.system.now) c.args.root.now c.args.usr (λ (v : Vec ℕ Global). v.items) c.new.result chosen (sym c.if-bare.false ∙ is) c.new.ensures.items
