@@ -9,7 +9,7 @@ use Rattle.hwdb_rulerun.specs.Matching as text
 use Rattle.hwdb_rulerun.specs.Conditions as real
 use Rattle.hwdb_rulerun.specs.Telling as tell
 use Rattle.hwdb_rulerun.specs.Sights.{Known, Unknown, Missing, Text, Seen, Sight, Device, World, Is, IsSeen, AreSeen, IsSight, attribute_of, property_of}
-use Rattle.hwdb_rulerun.specs.Laws.{Says, ToldIsSo}
+use Rattle.hwdb_rulerun.specs.Laws.{ParentsAreSo, Says, ToldIsSo}
 
 both : (a b : Option Bool) (p q : Bool) → Says a p → Says b q → Says (tell.and_then a b) (if p then q else false)
 both (Some true) b p q h k = subst (λ (x : Bool). Says b (if x then q else false)) (sym h) k
@@ -158,3 +158,6 @@ told_is_so s w tokens h =
     by true =
         some_so w tokens (0 + 1) (tell.all_of s.own tokens) (real.all_of w tokens 0 w.own) s.parents w.parents (all_of_so w tokens 0 s.own w.own h.own) h.parents
     by false = refl
+
+pub parents_are_so : ParentsAreSo
+parents_are_so s w tokens index d h = all_of_so w tokens index s d h

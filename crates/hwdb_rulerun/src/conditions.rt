@@ -340,7 +340,7 @@ fn parent_and(
 }
 
 /// What is told of all conditions about parents and one device.
-fn all_of(alloc: Global, seen: &Seen<'_>, tokens: &[Token]) -> Result<Option<bool>, AllocError>
+pub fn all_of(alloc: Global, seen: &Seen<'_>, tokens: &[Token]) -> Result<Option<bool>, AllocError>
     ensures { IfOk result (λ told. told
         ≡ Telling.all_of (seen_of seen.now) (map token_of tokens.now)) }
 {
@@ -385,7 +385,7 @@ fn some_parent(
     some_from(alloc, own, tokens, sight.parents)
 }
 
-fn has_parents(tokens: &[Token]) -> bool
+pub fn has_parents(tokens: &[Token]) -> bool
     ensures { result ≡ Conditions.has_parents (map token_of tokens.now) }
 {
     for token in tokens {

@@ -1,5 +1,5 @@
 //! What is proved of the definitions alone. These functions do nothing: what each of them ensures is a law.
-ghost use Rattle.hwdb_rulerun.specs.Laws.{ToldIsSo, LookupsAreCovered};
+ghost use Rattle.hwdb_rulerun.specs.Laws.{ToldIsSo, ParentsAreSo, LookupsAreCovered};
 ghost use Rattle.hwdb_rulerun.specs.Causes.{CauseIsThere};
 ghost use Rattle.hwdb_rulerun.specs.Rows.{MatchRows, ConditionRows, LookupRows};
 
@@ -7,6 +7,12 @@ ghost use Rattle.hwdb_rulerun.specs.Rows.{MatchRows, ConditionRows, LookupRows};
 #[tactic(auto, using(crate::proofs::ToldLemmas::told_is_so))]
 pub fn told_is_so()
     ensures { ToldIsSo }
+{}
+
+/// What is told of all conditions about parents and one device is so.
+#[tactic(auto, using(crate::proofs::ToldLemmas::parents_are_so))]
+pub fn parents_are_so()
+    ensures { ParentsAreSo }
 {}
 
 /// No lookup that a line asks is missed, and each that is certain is asked.

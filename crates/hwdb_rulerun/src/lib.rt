@@ -19,9 +19,12 @@ mod sights;
 
 pub use asking::{Asked, is_lookup, lookups, runs};
 pub use causes::cause;
-pub use conditions::{ATTRIBUTE_SIZE, and_then, by_operator_told, line_told};
-pub use laws::{
-    cause_is_there, condition_rows, lookup_rows, lookups_are_covered, match_rows, told_is_so,
+pub use conditions::{
+    ATTRIBUTE_SIZE, all_of, and_then, by_operator_told, has_parents, is_parents, line_told,
 };
-pub use matching::{has_byte, is_wild, told_fit};
-pub use sights::{Entry, Known, Seen, Sight};
+pub use laws::{
+    cause_is_there, condition_rows, lookup_rows, lookups_are_covered, match_rows, parents_are_so,
+    told_is_so,
+};
+pub use matching::{begins_with, has_byte, is_wild, told_fit};
+pub use sights::{Entry, Known, Seen, Sight, attribute_of, entry_of};

@@ -57,7 +57,7 @@ pub struct Sight<'a> {
 }
 
 /// What is known of a name.
-fn entry_of<'a>(name: &[u8], otherwise: Known<'a>, entries: &[Entry<'a>]) -> Known<'a>
+pub fn entry_of<'a>(name: &[u8], otherwise: Known<'a>, entries: &[Entry<'a>]) -> Known<'a>
     ensures { known_of result
         ≡ Sights.entry_of name.now (known_of otherwise.entry) (map entry_view entries.now) }
 {
