@@ -13,19 +13,26 @@ use Rattle.hwdb_rulefiles.specs.declared.tokens.TokenKind.TheVariants as Kinds
 use Rattle.hwdb_rulerun.specs.Asking.{runs, is_lookup}
 use Rattle.hwdb_rulerun.specs.Conditions.{by_operator, line_holds}
 use Rattle.hwdb_rulerun.specs.Laws.{Says}
-use Rattle.hwdb_rulerun.specs.Sights.{Known, Unknown, Missing, Text, Is, IsSight, entry_of}
+use Rattle.hwdb_rulefiles.specs.Escapes.{onto}
+use Rattle.hwdb_rulerun.specs.Conditions.{text_of as text_in}
+use Rattle.hwdb_rulerun.specs.Sights.{Known, Unknown, Missing, Text, Is, IsSight, attribute_of, entry_of}
 use Rattle.hwdb_rulerun.specs.Telling.{and_then, by_operator_told, line_told}
 use Rattle.std.proofs.lemmas.Slice.Eq.{bytes_eq-Decides}
 use Rattle.hwdb_rulerun.specs.Laws.{ToldIsSo}
 use Rattle.hwdb_ruleevents.specs.Changes.{Properties, Change, Put, Open, Agrees, Becomes, said, said_in, value_in, by_sure, perhaps}
 use Rattle.hwdb_ruleevents.specs.Effects as known
 use Rattle.hwdb_ruleevents.specs.Effects.{Effect, Knowledge}
+use Rattle.hwdb_ruleevents.specs.Pieces.{Piece, Byte, Stands, pieces}
+use Rattle.hwdb_ruleevents.specs.Texts as texts
+use Rattle.hwdb_ruleevents.specs.Texts.{Meaning, text_told}
+use Rattle.hwdb_ruleevents.specs.declared.pieces.Variable.{Variable}
+use Rattle.hwdb_ruleevents.specs.declared.pieces.Variable.TheVariants as Variables
 use Rattle.hwdb_ruleevents.specs.Events as real
 use Rattle.hwdb_ruleevents.specs.Events.{Event, Turn, turn, Ask, Done}
 use Rattle.hwdb_ruleevents.specs.Telling as tell
 use Rattle.hwdb_ruleevents.specs.Telling.{Told, Tale, Ways}
 use Rattle.hwdb_ruleevents.proofs.ChangeLemmas.{both_said, no_other}
-use Rattle.hwdb_ruleevents.specs.Laws.{IsEffect, IsKnown, Covers, EventsAreCovered, AreAll, AreCertain, EventsAreExact}
+use Rattle.hwdb_ruleevents.specs.Laws.{IsEffect, IsKnown, IsText, Covers, EventsAreCovered, AreAll, AreCertain, EventsAreExact}
 
 -- properties after changes
 
@@ -112,12 +119,109 @@ opened name before after = by (starts_with nat_eq name []) (any_name name)
     by true e = tt
     by false e = absurd (cc)
 
-less_known : (k : Knowledge) (kind : TokenKind) (o : Option (List ℕ)) (other : List ℕ) (passes : Bool) (p q : Properties)
-    → IsEffect (known.effect_of k kind (Some (unwrap_or o other))) passes p q → IsEffect (known.effect_of k kind o) passes p q
-less_known k kind (Some text) other passes p q h = h
-less_known k kind None other passes p q h = by (known.imports kind) h
+-- texts
+
+-- a text that is told is followed, and is so
+abbrev IsFollowed : (told truth : Option (List ℕ)) → Type 0
+IsFollowed None truth = Unit {0}
+IsFollowed (Some text) truth = truth ≡ Some text
+
+onto_so : (told truth : Option (List ℕ)) (front : List ℕ) → IsFollowed told truth → IsFollowed (onto front told) (onto front truth)
+onto_so None truth front h = tt
+onto_so (Some text) truth front h = ap (onto front) h
+
+joined_so : (told truth more rest : Option (List ℕ)) → IsFollowed told truth → IsFollowed more rest → IsFollowed (texts.joined told more) (texts.joined truth rest)
+joined_so None truth more rest h k = tt
+joined_so (Some text) truth more rest h k =
+    subst (λ (x : Option (List ℕ)). IsFollowed (onto text more) (texts.joined x rest)) (sym h) (onto_so more rest text k)
+
+abbrev AreFollowed : (told truth : Meaning) → Type 0
+AreFollowed told truth = (variable : Variable) (argument : List ℕ) → IsFollowed (told variable argument) (truth variable argument)
+
+piece_so : (told truth : Meaning) (p : Piece) → AreFollowed told truth → IsFollowed (texts.piece_text told p) (texts.piece_text truth p)
+piece_so told truth (Byte b) h = refl
+piece_so told truth (Stands variable argument) h = h variable argument
+
+pieces_so : (told truth : Meaning) (ps : List Piece) → AreFollowed told truth → IsFollowed (texts.text_of told ps) (texts.text_of truth ps)
+pieces_so told truth [] h = refl
+pieces_so told truth (p ∷ more) h =
+    joined_so (texts.piece_text told p) (texts.piece_text truth p) (texts.text_of told more) (texts.text_of truth more) (piece_so told truth p h)
+    (pieces_so told truth more h)
+
+within_so : (room : ℕ) (told truth : Option (List ℕ)) → IsFollowed told truth → IsFollowed (texts.within room told) (texts.within room truth)
+within_so room None truth h = tt
+within_so room (Some text) truth h = subst (λ (x : Option (List ℕ)). IsFollowed (texts.within room (Some text)) (texts.within room x)) (sym h) (same (texts.within room (Some text)))
   where
-    by : (c : Bool) → IsEffect (if c then known.import_of k kind other else known.plain_of kind) passes p q
+    same : (x : Option (List ℕ)) → IsFollowed x x
+    same None = tt
+    same (Some y) = refl
+
+value_text_so : (told truth : Meaning) (kind : TokenKind) (value : List ℕ) → AreFollowed told truth
+    → IsFollowed (texts.value_text told kind value) (texts.value_text truth kind value)
+value_text_so told truth kind value h = by (texts.is_verbatim kind)
+  where
+    by : (c : Bool)
+        → IsFollowed (if c then Some value else texts.within (texts.room kind) (texts.text_of told (pieces value)))
+        (if c then Some value else texts.within (texts.room kind) (texts.text_of truth (pieces value)))
+    by true = refl
+    by false = within_so (texts.room kind) _ _ (pieces_so told truth (pieces value) h)
+
+property_so : (known : Known) (truth : Option (List ℕ)) → Is known truth → IsFollowed (texts.known_text known) (Some (text_in truth))
+property_so Unknown truth h = tt
+property_so Missing truth h = ap (λ (x : Option (List ℕ)). Some (text_in x)) h
+property_so (Text text) truth h = ap (λ (x : Option (List ℕ)). Some (text_in x)) h
+
+other_so : (known : Known) (truth : Option (List ℕ)) → Is known truth → IsFollowed (texts.other_told known) (Some (texts.other_text truth))
+other_so Unknown truth h = tt
+other_so Missing truth h = ap (λ (x : Option (List ℕ)). Some (texts.other_text x)) h
+other_so (Text text) truth h = ap (λ (x : Option (List ℕ)). Some (texts.other_text x)) h
+
+own_so : (known : Known) (truth : Option (List ℕ)) → Is known truth → IsFollowed (texts.own_told known) (real.own_text truth)
+own_so Unknown truth h = tt
+own_so Missing truth h = tt
+own_so (Text text) truth h =
+    subst (λ (x : Option (List ℕ)). IsFollowed (texts.attribute_text text) (real.own_text x)) (sym h) (same (texts.attribute_text text))
+  where
+    same : (x : Option (List ℕ)) → IsFollowed x x
+    same None = tt
+    same (Some y) = refl
+
+attribute_so : (k : Knowledge) (e : Event) (argument : List ℕ) → IsKnown k e
+    → IsFollowed (texts.attribute_told k argument) (real.attribute_meaning e argument)
+attribute_so k e argument h = by (texts.names_other argument)
+  where
+    by : (c : Bool)
+        → IsFollowed (if c then texts.other_told (entry_of argument Unknown k.others) else texts.own_told (attribute_of k.sight.own argument))
+        (if c then Some (texts.other_text (e.other argument)) else real.own_text (e.world.own.attribute argument))
+    by true = other_so (entry_of argument Unknown k.others) (e.other argument) (h.others argument)
+    by false = own_so (attribute_of k.sight.own argument) (e.world.own.attribute argument) (h.own.attributes argument)
+
+meaning_so : (k : Knowledge) (e : Event) (cs : List Change) (p : Properties) → IsKnown k e → Agrees cs p
+    → AreFollowed (texts.meaning_told k cs) (real.meaning e p)
+meaning_so k e cs p h a Variables.Kernel argument = ap Some h.own.name
+meaning_so k e cs p h a Variables.Number argument = ap (λ (x : List ℕ). Some (texts.number x)) h.own.name
+meaning_so k e cs p h a Variables.Devpath argument = ap Some h.path
+meaning_so k e cs p h a Variables.Env argument = property_so (value_in cs argument) (p argument) (a argument)
+meaning_so k e cs p h a Variables.Attr argument = attribute_so k e argument h
+meaning_so k e cs p h a Variables.Root argument = refl
+meaning_so k e cs p h a Variables.Sys argument = refl
+meaning_so k e cs p h a variable argument = tt
+
+text_so : (k : Knowledge) (e : Event) (cs : List Change) (p : Properties) (t : Token) → IsKnown k e → Agrees cs p
+    → IsFollowed (text_told k cs t) (real.followed e p t)
+text_so k e cs p t h a = value_text_so (texts.meaning_told k cs) (real.meaning e p) t.kind t.value (meaning_so k e cs p h a)
+
+is_text : (told truth : Option (List ℕ)) (other : List ℕ) → IsFollowed told truth → IsText told (unwrap_or truth other)
+is_text None truth other h = tt
+is_text (Some text) truth other h = ap (λ (x : Option (List ℕ)). unwrap_or x other) h
+
+less_known : (k : Knowledge) (kind : TokenKind) (o : Option (List ℕ)) (own : List ℕ) (passes : Bool) (p q : Properties) → IsText o own
+    → IsEffect (known.effect_of k kind (Some own)) passes p q → IsEffect (known.effect_of k kind o) passes p q
+less_known k kind (Some text) own passes p q s h =
+    subst (λ (x : List ℕ). IsEffect (known.effect_of k kind (Some x)) passes p q) s h
+less_known k kind None own passes p q s h = by (known.imports kind) h
+  where
+    by : (c : Bool) → IsEffect (if c then known.import_of k kind own else known.plain_of kind) passes p q
         → IsEffect (if c then known.anything else known.plain_of kind) passes p q
     by true h = record { succeeds = tt; changes = λ name. opened name (p name) (q name) }
     by false h = h
@@ -141,12 +245,13 @@ added_so Missing truth other text h =
     (sym h) (kept_so (known.some_text text) other)
 added_so (Text own) truth other text h = tt
 
-set_so : (o : Operator) (text : Option (List ℕ)) (unread : List ℕ) (old : Known) (truth other : Option (List ℕ)) → Is old truth
+set_so : (o : Operator) (text : Option (List ℕ)) (actual : List ℕ) (old : Known) (truth other : Option (List ℕ)) → IsText text actual → Is old truth
     → Is (known.set_told o text old)
-    (let v = (if known.is_add o then known.added truth (unwrap_or text unread) else known.some_text (unwrap_or text unread)) in
-    if known.is_value_as_is v then v else other)
-set_so o None unread old truth other h = tt
-set_so o (Some text) unread old truth other h = by (known.is_add o)
+    (let v = (if known.is_add o then known.added truth actual else known.some_text actual) in if known.is_value_as_is v then v else other)
+set_so o None actual old truth other s h = tt
+set_so o (Some text) actual old truth other s h =
+    subst (λ (x : List ℕ). Is (known.set_told o (Some text) old)
+    (let v = (if known.is_add o then known.added truth x else known.some_text x) in if known.is_value_as_is v then v else other)) (sym s) (by (known.is_add o))
   where
     by : (c : Bool)
         → Is (if c then known.added_told old text else known.kept (known.some_text text))
@@ -154,10 +259,11 @@ set_so o (Some text) unread old truth other h = by (known.is_add o)
     by true = added_so old truth other text h
     by false = kept_so (known.some_text text) other
 
-assigned_so : (o : Operator) (value : List ℕ) (text : Option (List ℕ)) (unread : List ℕ) (old : Known) (truth other : Option (List ℕ)) → Is old truth
+assigned_so : (o : Operator) (value : List ℕ) (text : Option (List ℕ)) (actual : List ℕ) (old : Known) (truth other : Option (List ℕ)) → IsText text actual
+    → Is old truth
     → Is (known.assigned_told o value text old)
-    (let v = known.assigned o value (unwrap_or text unread) truth in if is_none value then v else (if known.is_value_as_is v then v else other))
-assigned_so o value text unread old truth other h = by (is_none value)
+    (let v = known.assigned o value actual truth in if is_none value then v else (if known.is_value_as_is v then v else other))
+assigned_so o value text actual old truth other s h = by (is_none value)
   where
     none : (c : Bool) → Is (if c then old else Missing) (if c then truth else None)
     none true = h
@@ -166,16 +272,20 @@ assigned_so o value text unread old truth other h = by (is_none value)
     by : (c : Bool)
         → Is (if c then (if known.is_add o then old else Missing) else known.set_told o text old)
         (let v =
-        (if c then (if known.is_add o then truth else None)
-        else (if known.is_add o then known.added truth (unwrap_or text unread) else known.some_text (unwrap_or text unread))) in
+        (if c then (if known.is_add o then truth else None) else (if known.is_add o then known.added truth actual else known.some_text actual)) in
         if c then v else (if known.is_value_as_is v then v else other))
     by true = none (known.is_add o)
-    by false = set_so o text unread old truth other h
+    by false = set_so o text actual old truth other s h
 
-value_so : (e : Event) (n : Turn) (p : Properties) (t : Token) (cs : List Change) → Agrees cs p
-    → Is (known.assigned_told t.operator t.value (known.text_told t.value) (value_in cs t.attribute)) (real.new_value e n p t)
-value_so e n p t cs h =
-    assigned_so t.operator t.value (known.text_told t.value) (e.text n p t) (value_in cs t.attribute) (p t.attribute) (e.sets n p t t.attribute) (h t.attribute)
+text_is : (k : Knowledge) (e : Event) (n : Turn) (cs : List Change) (p : Properties) (t : Token) → IsKnown k e → Agrees cs p
+    → IsText (text_told k cs t) (real.text_at e n p t)
+text_is k e n cs p t h a = is_text (text_told k cs t) (real.followed e p t) (e.text n p t) (text_so k e cs p t h a)
+
+value_so : (k : Knowledge) (e : Event) (n : Turn) (p : Properties) (t : Token) (cs : List Change) → IsKnown k e → Agrees cs p
+    → Is (known.assigned_told t.operator t.value (text_told k cs t) (value_in cs t.attribute)) (real.new_value e n p t)
+value_so k e n p t cs h a =
+    assigned_so t.operator t.value (text_told k cs t) (real.text_at e n p t) (value_in cs t.attribute) (p t.attribute) (e.sets n p t t.attribute)
+    (text_is k e n cs p t h a) (a t.attribute)
 
 env_so : (own name : List ℕ) (value : Known) (new before : Option (List ℕ)) → Is value new
     → Becomes (said_in (Put own value ∷ []) name) before (if bytes_eq own name then new else before)
@@ -190,13 +300,14 @@ effect_so : (k : Knowledge) (e : Event) (n : Turn) (p : Properties) (t : Token) 
 effect_so k e n p t cs h a = by (known.is_env t.kind) refl
   where
     by : (c : Bool) → known.is_env t.kind ≡ c
-        → IsEffect (if c then tell.env_effect cs t else known.effect_of k t.kind (known.text_told t.value)) (e.passes n p t 0) p
+        → IsEffect (if c then tell.env_effect cs t (text_told k cs t) else known.effect_of k t.kind (text_told k cs t)) (e.passes n p t 0) p
         (if c then real.with_value p t.attribute (real.new_value e n p t) else e.sets n p t)
     by true i = record {
       succeeds = tt;
-      changes = λ name. env_so t.attribute name _ (real.new_value e n p t) (p name) (value_so e n p t cs a);
+      changes = λ name. env_so t.attribute name _ (real.new_value e n p t) (p name) (value_so k e n p t cs h a);
     }
-    by false i = less_known k t.kind (known.text_told t.value) (e.text n p t) (e.passes n p t 0) p (e.sets n p t) (h.effects n p t i)
+    by false i =
+        less_known k t.kind (text_told k cs t) (real.text_at e n p t) (e.passes n p t 0) p (e.sets n p t) (text_is k e n cs p t h a) (h.effects n p t i)
 
 turned_so : (o : Operator) (told : Option Bool) (succeeds : Bool) → Says told succeeds → Says (by_operator_told o told) (by_operator o succeeds)
 turned_so o None succeeds h = tt
@@ -215,18 +326,20 @@ effect_none k kind = by (known.imports kind)
     by true = refl
     by false = plain_none kind
 
-unread_none : (k : Knowledge) (cs : List Change) (t : Token) → known.text_told t.value ≡ None → (tell.effect_told k cs t).succeeds ≡ None
+unread_none : (k : Knowledge) (cs : List Change) (t : Token) → text_told k cs t ≡ None → (tell.effect_told k cs t).succeeds ≡ None
 unread_none k cs t e = by (known.is_env t.kind)
   where
-    by : (c : Bool) → (if c then tell.env_effect cs t else known.effect_of k t.kind (known.text_told t.value)).succeeds ≡ None
+    by : (c : Bool) → (if c then tell.env_effect cs t (text_told k cs t) else known.effect_of k t.kind (text_told k cs t)).succeeds ≡ None
     by true = refl
     by false = ap (λ (x : Option (List ℕ)). (known.effect_of k t.kind x).succeeds) e ∙ effect_none k t.kind
 
-cut_so : (o : Operator) (text : Option (List ℕ)) (told : Option Bool) (cuts succeeds : Bool) → (text ≡ None → told ≡ None) → Says told succeeds
-    → Says (by_operator_told o told) (if (if is_some text then false else cuts) then false else by_operator o succeeds)
-cut_so o (Some text) told cuts succeeds n h = turned_so o told succeeds h
-cut_so o None told cuts succeeds n h =
-    subst (λ (x : Option Bool). Says (by_operator_told o x) (if cuts then false else by_operator o succeeds)) (sym (n refl)) tt
+cut_so : (o : Operator) (text truth : Option (List ℕ)) (told : Option Bool) (cuts succeeds : Bool) → IsFollowed text truth → (text ≡ None → told ≡ None)
+    → Says told succeeds → Says (by_operator_told o told) (if (if is_some truth then false else cuts) then false else by_operator o succeeds)
+cut_so o (Some text) truth told cuts succeeds f n h =
+    subst (λ (x : Option (List ℕ)). Says (by_operator_told o told) (if (if is_some x then false else cuts) then false else by_operator o succeeds)) (sym f)
+    (turned_so o told succeeds h)
+cut_so o None truth told cuts succeeds f n h =
+    subst (λ (x : Option Bool). Says (by_operator_told o x) (if (if is_some truth then false else cuts) then false else by_operator o succeeds)) (sym (n refl)) tt
 
 passes_so : (k : Knowledge) (e : Event) (n : Turn) (p : Properties) (t : Token) (cs : List Change) → IsKnown k e → Agrees cs p
     → Says (tell.passes_told t (tell.effect_told k cs t)) (real.goes_on e n p t)
@@ -235,8 +348,8 @@ passes_so k e n p t cs h a = by (runs t.kind)
     by : (c : Bool)
         → Says (if c then by_operator_told t.operator (tell.effect_told k cs t).succeeds else Some true) (if c then real.goes_on_after e n p t else true)
     by true =
-        cut_so t.operator (known.text_told t.value) (tell.effect_told k cs t).succeeds (e.cuts n p t) (e.passes n p t 0) (unread_none k cs t)
-        (effect_so k e n p t cs h a).succeeds
+        cut_so t.operator (text_told k cs t) (real.followed e p t) (tell.effect_told k cs t).succeeds (e.cuts n p t) (e.passes n p t 0)
+        (text_so k e cs p t h a) (unread_none k cs t) (effect_so k e n p t cs h a).succeeds
     by false = refl
 
 -- lookups
@@ -252,33 +365,43 @@ covers_both (t ∷ ts) us [] ys h k = skip_one t (ts ++ us) ys h.0 (covers_both 
 covers_both (t ∷ ts) us (x ∷ xs) ys h k =
     elim h [ inl a ↦ inl (a.0, covers_both ts us xs ys a.1 k) | inr b ↦ inr (b.0, covers_both ts us (x ∷ xs) ys b.1 k) ]
 
-ask_so : (sure cuts : Bool) (n : Turn) (t : Token) (o : Option (List ℕ)) (unread : List ℕ) (ts : List Told) (xs : List Ask) → Covers ts xs
-    → Covers (record { at = n; token = t; text = o; certain = tell.is_certain_by sure o } ∷ ts)
-    ((if (if is_some o then false else cuts) then [] else record { at = n; token = t; text = unwrap_or o unread } ∷ []) ++ xs)
-ask_so sure cuts n t (Some text) unread ts xs h = inl (record { at = refl; token = refl; text = refl }, h)
-ask_so sure true n t None unread ts xs h = skip_one _ ts xs refl h
-ask_so sure false n t None unread ts xs h = inl (record { at = refl; token = refl; text = tt }, h)
-
-asks_so : (sure : Bool) (e : Event) (n : Turn) (p : Properties) (t : Token) (ts : List Told) (xs : List Ask) → Covers ts xs
-    → Covers (tell.told_in sure n t ++ ts) (real.ask_in e n p t ++ xs)
-asks_so sure e n p t ts xs h = by (is_lookup t)
+ask_so : (sure cuts : Bool) (n : Turn) (t : Token) (o truth : Option (List ℕ)) (unread : List ℕ) (ts : List Told) (xs : List Ask) → IsFollowed o truth
+    → Covers ts xs
+    → Covers (record { at = n; token = t; text = o; certain = tell.is_certain sure o } ∷ ts)
+    ((if (if is_some truth then false else cuts) then [] else record { at = n; token = t; text = unwrap_or truth unread } ∷ []) ++ xs)
+ask_so sure cuts n t (Some text) truth unread ts xs f h =
+    subst (λ (x : Option (List ℕ)). Covers (record { at = n; token = t; text = Some text; certain = sure } ∷ ts)
+    ((if (if is_some x then false else cuts) then [] else record { at = n; token = t; text = unwrap_or x unread } ∷ []) ++ xs)) (sym f)
+    (inl (record { at = refl; token = refl; text = refl }, h))
+ask_so sure cuts n t None truth unread ts xs f h = by (if is_some truth then false else cuts)
   where
     by : (c : Bool)
-        → Covers ((if c then record { at = n; token = t; text = known.text_told t.value; certain = tell.is_certain sure t } ∷ [] else []) ++ ts)
+        → Covers (record { at = n; token = t; text = None; certain = false } ∷ ts)
+        ((if c then [] else record { at = n; token = t; text = unwrap_or truth unread } ∷ []) ++ xs)
+    by true = skip_one _ ts xs refl h
+    by false = inl (record { at = refl; token = refl; text = tt }, h)
+
+asks_so : (k : Knowledge) (sure : Bool) (e : Event) (n : Turn) (cs : List Change) (p : Properties) (t : Token) (ts : List Told) (xs : List Ask) → IsKnown k e
+    → Agrees cs p → Covers ts xs → Covers (tell.told_in k cs sure n t ++ ts) (real.ask_in e n p t ++ xs)
+asks_so k sure e n cs p t ts xs i a h = by (is_lookup t)
+  where
+    by : (c : Bool)
+        → Covers ((if c then record { at = n; token = t; text = text_told k cs t; certain = tell.is_certain sure (text_told k cs t) } ∷ [] else []) ++ ts)
         ((if c then real.asked_in e n p t else []) ++ xs)
-    by true = ask_so sure (e.cuts n p t) n t (known.text_told t.value) (e.text n p t) ts xs h
+    by true = ask_so sure (e.cuts n p t) n t (text_told k cs t) (real.followed e p t) (e.text n p t) ts xs (text_so k e cs p t i a) h
     by false = h
 
-uncertain : (sure : Bool) (o : Option (List ℕ)) → sure ≡ false → tell.is_certain_by sure o ≡ false
+uncertain : (sure : Bool) (o : Option (List ℕ)) → sure ≡ false → tell.is_certain sure o ≡ false
 uncertain sure None e = refl
 uncertain sure (Some text) e = e
 
-none_so : (sure : Bool) (n : Turn) (t : Token) (ts : List Told) → sure ≡ false → Covers ts [] → Covers (tell.told_in sure n t ++ ts) []
-none_so sure n t ts e h = by (is_lookup t)
+none_so : (k : Knowledge) (cs : List Change) (sure : Bool) (n : Turn) (t : Token) (ts : List Told) → sure ≡ false → Covers ts []
+    → Covers (tell.told_in k cs sure n t ++ ts) []
+none_so k cs sure n t ts e h = by (is_lookup t)
   where
     by : (c : Bool)
-        → Covers ((if c then record { at = n; token = t; text = known.text_told t.value; certain = tell.is_certain sure t } ∷ [] else []) ++ ts) []
-    by true = (uncertain sure (known.text_told t.value) e, h)
+        → Covers ((if c then record { at = n; token = t; text = text_told k cs t; certain = tell.is_certain sure (text_told k cs t) } ∷ [] else []) ++ ts) []
+    by true = (uncertain sure (text_told k cs t) e, h)
     by false = h
 
 -- tokens
@@ -309,10 +432,10 @@ skip_tokens k sure n cs p (t ∷ more) e h =
     by (tell.is_no passes) passes next a (skip_tokens k (tell.is_sure sure passes) n next p more (unsure sure passes e) a)
   where
     by : (c : Bool) (passes : Option Bool) (next : List Change) → Agrees next p → Skips (tell.tell_tokens k (tell.is_sure sure passes) n next more) p
-        → Skips (tell.told_before (tell.told_in sure n t) passes (if c then tell.ended false next else tell.tell_tokens k (tell.is_sure sure passes) n next more)) p
-    by true passes next a ih = record { told = none_so sure n t [] e tt; changes = a }
+        → Skips (tell.told_before (tell.told_in k cs sure n t) passes (if c then tell.ended false next else tell.tell_tokens k (tell.is_sure sure passes) n next more)) p
+    by true passes next a ih = record { told = none_so k cs sure n t [] e tt; changes = a }
     by false passes next a ih = record {
-      told = none_so sure n t (tell.tell_tokens k (tell.is_sure sure passes) n next more).told e ih.told;
+      told = none_so k cs sure n t (tell.tell_tokens k (tell.is_sure sure passes) n next more).told e ih.told;
       changes = ih.changes;
     }
 
@@ -358,7 +481,7 @@ run_tokens_so k e sure n cs p (t ∷ more) h a =
     join_so k e sure n next q more passes (real.goes_on e n p t) (passes_so k e n p t cs h a) b
     (λ certain. run_tokens_so k e certain n next q more h b) in
     record {
-      told = asks_so sure e n p t _ _ j.told;
+      told = asks_so k sure e n cs p t _ _ h a j.told;
       passed = j.passed;
       changes = j.changes;
     }

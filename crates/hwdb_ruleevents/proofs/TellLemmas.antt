@@ -1,5 +1,5 @@
 -- Tokens and lines, one after the other.
-use Rattle.std.proofs.Common.{Bor, map, ◌≡◌, ◌∙◌, ℕ, ◌+◌, Bool, true, false, List, [], ◌∷◌, ◌++◌, ◌<◌, suc, arith, cond, drop, drop-cons, get_or, length, refl, sym, ap, append_assoc, append-nil, Option, Some, None}
+use Rattle.std.proofs.Common.{Bor, map, ◌≡◌, ◌∙◌, ℕ, ◌+◌, Bool, true, false, List, [], ◌∷◌, ◌++◌, ◌<◌, zero, suc, arith, cond, drop, drop-cons, get_or, length, refl, sym, ap, append_assoc, append-nil, Option, Some, None}
 use Rattle.std.specs.Prelude.{if◌then◌else◌}
 use Rattle.hwdb_spec.specs.Lines.{is_none}
 use Rattle.hwdb_rulefiles.specs.RuleTokens.{Token}
@@ -7,7 +7,8 @@ use Rattle.hwdb_rulefiles.specs.RuleLines.{RuleLine}
 use Rattle.hwdb_rulefiles.specs.Views.{text_of}
 use Rattle.hwdb_rulerun.specs.Telling.{and_then}
 use Rattle.hwdb_ruleevents.specs.Changes.{Change, by_sure}
-use Rattle.hwdb_ruleevents.specs.Effects.{Knowledge}
+use Rattle.hwdb_ruleevents.specs.Effects.{Effect, Knowledge}
+use Rattle.hwdb_ruleevents.specs.Texts.{text_told}
 use Rattle.hwdb_ruleevents.specs.Events.{Turn, turn}
 use Rattle.hwdb_ruleevents.specs.Telling
 use Rattle.hwdb_ruleevents.specs.Telling.{Tale, Told, Story, Ways}
@@ -43,8 +44,8 @@ go k sure n tale t more f =
     let passes : Option Bool = passes_of k tale t in
     let after : List Change = tale.changes ++ by_sure sure (Telling.effect_told k tale.changes t).changes in
     let rest : Tale = Telling.tell_tokens k (Telling.is_sure sure passes) n after more in
-    sym (ap (λ (x : Bool). Telling.told_before tale.told tale.passed (Telling.told_before (Telling.told_in sure n t) passes (if x then Telling.ended false after else rest))) f
-    ∙ before_both tale.told (Telling.told_in sure n t) tale.passed passes rest)
+    sym (ap (λ (x : Bool). Telling.told_before tale.told tale.passed (Telling.told_before (Telling.told_in k tale.changes sure n t) passes (if x then Telling.ended false after else rest))) f
+    ∙ before_both tale.told (Telling.told_in k tale.changes sure n t) tale.passed passes rest)
 
 -- one more token, after which the line goes on
 pub goes_on : (k : Knowledge) (sure here next_sure ends : Bool) (n at : Turn) (tale next : Tale) (t : Token) (more : List Token) (passes : Option Bool)
@@ -75,7 +76,7 @@ stop : (k : Knowledge) (sure : Bool) (n : Turn) (tale : Tale) (t : Token) (more 
 stop k sure n tale t more f =
     let passes : Option Bool = passes_of k tale t in
     let after : List Change = tale.changes ++ by_sure sure (Telling.effect_told k tale.changes t).changes in
-    let asks : List Told = Telling.told_in sure n t in
+    let asks : List Told = Telling.told_in k tale.changes sure n t in
     let rest : Tale = Telling.tell_tokens k (Telling.is_sure sure passes) n after more in
     sym (ap (λ (x : Bool). Telling.told_before tale.told tale.passed (Telling.told_before asks passes (if x then Telling.ended false after else rest))) f
     ∙ ap (λ (x : Option Bool). Telling.told_before tale.told tale.passed (Telling.told_before asks x (Telling.ended false after))) (is_false passes f)
@@ -153,3 +154,38 @@ pub from_here : {X Y : Type 0} (f : X → Y) (xs : List X) (i : ℕ) (x : X) →
 from_here f xs i x h is =
     let more : suc i ≡ i + 1 = omega arith in
     ap (map f) (drop-cons xs i x h) ∙ ap (λ y. f y ∷ map f (drop (suc i) xs)) (sym is) ∙ ap (λ (m : ℕ). f x ∷ map f (drop m xs)) more
+
+same_there : {X : Type 0} (xs : List X) (i : ℕ) (x : X) → i < length xs → get_or xs i x ≡ get_or xs i (get_or xs i x)
+same_there [] i x h = absurd (omega arith)
+same_there (y ∷ xs) zero x h = refl
+same_there (y ∷ xs) (suc i) x h = same_there xs i x (omega arith)
+
+pub from_there : {X Y : Type 0} (f : X → Y) (xs : List X) (i : ℕ) (x : X) → i < length xs → map f (drop i xs) ≡ f (get_or xs i x) ∷ map f (drop (i + 1) xs)
+from_there f xs i x h = from_here f xs i (get_or xs i x) h (same_there xs i x h)
+
+effect_is : (k : Knowledge) (cs : List Change) (t : Token) (text : Option (List ℕ)) (effect : Effect) → text ≡ text_told k cs t
+    → effect ≡ Telling.effect_by_text k cs t text → effect ≡ Telling.effect_told k cs t
+effect_is k cs t text effect e f = f ∙ ap (Telling.effect_by_text k cs t) e
+
+-- whether a token that was run is passed
+pub run_passes : (k : Knowledge) (cs : List Change) (t : Token) (text : Option (List ℕ)) (effect : Effect) (passes : Option Bool) → text ≡ text_told k cs t
+    → effect ≡ Telling.effect_by_text k cs t text → passes ≡ Telling.passes_told t effect → passes ≡ Telling.passes_told t (Telling.effect_told k cs t)
+run_passes k cs t text effect passes e f g = g ∙ ap (Telling.passes_told t) (effect_is k cs t text effect e f)
+
+-- a token that was run
+pub run_tale : (k : Knowledge) (sure : Bool) (n : Turn) (old asked : Tale) (t : Token) (text : Option (List ℕ)) (effect : Effect) (passes passed : Option Bool)
+    (changes : List Change) → text ≡ text_told k old.changes t → effect ≡ Telling.effect_by_text k old.changes t text → passes ≡ Telling.passes_told t effect
+    → asked ≡ Telling.asked old (Telling.told_by_text text sure n t) → passed ≡ and_then asked.passed passes
+    → changes ≡ asked.changes ++ by_sure sure effect.changes → tale_with asked.told passed changes ≡ Telling.run_in k sure n old t
+run_tale k sure n old asked t text effect passes passed changes e f g h i j =
+    let is = effect_is k old.changes t text effect e f in
+    let told : asked.told ≡ old.told ++ Telling.told_in k old.changes sure n t =
+    ap (λ (x : Tale). x.told) h ∙ ap (λ (x : Option (List ℕ)). old.told ++ Telling.told_by_text x sure n t) e in
+    let through : passed ≡ and_then old.passed (Telling.passes_told t (Telling.effect_told k old.changes t)) =
+    i ∙ ap (λ (x : Tale). and_then x.passed passes) h ∙ ap (and_then old.passed) (run_passes k old.changes t text effect passes e f g) in
+    let after : changes ≡ old.changes ++ by_sure sure (Telling.effect_told k old.changes t).changes =
+    j ∙ ap (λ (x : Tale). x.changes ++ by_sure sure effect.changes) h ∙ ap (λ (x : Effect). old.changes ++ by_sure sure x.changes) is in
+    ap (λ (x : List Told). tale_with x passed changes) told
+    ∙ ap (λ (x : Option Bool). tale_with (old.told ++ Telling.told_in k old.changes sure n t) x changes) through
+    ∙ ap (λ (x : List Change). tale_with (old.told ++ Telling.told_in k old.changes sure n t)
+    (and_then old.passed (Telling.passes_told t (Telling.effect_told k old.changes t))) x) after

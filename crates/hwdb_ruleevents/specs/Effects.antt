@@ -1,5 +1,5 @@
 -- What is known of a token that is run. Our choice.
-use Rattle.std.specs.Prelude.{List, [], ◌∷◌, ◌++◌, Bool, true, false, if◌then◌else◌, ℕ, nat_le, codes, not, length, Option, Some, None}
+use Rattle.std.specs.Prelude.{List, [], ◌∷◌, ◌++◌, Bool, true, false, if◌then◌else◌, ℕ, nat_le, codes, length, Option, Some, None}
 use Rattle.std.specs.List.{position_or_len}
 use Rattle.std.specs.Prelude.{take}
 use Rattle.std.specs.Str.{bytes_eq}
@@ -10,7 +10,7 @@ use Rattle.hwdb_rulefiles.specs.declared.pairs.Operator.TheVariants.{Add}
 use Rattle.hwdb_rulefiles.specs.declared.tokens.TokenKind.{TokenKind}
 use Rattle.hwdb_rulefiles.specs.declared.tokens.TokenKind.TheVariants as Kinds
 use Rattle.hwdb_rulerun.specs.Matching.{is_wild}
-use Rattle.hwdb_rulerun.specs.Sights.{Known, Unknown, Missing, Text, Sight}
+use Rattle.hwdb_rulerun.specs.Sights.{Entry, Known, Unknown, Missing, Text, Sight}
 use Rattle.hwdb_ruleevents.specs.Changes.{Change, Open}
 
 -- whether it succeeds, and what it changes
@@ -24,9 +24,10 @@ pub record Command : Type 0 where
   pub succeeds : Option Bool
   pub changes : List Change
 
--- what is known of a device, of builtins and of programs
+-- what is known of a device, of attributes of other devices, by the texts in braces that name them, of builtins and of programs
 pub record Knowledge : Type 0 where
   pub sight : Sight
+  pub others : List Entry
   pub builtins : List Command
   pub programs : List Command
 
@@ -85,14 +86,6 @@ import_told k kind (Some text) = import_of k kind text
 -- the effect of a token that sets no property by ENV, by its text, if that is known
 abbrev pub effect_of : Knowledge → TokenKind → (text : Option (List ℕ)) → Effect
 effect_of k kind text = if imports kind then import_told k kind text else plain_of kind
-
--- a text as it is written: without $ or %, which stand for other texts
-abbrev pub is_literal : List ℕ → Bool
-is_literal value = if has (byte "$") value then false else not (has (byte "%") value)
-
--- the text of a value, if it is known; one that may be too long for udev isn't followed
-abbrev pub text_told : (value : List ℕ) → Option (List ℕ)
-text_told value = if nat_le (length value) 511 then (if is_literal value then Some value else None) else None
 
 abbrev pub is_env : TokenKind → Bool
 is_env Kinds.Env = true

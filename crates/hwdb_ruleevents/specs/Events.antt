@@ -1,26 +1,29 @@
 -- What the lines of rules do for one device, after `udev_rules_apply_to_event`, `udev_rule_apply_line_to_event` and
 -- `udev_rule_apply_token_to_event` of udev-rules.c (systemd 257).
-use Rattle.std.specs.Prelude.{List, [], ◌∷◌, ◌++◌, Bool, true, false, if◌then◌else◌, ℕ, ◌+◌, Option, Some, None, is_some, unwrap_or}
+use Rattle.std.specs.Prelude.{List, [], ◌∷◌, ◌++◌, Bool, true, false, if◌then◌else◌, ℕ, ◌+◌, codes, Option, Some, None, is_some, unwrap_or}
 use Rattle.std.specs.Str.{bytes_eq}
 use Rattle.hwdb_spec.specs.Lines.{is_none}
 use Rattle.hwdb_rulefiles.specs.RuleTokens.{Token, is_word}
 use Rattle.hwdb_rulefiles.specs.RuleLines.{RuleLine}
-use Rattle.hwdb_rulerun.specs.Conditions.{by_operator, line_holds}
+use Rattle.hwdb_rulerun.specs.Conditions.{by_operator, line_holds, text_of}
 use Rattle.hwdb_rulerun.specs.Asking.{runs, is_lookup}
 use Rattle.hwdb_rulerun.specs.Sights.{World}
 use Rattle.hwdb_ruleevents.specs.Changes.{Properties}
-use Rattle.hwdb_ruleevents.specs.Effects.{assigned, is_env, is_value_as_is, text_told}
+use Rattle.hwdb_ruleevents.specs.Effects.{assigned, is_env, is_value_as_is}
+use Rattle.hwdb_ruleevents.specs.Texts.{Meaning, attribute_text, names_other, number, other_text, value_text}
+use Rattle.hwdb_ruleevents.specs.declared.pieces.Variable.TheVariants as Variables
 
 -- the turn of a line: its file, and its number among the lines of that, both from 0
 pub record Turn : Type 0 where
   pub file : ℕ
   pub line : ℕ
 
--- All that lines see but properties. Four answers stand for what isn't followed here: whether a condition is passed, or
--- what is run succeeds; what a token makes of properties; its text; and whether that is too
--- long. Each is asked in the turn of a line.
+-- All that lines see but properties: the device, and attributes of other devices, by the texts in braces that name them. Four answers
+-- stand for what isn't followed here: whether a condition is passed, or what is run succeeds; what a token makes of properties; its text;
+-- and whether that is too long. Each is asked in the turn of a line.
 pub record Event : Type 0 where
   pub world : World
+  pub other : (argument : List ℕ) → Option (List ℕ)
   pub passes : (at : Turn) → Properties → Token → (index : ℕ) → Bool
   pub sets : (at : Turn) → Properties → Token → Properties
   pub text : (at : Turn) → Properties → Token → List ℕ
@@ -33,9 +36,32 @@ with_answers w p passes = record w { property = p; passes = passes }
 abbrev pub world_at : Event → (at : Turn) → Properties → World
 world_at e n p = with_answers e.world p (e.passes n p)
 
+-- the text of an attribute; if the device has none, udev asks a parent, which isn't followed
+abbrev pub own_text : Option (List ℕ) → Option (List ℕ)
+own_text None = None
+own_text (Some text) = attribute_text text
+
+abbrev pub attribute_meaning : Event → (argument : List ℕ) → Option (List ℕ)
+attribute_meaning e argument = if names_other argument then Some (other_text (e.other argument)) else own_text (e.world.own.attribute argument)
+
+-- the text that a variable stands for; None if it isn't followed
+abbrev pub meaning : Event → Properties → Meaning
+meaning e p Variables.Kernel argument = Some e.world.own.name
+meaning e p Variables.Number argument = Some (number e.world.own.name)
+meaning e p Variables.Devpath argument = Some e.world.path
+meaning e p Variables.Env argument = Some (text_of (p argument))
+meaning e p Variables.Attr argument = attribute_meaning e argument
+meaning e p Variables.Root argument = Some (codes "/dev")
+meaning e p Variables.Sys argument = Some (codes "/sys")
+meaning e p variable argument = None
+
+-- the text of a token's value, if it is followed
+abbrev pub followed : Event → Properties → Token → Option (List ℕ)
+followed e p t = value_text (meaning e p) t.kind t.value
+
 -- the text of a token's value
 abbrev pub text_at : Event → (at : Turn) → Properties → Token → List ℕ
-text_at e n p t = unwrap_or (text_told t.value) (e.text n p t)
+text_at e n p t = unwrap_or (followed e p t) (e.text n p t)
 
 -- what ENV makes of its property; a text that isn't set as it is isn't followed
 abbrev pub new_value : Event → (at : Turn) → Properties → Token → Option (List ℕ)
@@ -52,7 +78,7 @@ after e n p t = if is_env t.kind then with_value p t.attribute (new_value e n p 
 
 -- whether a token's text is too long for udev
 abbrev pub is_cut : Event → (at : Turn) → Properties → Token → Bool
-is_cut e n p t = if is_some (text_told t.value) then false else e.cuts n p t
+is_cut e n p t = if is_some (followed e p t) then false else e.cuts n p t
 
 -- whether a line goes on after something that is run: not if its text is too long, whatever the operator
 abbrev pub goes_on_after : Event → (at : Turn) → Properties → Token → Bool

@@ -1,5 +1,6 @@
--- Words of contracts, which nobody has to believe: what was told of the lines so far.
-use Rattle.std.specs.Prelude.{List, ◌++◌, ℕ, Bool, if◌then◌else◌}
+-- Words of contracts, which nobody has to believe: what was told of the lines so far, and texts.
+use Rattle.std.specs.Prelude.{List, ◌++◌, ℕ, Bool, if◌then◌else◌, Option, Some, None}
+use Rattle.hwdb_spec_commands.specs.Sysfs.{is_left, left_whole}
 use Rattle.hwdb_spec.specs.Lines.{is_none}
 use Rattle.hwdb_rulefiles.specs.RuleTokens.{Token}
 use Rattle.hwdb_rulefiles.specs.RuleLines.{RuleLine}
@@ -28,3 +29,11 @@ rest_of k sure n tale tokens = told_before tale.told tale.passed (tell_tokens k 
 -- what was told of lines, and what is told of the others
 abbrev pub lines_from : Knowledge → (file line : ℕ) → Progress → List RuleLine → Story
 lines_from k file n p lines = story_before p.story.told (tell_lines k file n p.story.changes p.ways lines)
+
+-- a text that is known, or isn't
+abbrev pub if_known : (known : Bool) → (text : List ℕ) → Option (List ℕ)
+if_known known text = if known then Some text else None
+
+-- how many bytes from here on are left as they are
+abbrev pub left_size : ℕ → List ℕ → ℕ
+left_size b rest = if is_left b then 1 else left_whole b rest

@@ -1,10 +1,12 @@
 pub mod Changes
 pub mod Effects
+pub mod Pieces
+pub mod PieceViews
+pub mod Texts
 pub mod Events
 pub mod Telling
 pub mod Laws
 pub mod ChangeViews
-pub mod TextViews
 pub mod EffectViews
 pub mod TellViews
 pub mod Internal

@@ -1,10 +1,13 @@
 -- Worked rows: which lookups are told of the lines of rules, by hand from udev-rules.c (systemd 257).
-use Rattle.std.specs.Prelude.{List, [], ◌∷◌, Bool, true, false, ℕ, codes, map, ◌≡◌, Option, Some, None}
+use Rattle.std.specs.Prelude.{List, [], ◌∷◌, ◌++◌, Bool, true, false, ℕ, codes, map, replicate, ◌≡◌, Option, Some, None}
 use Prim.Native.String.{String}
 use Rattle.hwdb_rulefiles.specs.RuleLines.{RuleLine}
 use Rattle.hwdb_rulefiles.specs.RuleFiles.{parsed}
 use Rattle.hwdb_rulerun.specs.Rows.{card}
-use Rattle.hwdb_rulerun.specs.Sights.{Unknown, Text}
+use Rattle.hwdb_rulefiles.specs.declared.tokens.TokenKind.TheVariants as Kinds
+use Rattle.hwdb_rulerun.specs.Sights.{Missing, Unknown, Text}
+use Rattle.hwdb_ruleevents.specs.Texts as texts
+use Rattle.hwdb_ruleevents.specs.Texts.{Meaning, attribute_text, other_text, value_text}
 use Rattle.hwdb_ruleevents.specs.Changes.{Change, Put, Open}
 use Rattle.hwdb_ruleevents.specs.Effects.{Knowledge}
 use Rattle.hwdb_ruleevents.specs.Telling.{tell_files}
@@ -14,6 +17,10 @@ abbrev pub known : Knowledge
 known =
     record {
       sight = card;
+      others =
+          record { name = codes "[dmi/id]modalias"; value = Text (codes "dmi:bvnLENOVO:pvrThinkPadT14:") }
+          ∷ record { name = codes "[dmi/id]bios_date"; value = Missing }
+          ∷ [];
       builtins =
           record { text = codes "input_id"; succeeds = Some true; changes = Put (codes "ID_INPUT") (Text (codes "1")) ∷ [] }
           ∷ record { text = codes "hwdb --subsystem=net"; succeeds = Some false; changes = [] }
@@ -69,7 +76,9 @@ pub record PropertyRows : Type 0 where
   pub perhaps_set : Perhaps "TAG==\"?*\", ENV{A}=\"1\"" "ENV{A}==\"1\", IMPORT{builtin}=\"hwdb\""
   pub not_set : Nothing "KERNEL==\"wlan*\", ENV{A}=\"1\"" "ENV{A}==\"1\", IMPORT{builtin}=\"hwdb\""
   pub replaced : Perhaps "ENV{A}=\"a/b\"" "ENV{A}==\"a/b\", IMPORT{builtin}=\"hwdb\""
-  pub other_text : Perhaps "ENV{A}=\"$kernel\"" "ENV{A}==\"eth0\", IMPORT{builtin}=\"hwdb\""
+  pub other_text : Certain "ENV{A}=\"$kernel\"" "ENV{A}==\"eth0\", IMPORT{builtin}=\"hwdb\""
+  pub other_property : Certain "ENV{A}=\"$env{ID_BUS}\", ENV{A}+=\"\"" "ENV{A}==\"pci\", IMPORT{builtin}=\"hwdb\""
+  pub unknown_text : Perhaps "ENV{A}=\"$attr{speed}\"" "ENV{A}==\"1\", IMPORT{builtin}=\"hwdb\""
   pub behind_jump : Perhaps "TAG==\"?*\", GOTO=\"a\"\nENV{A}=\"1\"\nLABEL=\"a\"" "ENV{A}==\"1\", IMPORT{builtin}=\"hwdb\""
   pub builtin : Certain "IMPORT{builtin}=\"input_id\"" "ENV{ID_INPUT}==\"1\", IMPORT{builtin}=\"hwdb\""
   pub after_builtin : Certain "IMPORT{builtin}=\"input_id\", ENV{A}=\"1\"" "ENV{A}==\"1\", IMPORT{builtin}=\"hwdb\""
@@ -78,17 +87,70 @@ pub record PropertyRows : Type 0 where
   pub other_program : Perhaps "IMPORT{program}=\"b\"" "ENV{ID_BUS}==\"pci\", IMPORT{builtin}=\"hwdb\""
   pub stored : Perhaps "IMPORT{db}=\"ID_BUS\"" "ENV{ID_BUS}==\"pci\", IMPORT{builtin}=\"hwdb\""
   pub other_stored : Certain "IMPORT{db}=\"A\"" "ENV{ID_BUS}==\"pci\", IMPORT{builtin}=\"hwdb\""
+  pub verbatim : Certain "IMPORT{db}=\"$env{ID_PATH}\"" "ENV{ID_BUS}==\"pci\", IMPORT{builtin}=\"hwdb\""
   pub of_parent : Perhaps "IMPORT{parent}=\"ID_*\"" "ENV{ID_BUS}==\"pci\", IMPORT{builtin}=\"hwdb\""
   pub of_no_parent : Certain "IMPORT{parent}=\"A*\"" "ENV{ID_BUS}==\"pci\", IMPORT{builtin}=\"hwdb\""
   pub tags : Perhaps "TAG+=\"a\"" "ENV{TAGS}==\"?*\", IMPORT{builtin}=\"hwdb\""
   pub links : Perhaps "SYMLINK+=\"a\"" "ENV{DEVLINKS}==\"?*\", IMPORT{builtin}=\"hwdb\""
   pub run_later : Certain "RUN+=\"a\"" "ENV{ID_BUS}==\"pci\", IMPORT{builtin}=\"hwdb\""
 
--- the texts of commands
-abbrev pub Texts : String → List (Option (List ℕ)) → Type 0
-Texts line answer = map (λ t. t.text) (tell_files known 0 before (lines_in line ∷ [])) ≡ answer
+-- the texts of the commands of a line
+abbrev pub Texts : List RuleLine → List (Option (List ℕ)) → Type 0
+Texts lines answer = map (λ t. t.text) (tell_files known 0 before (lines ∷ [])) ≡ answer
 
+-- the line of a command of the builtin hwdb
+abbrev pub words_of : String → List RuleLine
+words_of words = (parsed (codes "IMPORT{builtin}=\"" ++ (codes words ++ codes "\""))).lines
+
+-- no variable has a text
+abbrev pub nothing_said : Meaning
+nothing_said variable argument = None
+
+-- the text of the builtin hwdb's words
+abbrev pub Asked : (words text : String) → Type 0
+Asked words text = Texts (words_of words) (Some (codes text) ∷ [])
+
+-- they aren't known
+abbrev pub Unasked : (words : String) → Type 0
+Unasked words = Texts (words_of words) (None ∷ [])
+
+-- variables: long names, letters, and what isn't one
 pub record TextRows : Type 0 where
-  pub literal : Texts "IMPORT{builtin}=\"hwdb --subsystem=usb\"" (Some (codes "hwdb --subsystem=usb") ∷ [])
-  pub dollar : Texts "IMPORT{builtin}=\"hwdb a:$kernel\"" (None ∷ [])
-  pub percent : Texts "IMPORT{builtin}=\"hwdb a:%k\"" (None ∷ [])
+  pub literal : Asked "hwdb --subsystem=usb" "hwdb --subsystem=usb"
+  pub kernel : Asked "hwdb a:$kernel" "hwdb a:eth0"
+  pub letter : Asked "hwdb a:%k" "hwdb a:eth0"
+  pub longer : Asked "hwdb a:$kernels" "hwdb a:eth0s"
+  pub devpath : Asked "hwdb $devpath %p" "hwdb /devices/pci0000:00/0000:00:1f.6/net/eth0 /devices/pci0000:00/0000:00:1f.6/net/eth0"
+  pub number : Asked "hwdb $number%n" "hwdb 00"
+  pub property : Asked "hwdb $env{ID_BUS}%E{ID_BUS}" "hwdb pcipci"
+  pub no_property : Asked "hwdb a$env{B}b" "hwdb ab"
+  pub unknown_property : Unasked "hwdb a$env{ID_PATH}b"
+  pub attribute : Asked "hwdb $attr{address}:$sysfs{address}:%s{address}" "hwdb 00:11:00:11:00:11"
+  pub unknown_attribute : Unasked "hwdb $attr{speed}"
+  pub unread_attribute : Unasked "hwdb $attr{mtu}"
+  pub machine : Asked "hwdb 'evdev:atkbd:$attr{[dmi/id]modalias}'" "hwdb 'evdev:atkbd:dmi:bvnLENOVO:pvrThinkPadT14:'"
+  pub no_machine : Asked "hwdb a$attr{[dmi/id]bios_date}" "hwdb a"
+  pub unread_machine : Unasked "hwdb a$attr{[dmi/id]bios_vendor}"
+  pub folders : Asked "hwdb $root $sys %r%S" "hwdb /dev /sys /dev/sys"
+  pub doubled : Asked "hwdb a$$b%%c" "hwdb a$b%c"
+  pub no_variable : Asked "hwdb $b%z$" "hwdb $b%z$"
+  pub no_end : Asked "hwdb a$attr{address" "hwdb a"
+  pub nothing_in_braces : Asked "hwdb a$kernel{}b" "hwdb a"
+  pub no_braces : Asked "hwdb a$env" "hwdb a"
+  pub spare_braces : Asked "hwdb a$kernel{b}c" "hwdb aeth0c"
+  pub result : Unasked "hwdb $result"
+  pub long : value_text nothing_said Kinds.Env (replicate 512 97) ≡ None
+  pub longest : value_text nothing_said Kinds.Env (replicate 511 97) ≡ Some (replicate 511 97)
+  pub long_command : value_text nothing_said Kinds.ImportBuiltin (replicate 1024 97) ≡ None
+  pub longest_command : value_text nothing_said Kinds.ImportBuiltin (replicate 1023 97) ≡ Some (replicate 1023 97)
+  pub long_attribute : attribute_text (replicate 512 97) ≡ None
+  pub long_other : other_text (Some (replicate 512 97)) ≡ replicate 511 97
+
+-- attributes, as they are written into texts
+pub record WrittenRows : Type 0 where
+  pub blanks : attribute_text (codes " a b\t \n") ≡ Some (codes " a b")
+  pub other_bytes : attribute_text (codes "a'(b)/c,d") ≡ Some (codes "a__b_/c,d")
+  pub tab : attribute_text (codes "a\tb") ≡ Some (codes "a b")
+  pub no_digits : texts.number (codes "input") ≡ []
+  pub some_digits : texts.number (codes "input12") ≡ codes "12"
+  pub all_digits : texts.number (codes "12") ≡ []

@@ -11,7 +11,8 @@ use Rattle.hwdb_rulerun.specs.Sights.{Sight, Entry}
 use Rattle.hwdb_rulerun.specs.Telling.{and_then, by_operator_told, line_told}
 use Rattle.hwdb_ruleevents.specs.Changes.{Change, Put, value_in, by_sure}
 use Rattle.hwdb_ruleevents.specs.Events.{Turn, turn}
-use Rattle.hwdb_ruleevents.specs.Effects.{Effect, Knowledge, assigned_told, effect_of, is_env, text_told}
+use Rattle.hwdb_ruleevents.specs.Effects.{Effect, Knowledge, assigned_told, effect_of, is_env}
+use Rattle.hwdb_ruleevents.specs.Texts.{text_told}
 
 abbrev pub entry_for : List Change → Token → Entry
 entry_for cs t = record { name = t.attribute; value = value_in cs t.attribute }
@@ -20,14 +21,18 @@ entry_for cs t = record { name = t.attribute; value = value_in cs t.attribute }
 abbrev pub sight_at : Sight → List Change → List Token → Sight
 sight_at s cs tokens = record s { properties = map (entry_for cs) tokens; closed = false }
 
--- the effect of ENV
-abbrev pub env_effect : List Change → Token → Effect
-env_effect cs t =
-    record { succeeds = None; changes = Put t.attribute (assigned_told t.operator t.value (text_told t.value) (value_in cs t.attribute)) ∷ [] }
+-- the effect of ENV, by the text of its value, if that is known
+abbrev pub env_effect : List Change → Token → (text : Option (List ℕ)) → Effect
+env_effect cs t text =
+    record { succeeds = None; changes = Put t.attribute (assigned_told t.operator t.value text (value_in cs t.attribute)) ∷ [] }
+
+-- the effect of a token, by the text of its value
+abbrev pub effect_by_text : Knowledge → List Change → Token → (text : Option (List ℕ)) → Effect
+effect_by_text k cs t text = if is_env t.kind then env_effect cs t text else effect_of k t.kind text
 
 -- the effect of a token
 abbrev pub effect_told : Knowledge → List Change → Token → Effect
-effect_told k cs t = if is_env t.kind then env_effect cs t else effect_of k t.kind (text_told t.value)
+effect_told k cs t = effect_by_text k cs t (text_told k cs t)
 
 -- whether a line goes on after something that succeeds, or not
 abbrev pub passes_by : TokenKind → Operator → (succeeds : Option Bool) → Option Bool
@@ -44,15 +49,15 @@ pub record Told : Type 0 where
   pub certain : Bool
 
 -- a lookup is certain only if its text is known, which may be too long else
-abbrev pub is_certain_by : (sure : Bool) → (text : Option (List ℕ)) → Bool
-is_certain_by sure None = false
-is_certain_by sure (Some text) = sure
+abbrev pub is_certain : (sure : Bool) → (text : Option (List ℕ)) → Bool
+is_certain sure None = false
+is_certain sure (Some text) = sure
 
-abbrev pub is_certain : (sure : Bool) → Token → Bool
-is_certain sure t = is_certain_by sure (text_told t.value)
+abbrev pub told_by_text : (text : Option (List ℕ)) → (sure : Bool) → (at : Turn) → Token → List Told
+told_by_text text sure n t = if is_lookup t then record { at = n; token = t; text = text; certain = is_certain sure text } ∷ [] else []
 
-abbrev pub told_in : (sure : Bool) → (at : Turn) → Token → List Told
-told_in sure n t = if is_lookup t then record { at = n; token = t; text = text_told t.value; certain = is_certain sure t } ∷ [] else []
+abbrev pub told_in : Knowledge → List Change → (sure : Bool) → (at : Turn) → Token → List Told
+told_in k cs sure n t = told_by_text (text_told k cs t) sure n t
 
 -- what is told of a line: its lookups, whether it comes to its end, and what is known of properties after it
 pub record Tale : Type 0 where
@@ -83,7 +88,7 @@ is_no passes = false
 abbrev pub run_in : Knowledge → (sure : Bool) → (at : Turn) → Tale → Token → Tale
 run_in k sure n tale t =
     record {
-      told = tale.told ++ told_in sure n t;
+      told = tale.told ++ told_in k tale.changes sure n t;
       passed = and_then tale.passed (passes_told t (effect_told k tale.changes t));
       changes = tale.changes ++ by_sure sure (effect_told k tale.changes t).changes;
     }
@@ -95,7 +100,7 @@ tell_tokens k sure n cs (t ∷ more) =
     let effect = effect_told k cs t in
     let passes = passes_told t effect in
     let next = cs ++ by_sure sure effect.changes in
-    told_before (told_in sure n t) passes (if is_no passes then ended false next else tell_tokens k (is_sure sure passes) n next more)
+    told_before (told_in k cs sure n t) passes (if is_no passes then ended false next else tell_tokens k (is_sure sure passes) n next more)
 
 abbrev pub tell_by : (holds : Option Bool) → Knowledge → (sure : Bool) → (at : Turn) → List Change → List Token → Tale
 tell_by holds k sure n cs tokens = told_before [] holds (if is_no holds then ended false cs else tell_tokens k (is_sure sure holds) n cs tokens)

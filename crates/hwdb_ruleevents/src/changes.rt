@@ -1,13 +1,13 @@
 //! What is known of properties while rules run.
-ghost use Rattle.std.specs.Prelude.{◌≡◌, ◌++◌, ◌∷◌, [], map, nat_eq, OnOk, unwrap_or};
+ghost use Rattle.std.specs.Prelude.{◌≡◌, ◌++◌, map, nat_eq, false, IfOk, OnOk, unwrap_or};
 ghost use Rattle.std.specs.List.{starts_with};
 ghost use Rattle.hwdb_rulefiles.specs.RuleKeys.{or_else};
 ghost use Rattle.hwdb_rulerun.specs.Views.{known_of};
 ghost use Rattle.hwdb_ruleevents.specs.Changes;
-ghost use Rattle.hwdb_ruleevents.specs.ChangeViews.{change_of, known_view};
+ghost use Rattle.hwdb_ruleevents.specs.ChangeViews.{change_of, held_of, known_view, value_of};
 
 use hwdb_rulerun::Known;
-use std::alloc::AllocError;
+use std::alloc::{AllocError, Global};
 
 /// A change of properties.
 #[derive(Clone, Copy, Debug)]
@@ -18,14 +18,87 @@ pub enum Change<'a> {
     Open(&'a [u8]),
 }
 
-/// What a change says of a property.
-fn said<'a>(change: Change<'a>, name: &[u8]) -> Option<Known<'a>>
-    ensures { known_view result ≡ Changes.said (change_of change.entry) name.now }
+/// What is known of a property's value.
+#[derive(Drop)]
+pub enum Value {
+    /// Nothing.
+    Unknown,
+    /// That it isn't there.
+    Missing,
+    /// What it is.
+    Text(Vec<u8>),
+}
+
+/// A change of properties that has its texts.
+#[derive(Drop)]
+pub enum Held {
+    /// A property was set, or was taken away.
+    Put(Vec<u8>, Value),
+    /// One was whose name begins so, and nothing more is known.
+    Open(Vec<u8>),
+}
+
+/// A value with a text of its own.
+pub fn value_for(alloc: Global, known: Known<'_>) -> Result<Value, AllocError>
+    ensures { IfOk result (λ v. value_of v ≡ known_of known.entry) }
+{
+    match known {
+        Known::Unknown => Ok(Value::Unknown),
+        Known::Missing => Ok(Value::Missing),
+        Known::Text(text) => Ok(Value::Text(Vec::from_slice(alloc, text)?)),
+    }
+}
+
+/// A change with texts of its own.
+fn copied(alloc: Global, change: Change<'_>) -> Result<Held, AllocError>
+    ensures { IfOk result (λ h. held_of h ≡ change_of change.entry) }
 {
     match change {
-        Change::Put(own, value) => { if own == name { Some(value) } else { None } }
-        Change::Open(start) => {
-            if name.starts_with(start) {
+        Change::Put(name, value) => {
+            let name = Vec::from_slice(alloc, name)?;
+            let value = value_for(alloc, value)?;
+            Ok(Held::Put(name, value))
+        }
+        Change::Open(start) => Ok(Held::Open(Vec::from_slice(alloc, start)?)),
+    }
+}
+
+/// Changes with texts of their own.
+pub fn all_held(alloc: Global, changes: &[Change<'_>]) -> Result<Vec<Held>, AllocError>
+    ensures { IfOk result (λ all. map held_of all.items ≡ map change_of changes.now) }
+{
+    let mut all = Vec::new(alloc);
+    for change in changes {
+        all.push(copied(alloc, *change)?)?;
+    }
+    Ok(all)
+}
+
+/// What is known of a value.
+fn known(value: &Value) -> Known<'_>
+    ensures { known_of result ≡ value_of value.now }
+{
+    match value {
+        Value::Unknown => Known::Unknown,
+        Value::Missing => Known::Missing,
+        Value::Text(text) => Known::Text(text.as_slice()),
+    }
+}
+
+/// What a change says of a property.
+fn said<'a>(change: &'a Held, name: &[u8]) -> Option<Known<'a>>
+    ensures { known_view result ≡ Changes.said (held_of change.now) name.now }
+{
+    match change {
+        Held::Put(own, value) => {
+            if own.as_slice() == name {
+                Some(known(value))
+            } else {
+                None
+            }
+        }
+        Held::Open(start) => {
+            if name.starts_with(start.as_slice()) {
                 Some(Known::Unknown)
             } else {
                 None
@@ -35,9 +108,9 @@ fn said<'a>(change: Change<'a>, name: &[u8]) -> Option<Known<'a>>
 }
 
 /// What a change says of a property, or else what was found before it.
-fn newer<'a>(change: Change<'a>, name: &[u8], found: Option<Known<'a>>) -> Option<Known<'a>>
+fn newer<'a>(change: &'a Held, name: &[u8], found: Option<Known<'a>>) -> Option<Known<'a>>
     ensures { known_view result
-        ≡ or_else (Changes.said (change_of change.entry) name.now) (known_view found.entry) }
+        ≡ or_else (Changes.said (held_of change.now) name.now) (known_view found.entry) }
 {
     match said(change, name) {
         None => found,
@@ -47,19 +120,19 @@ fn newer<'a>(change: Change<'a>, name: &[u8], found: Option<Known<'a>>) -> Optio
 
 /// What changes say of a property. All are looked at: the time grows with the square of how many lines set properties.
 #[tactic(auto, using(crate::proofs::ChangeLemmas::both_said, crate::proofs::ChangeLemmas::no_other))]
-fn said_in<'a>(changes: &[Change<'a>], name: &[u8]) -> Option<Known<'a>>
-    ensures { known_view result ≡ Changes.said_in (map change_of changes.now) name.now }
+fn said_in<'a>(changes: &'a [Held], name: &[u8]) -> Option<Known<'a>>
+    ensures { known_view result ≡ Changes.said_in (map held_of changes.now) name.now }
 {
     let mut found = None;
     for change in changes {
-        found = newer(*change, name, found);
+        found = newer(change, name, found);
     }
     found
 }
 
 /// What is known of a property.
-pub fn value_in<'a>(changes: &[Change<'a>], name: &[u8]) -> Known<'a>
-    ensures { known_of result ≡ Changes.value_in (map change_of changes.now) name.now }
+pub fn value_in<'a>(changes: &'a [Held], name: &[u8]) -> Known<'a>
+    ensures { known_of result ≡ Changes.value_in (map held_of changes.now) name.now }
 {
     match said_in(changes, name) {
         None => Known::Missing,
@@ -68,39 +141,40 @@ pub fn value_in<'a>(changes: &[Change<'a>], name: &[u8]) -> Known<'a>
 }
 
 /// What may have changed.
-fn perhaps(change: Change<'_>) -> Change<'_>
-    ensures { change_of result ≡ Changes.perhaps (change_of change.entry) }
+fn perhaps(alloc: Global, change: &Held) -> Result<Held, AllocError>
+    ensures { IfOk result (λ h. held_of h ≡ Changes.perhaps (held_of change.now)) }
 {
     match change {
-        Change::Put(name, _) => Change::Put(name, Known::Unknown),
-        Change::Open(start) => Change::Open(start),
+        Held::Put(name, _) => Ok(Held::Put(Vec::from_slice(alloc, name)?, Value::Unknown)),
+        Held::Open(start) => Ok(Held::Open(Vec::from_slice(alloc, start)?)),
     }
 }
 
-/// Adds a change, or that it may have been.
-fn put<'a>(changes: &mut Vec<Change<'a>>, sure: bool, change: Change<'a>) -> Result<(), AllocError>
-    ensures { OnOk result (map change_of changes.new.items
-        ≡ map change_of changes.old.items ++ Changes.by_sure sure (change_of change.entry ∷ [])) }
+/// Adds changes that may have been.
+fn put_perhaps(alloc: Global, changes: &mut Vec<Held>, new: &[Held]) -> Result<(), AllocError>
+    ensures { OnOk result (map held_of changes.new.items
+        ≡ map held_of changes.old.items ++ Changes.by_sure false (map held_of new.now)) }
 {
-    if sure {
-        changes.push(change)?;
-    } else {
-        changes.push(perhaps(change))?;
+    for change in new {
+        changes.push(perhaps(alloc, change)?)?;
     }
     Ok(())
 }
 
 /// Adds the changes of something that is run, or that may be run.
-pub fn put_all<'a>(
-    changes: &mut Vec<Change<'a>>,
+#[tactic(auto, using(crate::proofs::ChangeLemmas::all_put))]
+pub fn put_all(
+    alloc: Global,
+    changes: &mut Vec<Held>,
     sure: bool,
-    new: &[Change<'a>],
+    mut new: Vec<Held>,
 ) -> Result<(), AllocError>
-    ensures { OnOk result (map change_of changes.new.items
-        ≡ map change_of changes.old.items ++ Changes.by_sure sure (map change_of new.now)) }
+    ensures { OnOk result (map held_of changes.new.items
+        ≡ map held_of changes.old.items ++ Changes.by_sure sure (map held_of new.items)) }
 {
-    for change in new {
-        put(changes, sure, *change)?;
+    if !sure {
+        return put_perhaps(alloc, changes, &new);
     }
+    changes.append(&mut new)?;
     Ok(())
 }

@@ -4,20 +4,21 @@ ghost use Rattle.std.specs.List.{list_any, position_or_len};
 ghost use Rattle.std.specs.Str.{bytes_eq};
 ghost use Rattle.hwdb_rulefiles.specs.RuleTokens;
 ghost use Rattle.hwdb_rulerun.specs.Matching;
+ghost use Rattle.hwdb_rulefiles.specs.PairViews.{value_view};
 ghost use Rattle.hwdb_rulerun.specs.Views.{known_of};
+ghost use Rattle.hwdb_ruleevents.specs.ChangeViews.{value_of};
 ghost use Rattle.hwdb_ruleevents.specs.Effects;
-ghost use Rattle.hwdb_ruleevents.specs.TextViews.{text_view};
 ghost use Rattle.hwdb_ruleevents.specs.EffectViews.{effect_view, command_of, knowledge_of};
 
-use crate::changes::Change;
+use crate::changes::{Change, Held, Value, all_held, value_for};
 use hwdb_rulefiles::{Operator, TokenKind};
-use hwdb_rulerun::{Known, Sight, has_byte, is_wild};
+use hwdb_rulerun::{Entry, Known, Sight, has_byte, is_wild};
 use std::alloc::{AllocError, Global};
 
 /// What is known of a command.
 #[derive(Clone, Copy, Debug)]
 pub struct Command<'a> {
-    /// Its text, without what stands for other texts.
+    /// Its text.
     pub text: &'a [u8],
     /// Whether it succeeds.
     pub succeeds: Option<bool>,
@@ -30,6 +31,8 @@ pub struct Command<'a> {
 pub struct Knowledge<'a> {
     /// Of the device; its properties aren't looked at.
     pub sight: Sight<'a>,
+    /// Of attributes of other devices, by the texts in braces that name them, as `[dmi/id]modalias`.
+    pub others: &'a [Entry<'a>],
     /// Of commands that udev has built in.
     pub builtins: &'a [Command<'a>],
     /// Of programs.
@@ -38,19 +41,19 @@ pub struct Knowledge<'a> {
 
 /// Whether a token that is run succeeds, and what it changes.
 #[derive(Drop)]
-pub struct Effect<'a> {
+pub struct Effect {
     /// Whether it succeeds.
     pub succeeds: Option<bool>,
     /// What it changes.
-    pub changes: Vec<Change<'a>>,
+    pub changes: Vec<Held>,
 }
 
 /// The names that begin so may be set.
-fn opens(alloc: Global, start: &[u8]) -> Result<Effect<'_>, AllocError>
+fn opens(alloc: Global, start: &[u8]) -> Result<Effect, AllocError>
     ensures { IfOk result (λ e. effect_view e ≡ Effects.opens start.now) }
 {
     let mut changes = Vec::new(alloc);
-    changes.push(Change::Open(start))?;
+    changes.push(Held::Open(Vec::from_slice(alloc, start)?))?;
     Ok(Effect {
         succeeds: None,
         changes,
@@ -58,14 +61,14 @@ fn opens(alloc: Global, start: &[u8]) -> Result<Effect<'_>, AllocError>
 }
 
 /// Nothing is known.
-fn anything<'a>(alloc: Global) -> Result<Effect<'a>, AllocError>
+fn anything(alloc: Global) -> Result<Effect, AllocError>
     ensures { IfOk result (λ e. effect_view e ≡ Effects.anything) }
 {
     opens(alloc, b"")
 }
 
 /// Nothing changes.
-fn nothing<'a>(alloc: Global) -> Effect<'a>
+fn nothing(alloc: Global) -> Effect
     ensures { effect_view result ≡ Effects.nothing }
 {
     Effect {
@@ -75,10 +78,10 @@ fn nothing<'a>(alloc: Global) -> Effect<'a>
 }
 
 /// The effect of a command that is known.
-fn effect_by<'a>(alloc: Global, command: Command<'a>) -> Result<Effect<'a>, AllocError>
+fn effect_by(alloc: Global, command: Command<'_>) -> Result<Effect, AllocError>
     ensures { IfOk result (λ e. effect_view e ≡ Effects.effect_by (command_of command.entry)) }
 {
-    let changes = Vec::from_slice(alloc, command.changes)?;
+    let changes = all_held(alloc, command.changes)?;
     Ok(Effect {
         succeeds: command.succeeds,
         changes,
@@ -86,11 +89,7 @@ fn effect_by<'a>(alloc: Global, command: Command<'a>) -> Result<Effect<'a>, Allo
 }
 
 /// The effect of a command; the first one with this text counts.
-fn effect_in<'a>(
-    alloc: Global,
-    commands: &[Command<'a>],
-    text: &[u8],
-) -> Result<Effect<'a>, AllocError>
+fn effect_in(alloc: Global, commands: &[Command<'_>], text: &[u8]) -> Result<Effect, AllocError>
     ensures { IfOk result (λ e. effect_view e
         ≡ Effects.effect_in (map command_of commands.now) text.now) }
 {
@@ -121,12 +120,12 @@ fn front(pattern: &[u8]) -> &[u8]
 }
 
 /// The effect of an import.
-fn import_of<'a>(
+fn import_of(
     alloc: Global,
-    knowledge: &Knowledge<'a>,
+    knowledge: &Knowledge<'_>,
     kind: TokenKind,
-    text: &'a [u8],
-) -> Result<Effect<'a>, AllocError>
+    text: &[u8],
+) -> Result<Effect, AllocError>
     ensures { IfOk result (λ e. effect_view e
         ≡ Effects.import_of (knowledge_of knowledge.now) kind text.now) }
 {
@@ -155,13 +154,14 @@ fn imports(kind: TokenKind) -> bool
 }
 
 /// The effect of any other token: udev's own records change.
-fn plain_of<'a>(alloc: Global, kind: TokenKind) -> Result<Effect<'a>, AllocError>
+fn plain_of(alloc: Global, kind: TokenKind) -> Result<Effect, AllocError>
     ensures { IfOk result (λ e. effect_view e ≡ Effects.plain_of kind) }
 {
     match kind {
         TokenKind::Tag => {
             let mut effect = opens(alloc, b"TAGS")?;
-            effect.changes.push(Change::Open(b"CURRENT_TAGS"))?;
+            let current = Vec::from_slice(alloc, b"CURRENT_TAGS")?;
+            effect.changes.push(Held::Open(current))?;
             Ok(effect)
         }
         TokenKind::Devlink => opens(alloc, b"DEVLINKS"),
@@ -170,14 +170,14 @@ fn plain_of<'a>(alloc: Global, kind: TokenKind) -> Result<Effect<'a>, AllocError
 }
 
 /// The effect of a token that sets no property by ENV, by its text, if that is known.
-pub fn effect_of<'a>(
+pub fn effect_of(
     alloc: Global,
-    knowledge: &Knowledge<'a>,
+    knowledge: &Knowledge<'_>,
     kind: TokenKind,
-    text: Option<&'a [u8]>,
-) -> Result<Effect<'a>, AllocError>
+    text: &Option<Vec<u8>>,
+) -> Result<Effect, AllocError>
     ensures { IfOk result (λ e. effect_view e
-        ≡ Effects.effect_of (knowledge_of knowledge.now) kind (text_view text.entry)) }
+        ≡ Effects.effect_of (knowledge_of knowledge.now) kind (value_view text.now)) }
 {
     if !imports(kind) {
         return plain_of(alloc, kind);
@@ -188,24 +188,13 @@ pub fn effect_of<'a>(
     }
 }
 
-/// A text as it is written: without $ or %.
-fn is_literal(value: &[u8]) -> bool
-    ensures { result ≡ Effects.is_literal value.now }
+pub fn is_env(kind: TokenKind) -> bool
+    ensures { result ≡ Effects.is_env kind }
 {
-    if has_byte(b'$', value) {
-        return false;
+    match kind {
+        TokenKind::Env => true,
+        _ => false,
     }
-    !has_byte(b'%', value)
-}
-
-/// The text of a value, if it is known.
-pub fn text_told(value: &[u8]) -> Option<&[u8]>
-    ensures { text_view result ≡ Effects.text_told value.now }
-{
-    if value.len() > 511 {
-        return None;
-    }
-    if is_literal(value) { Some(value) } else { None }
 }
 
 fn is_add(operator: Operator) -> bool
@@ -223,7 +212,7 @@ fn is_letter(byte: u8) -> bool
     matches!(byte, b'a'..=b'z' | b'A'..=b'Z')
 }
 
-fn is_digit(byte: u8) -> bool
+pub fn is_digit(byte: u8) -> bool
     ensures { result ≡ RuleTokens.is_digit byte }
 {
     matches!(byte, b'0'..=b'9')
@@ -265,57 +254,66 @@ fn is_set_as_is(text: &[u8]) -> bool
 }
 
 /// What is known of a text that is set.
-fn kept(text: &[u8]) -> Known<'_>
-    ensures { known_of result ≡ Effects.kept (Effects.some_text text.now) }
+fn kept(alloc: Global, text: &[u8]) -> Result<Value, AllocError>
+    ensures { IfOk result (λ v. value_of v ≡ Effects.kept (Effects.some_text text.now)) }
 {
     if text.is_empty() {
-        return Known::Missing;
+        return Ok(Value::Missing);
     }
-    if is_set_as_is(text) {
-        Known::Text(text)
-    } else {
-        Known::Unknown
+    if !is_set_as_is(text) {
+        return Ok(Value::Unknown);
     }
+    Ok(Value::Text(Vec::from_slice(alloc, text)?))
 }
 
 /// What is known of a text that comes after another one and a blank.
-fn added_told<'a>(old: Known<'_>, text: &'a [u8]) -> Known<'a>
-    ensures { known_of result ≡ Effects.added_told (known_of old.entry) text.now }
+fn added_told(alloc: Global, old: Known<'_>, text: &[u8]) -> Result<Value, AllocError>
+    ensures { IfOk result (λ v. value_of v ≡ Effects.added_told (known_of old.entry) text.now) }
 {
     match old {
-        Known::Missing => kept(text),
-        _ => Known::Unknown,
+        Known::Missing => kept(alloc, text),
+        _ => Ok(Value::Unknown),
     }
 }
 
-fn set_told<'a>(operator: Operator, text: Option<&'a [u8]>, old: Known<'_>) -> Known<'a>
-    ensures { known_of result
-        ≡ Effects.set_told operator (text_view text.entry) (known_of old.entry) }
+fn set_told(
+    alloc: Global,
+    operator: Operator,
+    text: &Option<Vec<u8>>,
+    old: Known<'_>,
+) -> Result<Value, AllocError>
+    ensures { IfOk result (λ v. value_of v
+        ≡ Effects.set_told operator (value_view text.now) (known_of old.entry)) }
 {
     match text {
-        None => Known::Unknown,
+        None => Ok(Value::Unknown),
         Some(text) => {
             if is_add(operator) {
-                added_told(old, text)
+                added_told(alloc, old, text.as_slice())
             } else {
-                kept(text)
+                kept(alloc, text.as_slice())
             }
         }
     }
 }
 
-/// What is known of what ENV makes of a property.
-pub fn assigned_told<'a>(operator: Operator, value: &'a [u8], old: Known<'a>) -> Known<'a>
-    ensures { known_of result
-        ≡ Effects.assigned_told operator value.now (Effects.text_told value.now)
-        (known_of old.entry) }
+/// What is known of what ENV makes of a property, by its value and the text of that.
+pub fn assigned_told(
+    alloc: Global,
+    operator: Operator,
+    value: &[u8],
+    text: &Option<Vec<u8>>,
+    old: Known<'_>,
+) -> Result<Value, AllocError>
+    ensures { IfOk result (λ v. value_of v
+        ≡ Effects.assigned_told operator value.now (value_view text.now) (known_of old.entry)) }
 {
     if !value.is_empty() {
-        return set_told(operator, text_told(value), old);
+        return set_told(alloc, operator, text, old);
     }
     if is_add(operator) {
-        old
+        value_for(alloc, old)
     } else {
-        Known::Missing
+        Ok(Value::Missing)
     }
 }

@@ -9,12 +9,12 @@ ghost use Rattle.hwdb_rulefiles.specs.Views.{text_of};
 ghost use Rattle.hwdb_ruleevents.specs.Telling;
 ghost use Rattle.hwdb_ruleevents.specs.Internal;
 ghost use Rattle.hwdb_ruleevents.specs.Events.{turn};
-ghost use Rattle.hwdb_ruleevents.specs.ChangeViews.{change_of};
+ghost use Rattle.hwdb_ruleevents.specs.ChangeViews.{change_of, held_of};
 ghost use Rattle.hwdb_ruleevents.specs.EffectViews.{knowledge_of};
 ghost use Rattle.hwdb_ruleevents.specs.TellViews.{told_of, turn_of};
 ghost use Rattle.hwdb_ruleevents.specs.FileViews.{lines_of, progress_of, story_of, ways_of};
 
-use crate::changes::Change;
+use crate::changes::{Change, Held, all_held};
 use crate::effects::Knowledge;
 use crate::telling::{Place, Told, tell_line};
 use hwdb_rulefiles::RuleLine;
@@ -33,7 +33,7 @@ pub struct Story<'a> {
     /// Their lookups, in their order.
     pub told: Vec<Told<'a>>,
     /// What is known of properties after them.
-    pub changes: Vec<Change<'a>>,
+    pub changes: Vec<Held>,
 }
 
 /// What is told of the lines so far, and where the ways are.
@@ -138,8 +138,8 @@ fn tried<'a>(
 {
     let Progress { story, ways } = progress;
     let Story { mut told, changes } = story;
-    let tale = tell_line(alloc, knowledge, at, changes, line)?;
-    told.extend_from_slice(&tale.told)?;
+    let mut tale = tell_line(alloc, knowledge, at, changes, line)?;
+    told.append(&mut tale.told)?;
     let ways = jumped(tale.passed, &line.goto, ways)?;
     Ok(Progress {
         story: Story {
@@ -217,16 +217,16 @@ fn tell_lines<'a>(
 pub fn tell_files<'a>(
     alloc: Global,
     knowledge: &Knowledge<'a>,
-    changes: Vec<Change<'a>>,
+    changes: &[Change<'_>],
     files: &[&'a [RuleLine]],
 ) -> Result<Vec<Told<'a>>, AllocError>
     ensures { IfOk result (λ all. map told_of all.items ≡ Telling.tell_files
-        (knowledge_of knowledge.now) 0 (map change_of changes.entry.items)
+        (knowledge_of knowledge.now) 0 (map change_of changes.now)
         (map lines_of files.now)) }
 {
     let mut story = Story {
         told: Vec::new(alloc),
-        changes,
+        changes: all_held(alloc, changes)?,
     };
     for (number, lines) in files.iter().enumerate() {
         story = tell_lines(alloc, knowledge, number, story, lines)?;

@@ -1,6 +1,6 @@
 //! What is proved of the definitions alone. These functions do nothing: what each of them ensures is a law.
 ghost use Rattle.hwdb_ruleevents.specs.Laws.{EventsAreCovered, EventsAreExact};
-ghost use Rattle.hwdb_ruleevents.specs.Rows.{JumpRows, PropertyRows, TextRows};
+ghost use Rattle.hwdb_ruleevents.specs.Rows.{JumpRows, PropertyRows, TextRows, WrittenRows};
 
 use hwdb_rulerun::told_is_so;
 
@@ -34,4 +34,10 @@ pub fn property_rows()
 #[tactic(auto, using(crate::proofs::EventRows::text_rows_hold))]
 pub fn text_rows()
     ensures { TextRows }
+{}
+
+/// Attributes, as they are written into texts.
+#[tactic(auto, using(crate::proofs::EventRows::written_rows_hold))]
+pub fn written_rows()
+    ensures { WrittenRows }
 {}

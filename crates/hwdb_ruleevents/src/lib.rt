@@ -3,6 +3,9 @@
 //! | Module | What it does |
 //! |---|---|
 //! | `changes` | what is known of properties while rules run |
+//! | `pieces` | the pieces of a value: bytes, and variables |
+//! | `values` | attributes, as udev writes them into texts |
+//! | `texts` | the texts of values, as far as they are known |
 //! | `effects` | what is known of a token that is run |
 //! | `telling` | what is told of a line |
 //! | `files` | jumps, and what is told of the lines of files |
@@ -13,10 +16,15 @@ mod changes;
 mod effects;
 mod files;
 mod laws;
+mod pieces;
 mod telling;
+mod texts;
+mod values;
 
 pub use changes::Change;
 pub use effects::{Command, Knowledge};
 pub use files::tell_files;
-pub use laws::{events_are_covered, events_are_exact, jump_rows, property_rows, text_rows};
+pub use laws::{
+    events_are_covered, events_are_exact, jump_rows, property_rows, text_rows, written_rows,
+};
 pub use telling::Told;

@@ -1,24 +1,26 @@
 //! What is told of the tokens of a line, and of a line.
 ghost use Rattle.std.specs.Prelude.{◌≡◌, ◌++◌, ◌∷◌, [], map, true, false, Option, Some, None, IfOk, OnOk};
+ghost use Rattle.hwdb_rulefiles.specs.PairViews.{value_view};
 ghost use Rattle.hwdb_rulefiles.specs.TokenViews.{token_of};
 ghost use Rattle.hwdb_rulefiles.specs.LineViews.{line_of};
 ghost use Rattle.hwdb_rulerun.specs.Telling as RunTelling;
 ghost use Rattle.hwdb_rulerun.specs.Views.{entry_view, known_of, sight_of};
 ghost use Rattle.hwdb_ruleevents.specs.Telling;
 ghost use Rattle.hwdb_ruleevents.specs.Effects;
-ghost use Rattle.hwdb_ruleevents.specs.ChangeViews.{change_of};
+ghost use Rattle.hwdb_ruleevents.specs.Texts;
+ghost use Rattle.hwdb_ruleevents.specs.ChangeViews.{held_of};
 ghost use Rattle.hwdb_ruleevents.specs.EffectViews.{effect_view, knowledge_of};
-ghost use Rattle.hwdb_ruleevents.specs.TextViews.{text_view};
 ghost use Rattle.hwdb_ruleevents.specs.TellViews.{turn_of, told_of, tale_of};
 
-use crate::changes::{Change, put_all, value_in};
-use crate::effects::{Effect, Knowledge, assigned_told, effect_of, text_told};
+use crate::changes::{Held, put_all, value_in};
+use crate::effects::{Effect, Knowledge, assigned_told, effect_of, is_env};
+use crate::texts::text_told;
 use hwdb_rulefiles::{Operator, RuleLine, Token, TokenKind};
 use hwdb_rulerun::{Entry, Sight, and_then, by_operator_told, is_lookup, line_told, runs};
 use std::alloc::{AllocError, Global};
 
 /// A lookup that is told.
-#[derive(Clone, Copy)]
+#[derive(Drop)]
 pub struct Told<'a> {
     /// The number of its file, from 0.
     pub file: usize,
@@ -27,7 +29,7 @@ pub struct Told<'a> {
     /// Its token.
     pub token: &'a Token,
     /// The text of its command, if it is known.
-    pub text: Option<&'a [u8]>,
+    pub text: Option<Vec<u8>>,
     /// Whether it is asked, or may be asked.
     pub certain: bool,
 }
@@ -40,7 +42,7 @@ pub struct Tale<'a> {
     /// Whether it comes to its end.
     pub passed: Option<bool>,
     /// What is known of properties.
-    pub changes: Vec<Change<'a>>,
+    pub changes: Vec<Held>,
 }
 
 /// A line that is tried, or that may be tried.
@@ -69,21 +71,12 @@ impl Place {
 }
 
 /// Whether a lookup with this text is certain.
-fn is_certain(sure: bool, text: Option<&[u8]>) -> bool
-    ensures { result ≡ Telling.is_certain_by sure (text_view text.entry) }
+fn is_certain(sure: bool, text: &Option<Vec<u8>>) -> bool
+    ensures { result ≡ Telling.is_certain sure (value_view text.now) }
 {
     match text {
         None => false,
         Some(_) => sure,
-    }
-}
-
-fn is_env(kind: TokenKind) -> bool
-    ensures { result ≡ Effects.is_env kind }
-{
-    match kind {
-        TokenKind::Env => true,
-        _ => false,
     }
 }
 
@@ -109,11 +102,11 @@ fn is_sure(sure: bool, passes: Option<bool>) -> bool
 /// What a line sees of the properties that it names.
 fn entries<'a>(
     alloc: Global,
-    changes: &[Change<'a>],
+    changes: &'a [Held],
     tokens: &'a [Token],
 ) -> Result<Vec<Entry<'a>>, AllocError>
     ensures { IfOk result (λ all. map entry_view all.items
-        ≡ map (Telling.entry_for (map change_of changes.now)) (map token_of tokens.now)) }
+        ≡ map (Telling.entry_for (map held_of changes.now)) (map token_of tokens.now)) }
 {
     let mut all = Vec::new(alloc);
     for token in tokens {
@@ -129,11 +122,11 @@ fn entries<'a>(
 fn holds(
     alloc: Global,
     sight: &Sight<'_>,
-    changes: &[Change<'_>],
+    changes: &[Held],
     tokens: &[Token],
 ) -> Result<Option<bool>, AllocError>
     ensures { IfOk result (λ told. told ≡ RunTelling.line_told
-        (Telling.sight_at (sight_of sight.now) (map change_of changes.now)
+        (Telling.sight_at (sight_of sight.now) (map held_of changes.now)
         (map token_of tokens.now))
         (map token_of tokens.now)) }
 {
@@ -149,39 +142,43 @@ fn holds(
     line_told(alloc, &seen, tokens)
 }
 
-/// The effect of ENV.
-fn env_effect<'a>(
+/// The effect of ENV, by the text of its value.
+fn env_effect(
     alloc: Global,
-    changes: &[Change<'a>],
-    token: &'a Token,
-) -> Result<Effect<'a>, AllocError>
-    ensures { IfOk result (λ e. effect_view e
-        ≡ Telling.env_effect (map change_of changes.now) (token_of token.now)) }
+    changes: &[Held],
+    token: &Token,
+    text: &Option<Vec<u8>>,
+) -> Result<Effect, AllocError>
+    ensures { IfOk result (λ e. effect_view e ≡ Telling.env_effect (map held_of changes.now)
+        (token_of token.now) (value_view text.now)) }
 {
     let old = value_in(changes, &token.attribute);
-    let value = assigned_told(token.operator, &token.value, old);
+    let value = assigned_told(alloc, token.operator, &token.value, text, old)?;
+    let name = Vec::from_slice(alloc, &token.attribute)?;
     let mut new = Vec::new(alloc);
-    new.push(Change::Put(&token.attribute, value))?;
+    new.push(Held::Put(name, value))?;
     Ok(Effect {
         succeeds: None,
         changes: new,
     })
 }
 
-/// The effect of a token.
-fn effect_told<'a>(
+/// The effect of a token, by the text of its value.
+fn effect_by_text(
     alloc: Global,
-    knowledge: &Knowledge<'a>,
-    changes: &[Change<'a>],
-    token: &'a Token,
-) -> Result<Effect<'a>, AllocError>
-    ensures { IfOk result (λ e. effect_view e ≡ Telling.effect_told
-        (knowledge_of knowledge.now) (map change_of changes.now) (token_of token.now)) }
+    knowledge: &Knowledge<'_>,
+    changes: &[Held],
+    token: &Token,
+    text: &Option<Vec<u8>>,
+) -> Result<Effect, AllocError>
+    ensures { IfOk result (λ e. effect_view e
+        ≡ Telling.effect_by_text (knowledge_of knowledge.now) (map held_of changes.now)
+        (token_of token.now) (value_view text.now)) }
 {
     if is_env(token.kind) {
-        return env_effect(alloc, changes, token);
+        return env_effect(alloc, changes, token, text);
     }
-    effect_of(alloc, knowledge, token.kind, text_told(&token.value))
+    effect_of(alloc, knowledge, token.kind, text)
 }
 
 /// Whether a line goes on after something that succeeds, or not.
@@ -196,8 +193,8 @@ fn passes_by(kind: TokenKind, operator: Operator, succeeds: Option<bool>) -> Opt
 
 impl<'a> Tale<'a> {
     /// Nothing is told yet.
-    fn new(alloc: Global, changes: Vec<Change<'a>>) -> Tale<'a>
-        ensures { tale_of result ≡ Telling.ended true (map change_of changes.entry.items) }
+    fn new(alloc: Global, changes: Vec<Held>) -> Tale<'a>
+        ensures { tale_of result ≡ Telling.ended true (map held_of changes.items) }
     {
         Tale {
             told: Vec::new(alloc),
@@ -206,17 +203,16 @@ impl<'a> Tale<'a> {
         }
     }
 
-    /// Adds the lookup of a token.
-    fn ask(&mut self, at: Place, token: &'a Token) -> Result<(), AllocError>
-        ensures { OnOk result (tale_of self.new
-            ≡ Telling.asked (tale_of self.old)
-            (Telling.told_in at.sure (turn_of at) (token_of token.now))) }
+    /// Adds the lookup of a token, with the text of its value.
+    fn ask(&mut self, at: Place, token: &'a Token, text: Option<Vec<u8>>) -> Result<(), AllocError>
+        ensures { OnOk result (tale_of self.new ≡ Telling.asked (tale_of self.old)
+            (Telling.told_by_text (value_view text) at.sure (turn_of at)
+            (token_of token.now))) }
     {
         if !is_lookup(token) {
             return Ok(());
         }
-        let text = text_told(&token.value);
-        let certain = is_certain(at.sure, text);
+        let certain = is_certain(at.sure, &text);
         self.told.push(Told {
             file: at.file,
             line: at.line,
@@ -242,11 +238,12 @@ impl<'a> Tale<'a> {
             (Telling.effect_told (knowledge_of knowledge.now) (tale_of self.old).changes
             (token_of token.now))) }
     {
-        let effect = effect_told(alloc, knowledge, &self.changes, token)?;
+        let text = text_told(alloc, knowledge, &self.changes, token)?;
+        let effect = effect_by_text(alloc, knowledge, &self.changes, token, &text)?;
         let passes = passes_by(token.kind, token.operator, effect.succeeds);
-        self.ask(at, token)?;
+        self.ask(at, token, text)?;
         self.passed = and_then(self.passed, passes);
-        put_all(&mut self.changes, at.sure, &effect.changes)?;
+        put_all(alloc, &mut self.changes, at.sure, effect.changes)?;
         Ok(passes)
     }
 }
@@ -257,12 +254,12 @@ fn tell_tokens<'a>(
     alloc: Global,
     knowledge: &Knowledge<'a>,
     at: Place,
-    changes: Vec<Change<'a>>,
+    changes: Vec<Held>,
     tokens: &'a [Token],
 ) -> Result<Tale<'a>, AllocError>
     ensures { IfOk result (λ tale. tale_of tale
         ≡ Telling.tell_tokens (knowledge_of knowledge.now) at.sure (turn_of at)
-        (map change_of changes.entry.items) (map token_of tokens.now)) }
+        (map held_of changes.items) (map token_of tokens.now)) }
 {
     let mut tale = Tale::new(alloc, changes);
     let mut sure = at.sure;
@@ -278,8 +275,8 @@ fn tell_tokens<'a>(
 }
 
 /// Nothing is told of a line whose conditions don't hold.
-fn ended<'a>(alloc: Global, changes: Vec<Change<'a>>) -> Tale<'a>
-    ensures { tale_of result ≡ Telling.ended false (map change_of changes.entry.items) }
+fn ended<'a>(alloc: Global, changes: Vec<Held>) -> Tale<'a>
+    ensures { tale_of result ≡ Telling.ended false (map held_of changes.items) }
 {
     Tale {
         told: Vec::new(alloc),
@@ -293,12 +290,12 @@ fn tell_by<'a>(
     alloc: Global,
     knowledge: &Knowledge<'a>,
     at: Place,
-    tale: (Option<bool>, Vec<Change<'a>>),
+    tale: (Option<bool>, Vec<Held>),
     tokens: &'a [Token],
 ) -> Result<Tale<'a>, AllocError>
     ensures { IfOk result (λ t. tale_of t
-        ≡ Telling.tell_by tale.entry.0 (knowledge_of knowledge.now) at.sure (turn_of at)
-        (map change_of tale.entry.1.items) (map token_of tokens.now)) }
+        ≡ Telling.tell_by tale.0 (knowledge_of knowledge.now) at.sure (turn_of at)
+        (map held_of tale.1.items) (map token_of tokens.now)) }
 {
     let (holds, changes) = tale;
     if is_no(holds) {
@@ -317,11 +314,11 @@ pub fn tell_line<'a>(
     alloc: Global,
     knowledge: &Knowledge<'a>,
     at: Place,
-    changes: Vec<Change<'a>>,
+    changes: Vec<Held>,
     line: &'a RuleLine,
 ) -> Result<Tale<'a>, AllocError>
     ensures { IfOk result (λ tale. tale_of tale ≡ Telling.tell_line (knowledge_of knowledge.now)
-        at.sure (turn_of at) (map change_of changes.entry.items) (line_of line.now)) }
+        at.sure (turn_of at) (map held_of changes.items) (line_of line.now)) }
 {
     let holds = holds(alloc, &knowledge.sight, &changes, &line.tokens)?;
     tell_by(alloc, knowledge, at, (holds, changes), &line.tokens)

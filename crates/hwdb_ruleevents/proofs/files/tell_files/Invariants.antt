@@ -8,4 +8,4 @@ use Rattle.hwdb_ruleevents.proofs.files.tell_files.Given as goal
 abbrev pub invariant-loop-number : goal.invariant-loop-number
 invariant-loop-number l =
     (story_of l.story).told ++ tell_files (knowledge_of l.knowledge) l.number (story_of l.story).changes (map lines_of (drop l.number l.files))
-    ≡ tell_files (knowledge_of l.knowledge) 0 (map change_of l.fn.changes.items) (map lines_of l.files)
+    ≡ tell_files (knowledge_of l.knowledge) 0 (map change_of l.changes) (map lines_of l.files)
