@@ -14,11 +14,13 @@ use Rattle.hwdb_rulerun.specs.Asking.{runs, is_lookup}
 use Rattle.hwdb_rulerun.specs.Conditions.{by_operator, line_holds}
 use Rattle.hwdb_rulerun.specs.Laws.{Says}
 use Rattle.hwdb_rulefiles.specs.Escapes.{onto}
-use Rattle.hwdb_rulerun.specs.Conditions.{text_of as text_in}
-use Rattle.hwdb_rulerun.specs.Sights.{Known, Unknown, Missing, Text, Is, IsSight, attribute_of, entry_of}
+use Rattle.hwdb_rulerun.specs.Conditions.{all_of, has_parents, text_of as text_in}
+use Rattle.hwdb_rulerun.specs.Sights.{Known, Unknown, Missing, Text, AreSeen, Device, Is, IsSight, Seen, Sight, World, attribute_of, entry_of}
 use Rattle.hwdb_rulerun.specs.Telling.{and_then, by_operator_told, line_told}
 use Rattle.std.proofs.lemmas.Slice.Eq.{bytes_eq-Decides}
-use Rattle.hwdb_rulerun.specs.Laws.{ToldIsSo}
+use Rattle.hwdb_rulerun.specs.Laws.{ParentsAreSo, ToldIsSo}
+use Rattle.hwdb_rulerun.specs.Telling.{all_of as all_of_told}
+use Rattle.hwdb_ruleevents.specs.Parents.{Chosen, Anyone, Nobody, One, IsChosen, by_reached, first_of, first_told, first_tokens, one_of, parent_after, parent_after_told, parent_in, parent_told}
 use Rattle.hwdb_ruleevents.specs.Changes.{Properties, Change, Put, Open, Agrees, Becomes, said, said_in, value_in, by_sure, perhaps}
 use Rattle.hwdb_ruleevents.specs.Effects as known
 use Rattle.hwdb_ruleevents.specs.Effects.{Effect, Knowledge}
@@ -176,25 +178,47 @@ other_so Unknown truth h = tt
 other_so Missing truth h = ap (λ (x : Option (List ℕ)). Some (texts.other_text x)) h
 other_so (Text text) truth h = ap (λ (x : Option (List ℕ)). Some (texts.other_text x)) h
 
-own_so : (known : Known) (truth : Option (List ℕ)) → Is known truth → IsFollowed (texts.own_told known) (real.own_text truth)
-own_so Unknown truth h = tt
-own_so Missing truth h = tt
-own_so (Text text) truth h =
-    subst (λ (x : Option (List ℕ)). IsFollowed (texts.attribute_text text) (real.own_text x)) (sym h) (same (texts.attribute_text text))
+own_so : (known : Known) (truth told other : Option (List ℕ)) → Is known truth → IsFollowed told other
+    → IsFollowed (texts.own_told known told) (real.own_text truth other)
+own_so Unknown truth told other h f = tt
+own_so Missing truth told other h f = subst (λ (x : Option (List ℕ)). IsFollowed told (real.own_text x other)) (sym h) f
+own_so (Text text) truth told other h f =
+    subst (λ (x : Option (List ℕ)). IsFollowed (texts.attribute_text text) (real.own_text x other)) (sym h) (same (texts.attribute_text text))
   where
     same : (x : Option (List ℕ)) → IsFollowed x x
     same None = tt
     same (Some y) = refl
+
+parent_attribute_so : (c : Chosen) (d : Option Device) (name : List ℕ) → IsChosen c d
+    → IsFollowed (texts.parent_attribute_told c name) (real.parent_attribute d name)
+parent_attribute_so Anyone d name h = tt
+parent_attribute_so Nobody d name h = ap (λ (x : Option Device). real.parent_attribute x name) h
+parent_attribute_so (One s) None name h = absurd h
+parent_attribute_so (One s) (Some d) name h = own_so (attribute_of s name) (d.attribute name) (Some []) (Some []) (h.attributes name) refl
+
+parent_name_so : (c : Chosen) (d : Option Device) → IsChosen c d → IsFollowed (texts.parent_name_told c) (Some (real.parent_name d))
+parent_name_so Anyone d h = tt
+parent_name_so Nobody d h = ap (λ (x : Option Device). Some (real.parent_name x)) h
+parent_name_so (One s) None h = absurd h
+parent_name_so (One s) (Some d) h = ap Some h.name
+
+parent_driver_so : (c : Chosen) (d : Option Device) → IsChosen c d → IsFollowed (texts.parent_driver_told c) (Some (real.parent_driver d))
+parent_driver_so Anyone d h = tt
+parent_driver_so Nobody d h = ap (λ (x : Option Device). Some (real.parent_driver x)) h
+parent_driver_so (One s) None h = absurd h
+parent_driver_so (One s) (Some d) h = property_so s.driver d.driver h.driver
 
 attribute_so : (k : Knowledge) (e : Event) (argument : List ℕ) → IsKnown k e
     → IsFollowed (texts.attribute_told k argument) (real.attribute_meaning e argument)
 attribute_so k e argument h = by (texts.names_other argument)
   where
     by : (c : Bool)
-        → IsFollowed (if c then texts.other_told (entry_of argument Unknown k.others) else texts.own_told (attribute_of k.sight.own argument))
-        (if c then Some (texts.other_text (e.other argument)) else real.own_text (e.world.own.attribute argument))
+        → IsFollowed (if c then texts.other_told (entry_of argument Unknown k.others) else texts.own_told (attribute_of k.sight.own argument) (texts.parent_attribute_told k.parent argument))
+        (if c then Some (texts.other_text (e.other argument)) else real.own_text (e.world.own.attribute argument) (real.parent_attribute e.parent argument))
     by true = other_so (entry_of argument Unknown k.others) (e.other argument) (h.others argument)
-    by false = own_so (attribute_of k.sight.own argument) (e.world.own.attribute argument) (h.own.attributes argument)
+    by false =
+        own_so (attribute_of k.sight.own argument) (e.world.own.attribute argument) (texts.parent_attribute_told k.parent argument)
+        (real.parent_attribute e.parent argument) (h.own.attributes argument) (parent_attribute_so k.parent e.parent argument h.parent)
 
 meaning_so : (k : Knowledge) (e : Event) (cs : List Change) (p : Properties) → IsKnown k e → Agrees cs p
     → AreFollowed (texts.meaning_told k cs) (real.meaning e p)
@@ -203,6 +227,8 @@ meaning_so k e cs p h a Variables.Number argument = ap (λ (x : List ℕ). Some 
 meaning_so k e cs p h a Variables.Devpath argument = ap Some h.path
 meaning_so k e cs p h a Variables.Env argument = property_so (value_in cs argument) (p argument) (a argument)
 meaning_so k e cs p h a Variables.Attr argument = attribute_so k e argument h
+meaning_so k e cs p h a Variables.Id argument = parent_name_so k.parent e.parent h.parent
+meaning_so k e cs p h a Variables.Driver argument = parent_driver_so k.parent e.parent h.parent
 meaning_so k e cs p h a Variables.Root argument = refl
 meaning_so k e cs p h a Variables.Sys argument = refl
 meaning_so k e cs p h a variable argument = tt
@@ -279,12 +305,12 @@ assigned_so o value text actual old truth other s h = by (is_none value)
 
 text_is : (k : Knowledge) (e : Event) (n : Turn) (cs : List Change) (p : Properties) (t : Token) → IsKnown k e → Agrees cs p
     → IsText (text_told k cs t) (real.text_at e n p t)
-text_is k e n cs p t h a = is_text (text_told k cs t) (real.followed e p t) (e.text n p t) (text_so k e cs p t h a)
+text_is k e n cs p t h a = is_text (text_told k cs t) (real.followed e p t) (e.text (real.moment e n) p t) (text_so k e cs p t h a)
 
 value_so : (k : Knowledge) (e : Event) (n : Turn) (p : Properties) (t : Token) (cs : List Change) → IsKnown k e → Agrees cs p
     → Is (known.assigned_told t.operator t.value (text_told k cs t) (value_in cs t.attribute)) (real.new_value e n p t)
 value_so k e n p t cs h a =
-    assigned_so t.operator t.value (text_told k cs t) (real.text_at e n p t) (value_in cs t.attribute) (p t.attribute) (e.sets n p t t.attribute)
+    assigned_so t.operator t.value (text_told k cs t) (real.text_at e n p t) (value_in cs t.attribute) (p t.attribute) (e.sets (real.moment e n) p t t.attribute)
     (text_is k e n cs p t h a) (a t.attribute)
 
 env_so : (own name : List ℕ) (value : Known) (new before : Option (List ℕ)) → Is value new
@@ -296,18 +322,18 @@ env_so own name value new before h = by (bytes_eq own name)
     by false = refl
 
 effect_so : (k : Knowledge) (e : Event) (n : Turn) (p : Properties) (t : Token) (cs : List Change) → IsKnown k e → Agrees cs p
-    → IsEffect (tell.effect_told k cs t) (e.passes n p t 0) p (real.after e n p t)
+    → IsEffect (tell.effect_told k cs t) (e.passes (real.moment e n) p t 0) p (real.after e n p t)
 effect_so k e n p t cs h a = by (known.is_env t.kind) refl
   where
     by : (c : Bool) → known.is_env t.kind ≡ c
-        → IsEffect (if c then tell.env_effect cs t (text_told k cs t) else known.effect_of k t.kind (text_told k cs t)) (e.passes n p t 0) p
-        (if c then real.with_value p t.attribute (real.new_value e n p t) else e.sets n p t)
+        → IsEffect (if c then tell.env_effect cs t (text_told k cs t) else known.effect_of k t.kind (text_told k cs t)) (e.passes (real.moment e n) p t 0) p
+        (if c then real.with_value p t.attribute (real.new_value e n p t) else e.sets (real.moment e n) p t)
     by true i = record {
       succeeds = tt;
       changes = λ name. env_so t.attribute name _ (real.new_value e n p t) (p name) (value_so k e n p t cs h a);
     }
     by false i =
-        less_known k t.kind (text_told k cs t) (real.text_at e n p t) (e.passes n p t 0) p (e.sets n p t) (text_is k e n cs p t h a) (h.effects n p t i)
+        less_known k t.kind (text_told k cs t) (real.text_at e n p t) (e.passes (real.moment e n) p t 0) p (e.sets (real.moment e n) p t) (text_is k e n cs p t h a) (h.effects e.parent n p t i)
 
 turned_so : (o : Operator) (told : Option Bool) (succeeds : Bool) → Says told succeeds → Says (by_operator_told o told) (by_operator o succeeds)
 turned_so o None succeeds h = tt
@@ -348,7 +374,7 @@ passes_so k e n p t cs h a = by (runs t.kind)
     by : (c : Bool)
         → Says (if c then by_operator_told t.operator (tell.effect_told k cs t).succeeds else Some true) (if c then real.goes_on_after e n p t else true)
     by true =
-        cut_so t.operator (text_told k cs t) (real.followed e p t) (tell.effect_told k cs t).succeeds (e.cuts n p t) (e.passes n p t 0)
+        cut_so t.operator (text_told k cs t) (real.followed e p t) (tell.effect_told k cs t).succeeds (e.cuts (real.moment e n) p t) (e.passes (real.moment e n) p t 0)
         (text_so k e cs p t h a) (unread_none k cs t) (effect_so k e n p t cs h a).succeeds
     by false = refl
 
@@ -388,7 +414,7 @@ asks_so k sure e n cs p t ts xs i a h = by (is_lookup t)
     by : (c : Bool)
         → Covers ((if c then record { at = n; token = t; text = text_told k cs t; certain = tell.is_certain sure (text_told k cs t) } ∷ [] else []) ++ ts)
         ((if c then real.asked_in e n p t else []) ++ xs)
-    by true = ask_so sure (e.cuts n p t) n t (text_told k cs t) (real.followed e p t) (e.text n p t) ts xs (text_so k e cs p t i a) h
+    by true = ask_so sure (e.cuts (real.moment e n) p t) n t (text_told k cs t) (real.followed e p t) (e.text (real.moment e n) p t) ts xs (text_so k e cs p t i a) h
     by false = h
 
 uncertain : (sure : Bool) (o : Option (List ℕ)) → sure ≡ false → tell.is_certain sure o ≡ false
@@ -508,12 +534,108 @@ sight_so k e n cs p tokens h a = record {
   properties = λ name. listed_so cs p tokens name a;
 }
 
-line_so : ToldIsSo → (k : Knowledge) (e : Event) (sure : Bool) (n : Turn) (cs : List Change) (p : Properties) (l : RuleLine) → IsKnown k e → Agrees cs p
+-- the parent that a line chose
+
+first_so : ParentsAreSo → (w : World) (tokens : List Token) (index : ℕ) (ss : List Seen) (ds : List Device) → AreSeen ss ds
+    → IsChosen (first_told tokens ss) (first_of w tokens index ds)
+first_so so w tokens index [] [] h = refl
+first_so so w tokens index [] (d ∷ ds) h = absurd h
+first_so so w tokens index (s ∷ ss) [] h = absurd h
+first_so so w tokens index (s ∷ ss) (d ∷ ds) h =
+    by (all_of_told s tokens) (all_of w tokens index d) (so s w tokens index d h.0) (first_so so w tokens (index + 1) ss ds h.1)
+  where
+    by : (a : Option Bool) (b : Bool) → Says a b → IsChosen (first_told tokens ss) (first_of w tokens (index + 1) ds)
+        → IsChosen (one_of a s (first_told tokens ss)) (if b then Some d else first_of w tokens (index + 1) ds)
+    by None b e ih = tt
+    by (Some true) true e ih = h.0
+    by (Some true) false e ih = absurd (cc)
+    by (Some false) true e ih = absurd (cc)
+    by (Some false) false e ih = ih
+
+parent_in_so : ParentsAreSo → (s : Sight) (w : World) (tokens : List Token) (before : Chosen) (d : Option Device) → IsSight s w → IsChosen before d
+    → IsChosen (parent_told s tokens before) (parent_in w tokens d)
+parent_in_so so s w tokens before d h c = by (has_parents tokens)
+  where
+    by : (b : Bool)
+        → IsChosen (if b then first_told tokens (s.own ∷ s.parents) else before) (if b then first_of w tokens 0 (w.own ∷ w.parents) else d)
+    by true = first_so so w tokens 0 (s.own ∷ s.parents) (w.own ∷ w.parents) (h.own, h.parents)
+    by false = c
+
+no_parents : (w : World) (tokens : List Token) (d : Option Device) → has_parents tokens ≡ false → parent_in w tokens d ≡ d
+no_parents w tokens d e = ap (λ (x : Bool). if x then first_of w tokens 0 (w.own ∷ w.parents) else d) e
+
+after_by : (sure c : Bool) (r : Option Bool) (b : Bool) (new before : Chosen) (d q : Option Device) → Says r b → IsChosen new q → IsChosen before d
+    → (c ≡ false → q ≡ d) → IsChosen (if c then by_reached sure r new before else before) (if b then q else d)
+after_by sure true None b new before d q e n c z = tt
+after_by sure true (Some false) true new before d q e n c z = absurd (cc)
+after_by sure true (Some false) false new before d q e n c z = c
+after_by true true (Some true) true new before d q e n c z = n
+after_by false true (Some true) true new before d q e n c z = tt
+after_by sure true (Some true) false new before d q e n c z = absurd (cc)
+after_by sure false r true new before d q e n c z = subst (λ (x : Option Device). IsChosen before x) (sym (z refl)) c
+after_by sure false r false new before d q e n c z = c
+
+after_so : ToldIsSo → ParentsAreSo → (sure : Bool) (s : Sight) (w : World) (tokens : List Token) (before : Chosen) (d : Option Device) → IsSight s w
+    → IsChosen before d → IsChosen (parent_after_told sure s tokens before) (parent_after w tokens d)
+after_so so of sure s w tokens before d h c =
+    after_by sure (has_parents tokens) (line_told s (first_tokens tokens)) (line_holds w (first_tokens tokens)) (parent_told s tokens before) before d
+    (parent_in w tokens d) (so s w (first_tokens tokens) h) (parent_in_so of s w tokens before d h c) c (no_parents w tokens d)
+
+skipped_by : (sure c : Bool) (r : Option Bool) (new before : Chosen) (d : Option Device) → sure ≡ false → IsChosen before d
+    → IsChosen (if c then by_reached sure r new before else before) d
+skipped_by sure true None new before d e c = tt
+skipped_by sure true (Some false) new before d e c = c
+skipped_by true true (Some true) new before d e c = absurd (cc)
+skipped_by false true (Some true) new before d e c = tt
+skipped_by sure false r new before d e c = c
+
+import_same : (k : Knowledge) (c : Chosen) (kind : TokenKind) (text : List ℕ) → known.import_of (known.with_chosen k c) kind text ≡ known.import_of k kind text
+import_same k c Kinds.ImportBuiltin text = refl
+import_same k c Kinds.ImportProgram text = refl
+import_same k c Kinds.ImportDb text = refl
+import_same k c Kinds.ImportCmdline text = refl
+import_same k c Kinds.ImportParent text = refl
+import_same k c kind text = refl
+
+known_with : (k : Knowledge) (e : Event) (c : Chosen) (d : Option Device) → IsKnown k e → IsChosen c d → IsKnown (known.with_chosen k c) (real.with_parent e d)
+known_with k e c d h i = record {
+  action = h.action;
+  path = h.path;
+  own = h.own;
+  parents = h.parents;
+  parent = i;
+  others = h.others;
+  effects = λ f n p t j.
+      subst (λ (x : Effect). IsEffect (if known.imports t.kind then x else known.plain_of t.kind) (e.passes (real.moment (real.with_parent e f) n) p t 0) p
+      (e.sets (real.moment (real.with_parent e f) n) p t))
+      (sym (import_same k c t.kind (real.text_at (real.with_parent e f) n p t))) (h.effects f n p t j);
+}
+
+known_in_so : ParentsAreSo → (k : Knowledge) (e : Event) (n : Turn) (cs : List Change) (p : Properties) (l : RuleLine) → IsKnown k e → Agrees cs p
+    → IsKnown (tell.known_in k cs l) (real.event_in e n p l)
+known_in_so so k e n cs p l h a =
+    known_with k e _ _ h
+    (parent_in_so so (tell.sight_at k.sight cs l.tokens) (real.world_at e n p) l.tokens k.parent e.parent (sight_so k e n cs p l.tokens h a) h.parent)
+
+known_after_so : ToldIsSo → ParentsAreSo → (sure : Bool) (k : Knowledge) (e : Event) (n : Turn) (cs : List Change) (p : Properties) (l : RuleLine)
+    → IsKnown k e → Agrees cs p → IsKnown (tell.known_after sure k cs l) (real.event_after e n p l)
+known_after_so so of sure k e n cs p l h a =
+    known_with k e _ _ h
+    (after_so so of sure (tell.sight_at k.sight cs l.tokens) (real.world_at e n p) l.tokens k.parent e.parent (sight_so k e n cs p l.tokens h a) h.parent)
+
+known_skipped : (sure : Bool) (k : Knowledge) (e : Event) (cs : List Change) (l : RuleLine) → sure ≡ false → IsKnown k e
+    → IsKnown (tell.known_after sure k cs l) e
+known_skipped sure k e cs l s h =
+    known_with k e _ e.parent h
+    (skipped_by sure (has_parents l.tokens) (line_told (tell.sight_at k.sight cs l.tokens) (first_tokens l.tokens))
+    (parent_told (tell.sight_at k.sight cs l.tokens) l.tokens k.parent) k.parent e.parent s h.parent)
+
+line_so : ToldIsSo → ParentsAreSo → (k : Knowledge) (e : Event) (sure : Bool) (n : Turn) (cs : List Change) (p : Properties) (l : RuleLine) → IsKnown k e → Agrees cs p
     → Tells (tell.tell_line k sure n cs l) (real.run_line e n p l)
-line_so so k e sure n cs p l h a =
-    join_so k e sure n cs p l.tokens (line_told (tell.sight_at k.sight cs l.tokens) l.tokens) (line_holds (real.world_at e n p) l.tokens)
+line_so so of k e sure n cs p l h a =
+    join_so (tell.known_in k cs l) (real.event_in e n p l) sure n cs p l.tokens (line_told (tell.sight_at k.sight cs l.tokens) l.tokens) (line_holds (real.world_at e n p) l.tokens)
     (so (tell.sight_at k.sight cs l.tokens) (real.world_at e n p) l.tokens (sight_so k e n cs p l.tokens h a)) a
-    (λ certain. run_tokens_so k e certain n cs p l.tokens h a)
+    (λ certain. run_tokens_so (tell.known_in k cs l) (real.event_in e n p l) certain n cs p l.tokens (known_in_so of k e n cs p l h a) a)
 
 skip_by : (k : Knowledge) (sure : Bool) (n : Turn) (cs : List Change) (p : Properties) (tokens : List Token) (holds : Option Bool) → sure ≡ false
     → Agrees cs p → Skips (tell.tell_by holds k sure n cs tokens) p
@@ -526,7 +648,7 @@ skip_by k sure n cs p tokens holds e a = by (tell.is_no holds) (skip_tokens k (t
 
 skip_line : (k : Knowledge) (sure : Bool) (n : Turn) (cs : List Change) (p : Properties) (l : RuleLine) → sure ≡ false → Agrees cs p
     → Skips (tell.tell_line k sure n cs l) p
-skip_line k sure n cs p l e a = skip_by k sure n cs p l.tokens (line_told (tell.sight_at k.sight cs l.tokens) l.tokens) e a
+skip_line k sure n cs p l e a = skip_by (tell.known_in k cs l) sure n cs p l.tokens (line_told (tell.sight_at k.sight cs l.tokens) l.tokens) e a
 
 -- jumps
 
@@ -618,62 +740,72 @@ at_label w until name e h = subst (IsAt w) (sym e) h
 record Follows (s : tell.Story) (r : real.Ran) : Type 0 where
   told : Covers s.told r.asks
   changes : Agrees s.changes r.properties
+  parent : IsChosen s.parent r.parent
 
 tried_so : (tale : Tale) (done : Done) (rest other : tell.Story) (ran : real.Ran) (c : Bool) → c ≡ true → Tells tale done → Follows rest ran
     → Follows (if c then tell.story_before tale.told rest else other) (real.ran_before done.asks ran)
-tried_so tale done rest other ran true e t f = record { told = covers_both tale.told rest.told done.asks ran.asks t.told f.told; changes = f.changes }
+tried_so tale done rest other ran true e t f = record { told = covers_both tale.told rest.told done.asks ran.asks t.told f.told; changes = f.changes; parent = f.parent }
 tried_so tale done rest other ran false e t f = absurd (cc)
 
 left_so : (tale : Tale) (p : Properties) (rest other : tell.Story) (ran : real.Ran) (c : Bool) → Skips tale p → Follows rest ran → Follows other ran
     → Follows (if c then tell.story_before tale.told rest else other) ran
-left_so tale p rest other ran true t f g = record { told = covers_both tale.told rest.told [] ran.asks t.told f.told; changes = f.changes }
+left_so tale p rest other ran true t f g = record { told = covers_both tale.told rest.told [] ran.asks t.told f.told; changes = f.changes; parent = f.parent }
 left_so tale p rest other ran false t f g = g
 
-lines_so : ToldIsSo → (k : Knowledge) (e : Event) (file n : ℕ) (cs : List Change) (p : Properties) (w : Ways) (until : Option (List ℕ)) (lines : List RuleLine)
-    → IsKnown k e → Agrees cs p → IsAt w until → Follows (tell.tell_lines k file n cs w lines) (real.run_lines e file n p until lines)
-lines_so so k e file n cs p w until [] h a i = record { told = tt; changes = a }
-lines_so so k e file n cs p w until (l ∷ more) h a i =
+lines_so : ToldIsSo → ParentsAreSo → (k : Knowledge) (e : Event) (file n : ℕ) (cs : List Change) (p : Properties) (w : Ways) (until : Option (List ℕ))
+    (lines : List RuleLine) → IsKnown k e → Agrees cs p → IsAt w until
+    → Follows (tell.tell_lines k file n cs w lines) (real.run_lines e file n p until lines)
+lines_so so of k e file n cs p w until [] h a i = record { told = tt; changes = a; parent = h.parent }
+lines_so so of k e file n cs p w until (l ∷ more) h a i =
     by (real.is_reached until l.label) refl
-    (λ ds q v u b j. lines_so so k e file (n + 1) ds q v u more h b j)
+    (λ m f ds q v u g b j. lines_so so of m f file (n + 1) ds q v u more g b j)
   where
     by : (c : Bool) → real.is_reached until l.label ≡ c
-        → ((ds : List Change) (q : Properties) (v : Ways) (u : Option (List ℕ)) → Agrees ds q → IsAt v u
-        → Follows (tell.tell_lines k file (n + 1) ds v more) (real.run_lines e file (n + 1) q u more))
+        → ((m : Knowledge) (f : Event) (ds : List Change) (q : Properties) (v : Ways) (u : Option (List ℕ)) → IsKnown m f → Agrees ds q → IsAt v u
+        → Follows (tell.tell_lines m file (n + 1) ds v more) (real.run_lines f file (n + 1) q u more))
         → Follows (tell.tell_lines k file n cs w (l ∷ more))
         (if c
         then real.ran_before (real.run_line e (turn file n) p l).asks
-        (real.run_lines e file (n + 1) (real.run_line e (turn file n) p l).properties (real.jump (real.run_line e (turn file n) p l).passed l.goto) more)
+        (real.run_lines (real.event_after e (turn file n) p l) file (n + 1) (real.run_line e (turn file n) p l).properties
+        (real.jump (real.run_line e (turn file n) p l).passed l.goto) more)
         else real.run_lines e file (n + 1) p until more)
     by true c ih =
         let at : Ways = tell.arrived l.label w in
         let tale : Tale = tell.tell_line k (is_none at.waiting) (turn file n) cs l in
         let done : Done = real.run_line e (turn file n) p l in
         let here = arrived_so w until l.label i c in
-        let t = line_so so k e (is_none at.waiting) (turn file n) cs p l h a in
+        let t = line_so so of k e (is_none at.waiting) (turn file n) cs p l h a in
         tried_so tale done _ _ _ at.here here t
-        (ih tale.changes done.properties (tell.jumped tale.passed l.goto at) (real.jump done.passed l.goto) t.changes
+        (ih (tell.known_after (is_none at.waiting) k cs l) (real.event_after e (turn file n) p l) tale.changes done.properties
+        (tell.jumped tale.passed l.goto at) (real.jump done.passed l.goto)
+        (known_after_so so of (is_none at.waiting) k e (turn file n) cs p l h a) t.changes
         (jumped_so at tale.passed done.passed l.goto here t.passed))
     by false c ih =
         let at : Ways = tell.arrived l.label w in
         let tale : Tale = tell.tell_line k (is_none at.waiting) (turn file n) cs l in
         elim (later_so w until l.label i c) [
           | Later name u j ↦
-              let t = skip_line k (is_none at.waiting) (turn file n) cs p l (some_wait name at.waiting j) a in
+              let unsure = some_wait name at.waiting j in
+              let t = skip_line k (is_none at.waiting) (turn file n) cs p l unsure a in
               let next : Ways = tell.jumped tale.passed l.goto at in
               left_so tale p _ _ _ at.here t
-              (ih tale.changes p next until t.changes (at_label next until name u (waits_on at tale.passed l.goto name j)))
-              (ih cs p at until a (at_label at until name u j))
+              (ih (tell.known_after (is_none at.waiting) k cs l) e tale.changes p next until (known_skipped (is_none at.waiting) k e cs l unsure h) t.changes
+              (at_label next until name u (waits_on at tale.passed l.goto name j)))
+              (ih k e cs p at until h a (at_label at until name u j))
         ]
 
-files_so : ToldIsSo → (k : Knowledge) (e : Event) (n : ℕ) (cs : List Change) (p : Properties) (files : List (List RuleLine)) → IsKnown k e → Agrees cs p
-    → Covers (tell.tell_files k n cs files) (real.run_files e n p files)
-files_so so k e n cs p [] h a = tt
-files_so so k e n cs p (lines ∷ more) h a =
-    let f = lines_so so k e n 0 cs p tell.start None lines h a refl in
-    covers_both _ _ _ _ f.told (files_so so k e (n + 1) _ _ more h f.changes)
+files_so : ToldIsSo → ParentsAreSo → (k : Knowledge) (e : Event) (n : ℕ) (cs : List Change) (p : Properties) (files : List (List RuleLine)) → IsKnown k e
+    → Agrees cs p → Covers (tell.tell_files k n cs files) (real.run_files e n p files)
+files_so so of k e n cs p [] h a = tt
+files_so so of k e n cs p (lines ∷ more) h a =
+    let f = lines_so so of k e n 0 cs p tell.start None lines h a refl in
+    let told = tell.tell_lines k n 0 cs tell.start lines in
+    let ran = real.run_lines e n 0 p None lines in
+    covers_both _ _ _ _ f.told
+    (files_so so of (known.with_chosen k told.parent) (real.with_parent e ran.parent) (n + 1) told.changes ran.properties more (known_with k e _ _ h f.parent) f.changes)
 
-pub events_are_covered : ToldIsSo → EventsAreCovered
-events_are_covered so k e cs p files h a = files_so so k e 0 cs p files h a
+pub events_are_covered : ToldIsSo → ParentsAreSo → EventsAreCovered
+events_are_covered so of k e cs p files h a = files_so so of k e 0 cs p files h a
 
 all_so : (ts : List Told) (xs : List Ask) → AreCertain ts → Covers ts xs → AreAll ts xs
 all_so [] [] c h = tt
@@ -684,5 +816,5 @@ all_so (t ∷ ts) [] c h = both_so t c.0 h.0
     both_so t c d = absurd (cc)
 all_so (t ∷ ts) (x ∷ xs) c h = elim h [ inl a ↦ (a.0, all_so ts xs c.1 a.1) | inr b ↦ absurd (cc) ]
 
-pub events_are_exact : ToldIsSo → EventsAreExact
-events_are_exact so k e cs p files h a c = all_so (tell.tell_files k 0 cs files) (real.run_files e 0 p files) c (events_are_covered so k e cs p files h a)
+pub events_are_exact : ToldIsSo → ParentsAreSo → EventsAreExact
+events_are_exact so of k e cs p files h a c = all_so (tell.tell_files k 0 cs files) (real.run_files e 0 p files) c (events_are_covered so of k e cs p files h a)

@@ -8,7 +8,7 @@ use Rattle.hwdb_rulefiles.specs.RuleJumps.{resolved}
 use Rattle.hwdb_rulefiles.specs.Escapes.{first_pieces}
 use Rattle.hwdb_spec_commands.specs.Sysfs.{cut_back, replaced}
 use Rattle.hwdb_ruleevents.specs.Pieces.{first_pieces as first_pieces_of}
-use Rattle.hwdb_ruleevents.specs.Rows.{JumpRows, PropertyRows, TextRows, WrittenRows}
+use Rattle.hwdb_ruleevents.specs.Rows.{JumpRows, PropertyRows, TextRows, WrittenRows, ParentRows}
 
 pub jump_rows_hold : JumpRows
 unfolding matches piece_then byte_then some_ending tokens_from token_at bracket_at items_from item_at classes first_rows steps long_row taking_most by_rank resolved first_pieces first_pieces_of
@@ -71,6 +71,7 @@ text_rows_hold = record {
   unknown_property = refl;
   attribute = refl;
   unknown_attribute = refl;
+  missing_attribute = refl;
   unread_attribute = refl;
   machine = refl;
   no_machine = refl;
@@ -100,4 +101,21 @@ written_rows_hold = record {
   no_digits = refl;
   some_digits = refl;
   all_digits = refl;
+}
+
+pub parent_rows_hold : ParentRows
+unfolding matches piece_then byte_then some_ending tokens_from token_at bracket_at items_from item_at classes first_rows steps long_row taking_most by_rank resolved first_pieces first_pieces_of replaced cut_back
+parent_rows_hold = record {
+  chosen = refl;
+  nobody = refl;
+  itself = refl;
+  stays = refl;
+  next_file = refl;
+  none_fits = refl;
+  earlier_fails = refl;
+  earlier_unknown = refl;
+  later_unknown = refl;
+  in_its_line = refl;
+  unknown = refl;
+  after_jump = refl;
 }

@@ -5,3 +5,4 @@ pub mod EventRows
 pub mod PieceLemmas
 pub mod TextLemmas
 pub mod ValueLemmas
+pub mod ParentLemmas

@@ -7,7 +7,8 @@ use Rattle.hwdb_rulefiles.specs.RuleLines.{RuleLine}
 use Rattle.hwdb_rulefiles.specs.Views.{text_of}
 use Rattle.hwdb_rulerun.specs.Telling.{and_then}
 use Rattle.hwdb_ruleevents.specs.Changes.{Change, by_sure}
-use Rattle.hwdb_ruleevents.specs.Effects.{Effect, Knowledge}
+use Rattle.hwdb_ruleevents.specs.Effects.{Effect, Knowledge, with_chosen}
+use Rattle.hwdb_ruleevents.specs.Parents.{Chosen}
 use Rattle.hwdb_ruleevents.specs.Texts.{text_told}
 use Rattle.hwdb_ruleevents.specs.Events.{Turn, turn}
 use Rattle.hwdb_ruleevents.specs.Telling
@@ -17,8 +18,8 @@ use Rattle.hwdb_ruleevents.specs.Internal.{Progress, rest_of, lines_from, step, 
 abbrev tale_with : List Told → Option Bool → List Change → Tale
 tale_with told passed cs = record { told = told; passed = passed; changes = cs }
 
-abbrev story_with : List Told → List Change → Story
-story_with told cs = record { told = told; changes = cs }
+abbrev story_with : List Told → List Change → Chosen → Story
+story_with told cs parent = record { told = told; changes = cs; parent = parent }
 
 three : (a b c : Option Bool) → and_then (and_then a b) c ≡ and_then a (and_then b c)
 three (Some true) b c = refl
@@ -109,13 +110,17 @@ line_by : (k : Knowledge) (file n : ℕ) (p : Progress) (at : Ways) (l : RuleLin
     (if c then tried k (is_none at.waiting) (turn file n) (record { story = p.story; ways = at }) l else record { story = p.story; ways = at }) more
     ≡ Telling.story_before p.story.told
     (if c
-    then (let tale = Telling.tell_line k (is_none at.waiting) (turn file n) p.story.changes l in
-    Telling.story_before tale.told (Telling.tell_lines k file (n + 1) tale.changes (Telling.jumped tale.passed l.goto at) more))
-    else Telling.tell_lines k file (n + 1) p.story.changes at more)
+    then (let now = with_chosen k p.story.parent in
+    let tale = Telling.tell_line now (is_none at.waiting) (turn file n) p.story.changes l in
+    Telling.story_before tale.told
+    (Telling.tell_lines (Telling.known_after (is_none at.waiting) now p.story.changes l) file (n + 1) tale.changes (Telling.jumped tale.passed l.goto at) more))
+    else Telling.tell_lines (with_chosen k p.story.parent) file (n + 1) p.story.changes at more)
 line_by k file n p at l more true =
-    let tale : Tale = Telling.tell_line k (is_none at.waiting) (turn file n) p.story.changes l in
-    let rest : Story = Telling.tell_lines k file (n + 1) tale.changes (Telling.jumped tale.passed l.goto at) more in
-    ap (λ (x : List Told). story_with x rest.changes) (append_assoc p.story.told tale.told rest.told)
+    let now : Knowledge = with_chosen k p.story.parent in
+    let tale : Tale = Telling.tell_line now (is_none at.waiting) (turn file n) p.story.changes l in
+    let rest : Story =
+    Telling.tell_lines (Telling.known_after (is_none at.waiting) now p.story.changes l) file (n + 1) tale.changes (Telling.jumped tale.passed l.goto at) more in
+    ap (λ (x : List Told). story_with x rest.changes rest.parent) (append_assoc p.story.told tale.told rest.told)
 line_by k file n p at l more false = refl
 
 -- one more line
@@ -127,12 +132,13 @@ line_on k file n p next l more e =
 
 -- one more file
 pub file_on : (k : Knowledge) (n : ℕ) (story next : Story) (lines : List RuleLine) (more : List (List RuleLine))
-    → next ≡ Telling.story_before story.told (Telling.tell_lines k n 0 story.changes Telling.start lines)
-    → next.told ++ Telling.tell_files k (n + 1) next.changes more ≡ story.told ++ Telling.tell_files k n story.changes (lines ∷ more)
+    → next ≡ Telling.story_before story.told (Telling.tell_lines (with_chosen k story.parent) n 0 story.changes Telling.start lines)
+    → next.told ++ Telling.tell_files (with_chosen k next.parent) (n + 1) next.changes more
+    ≡ story.told ++ Telling.tell_files (with_chosen k story.parent) n story.changes (lines ∷ more)
 file_on k n story next lines more e =
-    ap (λ (x : Story). x.told ++ Telling.tell_files k (n + 1) x.changes more) e
-    ∙ append_assoc story.told (Telling.tell_lines k n 0 story.changes Telling.start lines).told
-    (Telling.tell_files k (n + 1) (Telling.tell_lines k n 0 story.changes Telling.start lines).changes more)
+    let ran : Story = Telling.tell_lines (with_chosen k story.parent) n 0 story.changes Telling.start lines in
+    ap (λ (x : Story). x.told ++ Telling.tell_files (with_chosen k x.parent) (n + 1) x.changes more) e
+    ∙ append_assoc story.told ran.told (Telling.tell_files (with_chosen k ran.parent) (n + 1) ran.changes more)
 
 -- whether no way waits
 pub nobody_waits : (names : List (Bor (List ℕ))) → is_none (map text_of names) ≡ is_none names

@@ -12,6 +12,7 @@ use Rattle.hwdb_rulefiles.specs.declared.tokens.TokenKind.TheVariants as Kinds
 use Rattle.hwdb_rulerun.specs.Matching.{is_wild}
 use Rattle.hwdb_rulerun.specs.Sights.{Entry, Known, Unknown, Missing, Text, Sight}
 use Rattle.hwdb_ruleevents.specs.Changes.{Change, Open}
+use Rattle.hwdb_ruleevents.specs.Parents.{Chosen}
 
 -- whether it succeeds, and what it changes
 pub record Effect : Type 0 where
@@ -24,12 +25,17 @@ pub record Command : Type 0 where
   pub succeeds : Option Bool
   pub changes : List Change
 
--- what is known of a device, of attributes of other devices, by the texts in braces that name them, of builtins and of programs
+-- what is known of a device, of the parent that a line chose, of attributes of other devices, by the texts in braces that name them, of builtins
+-- and of programs
 pub record Knowledge : Type 0 where
   pub sight : Sight
+  pub parent : Chosen
   pub others : List Entry
   pub builtins : List Command
   pub programs : List Command
+
+abbrev pub with_chosen : Knowledge → Chosen → Knowledge
+with_chosen k c = record k { parent = c }
 
 -- nothing is known
 abbrev pub anything : Effect

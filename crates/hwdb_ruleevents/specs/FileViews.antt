@@ -8,6 +8,7 @@ use Rattle.hwdb_rulefiles.specs.declared.lines.RuleLine.{RuleLine}
 use Rattle.hwdb_ruleevents.specs.Telling
 use Rattle.hwdb_ruleevents.specs.Internal
 use Rattle.hwdb_ruleevents.specs.ChangeViews.{held_of}
+use Rattle.hwdb_ruleevents.specs.ParentViews.{chosen_of}
 use Rattle.hwdb_ruleevents.specs.TellViews.{told_of}
 use Rattle.hwdb_ruleevents.specs.declared.files.Story.{Story}
 use Rattle.hwdb_ruleevents.specs.declared.files.Ways.{Ways}
@@ -23,7 +24,7 @@ abbrev pub ways_of : Ways → Telling.Ways
 ways_of w = record { here = w.here; waiting = map text_of w.waiting.items }
 
 abbrev pub story_of : Story → Telling.Story
-story_of s = record { told = map told_of s.told.items; changes = map held_of s.changes.items }
+story_of s = record { told = map told_of s.told.items; changes = map held_of s.changes.items; parent = chosen_of s.parent }
 
 abbrev pub progress_of : Progress → Internal.Progress
 progress_of p = record { story = story_of p.story; ways = ways_of p.ways }

@@ -3,10 +3,11 @@ use Rattle.std.specs.Prelude.{List, [], ◌∷◌, Bool, true, false, ℕ, ◌�
 use Rattle.hwdb_rulefiles.specs.RuleTokens.{Token}
 use Rattle.hwdb_rulefiles.specs.RuleLines.{RuleLine}
 use Rattle.hwdb_rulerun.specs.Laws.{Says}
-use Rattle.hwdb_rulerun.specs.Sights.{AreSeen, Is, IsSeen, Unknown, entry_of}
+use Rattle.hwdb_rulerun.specs.Sights.{AreSeen, Device, Is, IsSeen, Unknown, entry_of}
 use Rattle.hwdb_ruleevents.specs.Changes.{Properties, Change, Agrees, Becomes, said_in}
 use Rattle.hwdb_ruleevents.specs.Effects.{Effect, Knowledge, effect_of, is_env}
-use Rattle.hwdb_ruleevents.specs.Events.{Event, Turn, Ask, run_files, text_at}
+use Rattle.hwdb_ruleevents.specs.Events.{Event, Turn, Ask, moment, run_files, text_at, with_parent}
+use Rattle.hwdb_ruleevents.specs.Parents.{IsChosen}
 use Rattle.hwdb_ruleevents.specs.Telling.{Told, tell_files}
 
 -- what is known of the effect of a token is so
@@ -14,15 +15,21 @@ pub record IsEffect (effect : Effect) (truth : Bool) (before after : Properties)
   pub succeeds : Says effect.succeeds truth
   pub changes : (name : List ℕ) → Becomes (said_in effect.changes name) (before name) (after name)
 
--- All that is known is so: of the device, of other devices, and of each token that is run. The effect of ENV is followed.
+-- what is known of the effect of a token of an event is so
+abbrev pub IsEffectOf : Knowledge → Event → (at : Turn) → Properties → Token → Type 0
+IsEffectOf k e n p t =
+    IsEffect (effect_of k t.kind (Some (text_at e n p t))) (e.passes (moment e n) p t 0) p (e.sets (moment e n) p t)
+
+-- All that is known is so: of the device, of the parent that a line chose, of other devices, and of each token that is run, whatever parent a line
+-- chose. The effect of ENV is followed.
 pub record IsKnown (k : Knowledge) (e : Event) : Type 0 where
   pub action : e.world.action ≡ k.sight.action
   pub path : e.world.path ≡ k.sight.path
   pub own : IsSeen k.sight.own e.world.own
   pub parents : AreSeen k.sight.parents e.world.parents
+  pub parent : IsChosen k.parent e.parent
   pub others : (argument : List ℕ) → Is (entry_of argument Unknown k.others) (e.other argument)
-  pub effects : (n : Turn) (p : Properties) (t : Token) → is_env t.kind ≡ false
-      → IsEffect (effect_of k t.kind (Some (text_at e n p t))) (e.passes n p t 0) p (e.sets n p t)
+  pub effects : (d : Option Device) (n : Turn) (p : Properties) (t : Token) → is_env t.kind ≡ false → IsEffectOf k (with_parent e d) n p t
 
 -- a text that is told is so
 abbrev pub IsText : Option (List ℕ) → List ℕ → Type 0

@@ -1,4 +1,6 @@
 pub mod Changes
+pub mod Parents
+pub mod ParentViews
 pub mod Effects
 pub mod Pieces
 pub mod PieceViews

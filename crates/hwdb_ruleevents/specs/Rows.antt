@@ -5,18 +5,34 @@ use Rattle.hwdb_rulefiles.specs.RuleLines.{RuleLine}
 use Rattle.hwdb_rulefiles.specs.RuleFiles.{parsed}
 use Rattle.hwdb_rulerun.specs.Rows.{card}
 use Rattle.hwdb_rulefiles.specs.declared.tokens.TokenKind.TheVariants as Kinds
-use Rattle.hwdb_rulerun.specs.Sights.{Missing, Unknown, Text}
+use Rattle.hwdb_rulerun.specs.Sights.{Missing, Sight, Unknown, Text}
 use Rattle.hwdb_ruleevents.specs.Texts as texts
 use Rattle.hwdb_ruleevents.specs.Texts.{Meaning, attribute_text, other_text, value_text}
 use Rattle.hwdb_ruleevents.specs.Changes.{Change, Put, Open}
 use Rattle.hwdb_ruleevents.specs.Effects.{Knowledge}
+use Rattle.hwdb_ruleevents.specs.Parents.{Nobody}
 use Rattle.hwdb_ruleevents.specs.Telling.{tell_files}
+
+-- a network interface and its parent
+abbrev pub machine : Sight
+machine =
+    record card {
+      parents =
+          record {
+            name = codes "0000:00:1f.6";
+            subsystem = Text (codes "pci");
+            driver = Text (codes "e1000e");
+            attributes = record { name = codes "phys_port_id"; value = Text (codes "p1 ") } ∷ [];
+          }
+          ∷ [];
+    }
 
 -- what is known of a network interface: of two builtins, and of a program
 abbrev pub known : Knowledge
 known =
     record {
-      sight = card;
+      sight = machine;
+      parent = Nobody;
       others =
           record { name = codes "[dmi/id]modalias"; value = Text (codes "dmi:bvnLENOVO:pvrThinkPadT14:") }
           ∷ record { name = codes "[dmi/id]bios_date"; value = Missing }
@@ -127,6 +143,7 @@ pub record TextRows : Type 0 where
   pub unknown_property : Unasked "hwdb a$env{ID_PATH}b"
   pub attribute : Asked "hwdb $attr{address}:$sysfs{address}:%s{address}" "hwdb 00:11:00:11:00:11"
   pub unknown_attribute : Unasked "hwdb $attr{speed}"
+  pub missing_attribute : Asked "hwdb a$attr{phys_port_id}" "hwdb a"
   pub unread_attribute : Unasked "hwdb $attr{mtu}"
   pub machine : Asked "hwdb 'evdev:atkbd:$attr{[dmi/id]modalias}'" "hwdb 'evdev:atkbd:dmi:bvnLENOVO:pvrThinkPadT14:'"
   pub no_machine : Asked "hwdb a$attr{[dmi/id]bios_date}" "hwdb a"
@@ -154,3 +171,22 @@ pub record WrittenRows : Type 0 where
   pub no_digits : texts.number (codes "input") ≡ []
   pub some_digits : texts.number (codes "input12") ≡ codes "12"
   pub all_digits : texts.number (codes "12") ≡ []
+
+-- the text of the one command of the builtin hwdb in some files
+abbrev pub AskedIn : List String → Option (List ℕ) → Type 0
+AskedIn files answer = map (λ t. t.text) (tell_files known 0 before (map lines_in files)) ≡ answer ∷ []
+
+-- the parent that a line chose
+pub record ParentRows : Type 0 where
+  pub chosen : AskedIn ("KERNELS==\"0000:*\", IMPORT{builtin}=\"hwdb $id:$driver:$attr{phys_port_id}:\"" ∷ []) (Some (codes "hwdb 0000:00:1f.6:e1000e:p1:"))
+  pub nobody : AskedIn ("IMPORT{builtin}=\"hwdb a$id$driver%b%d\"" ∷ []) (Some (codes "hwdb a"))
+  pub itself : AskedIn ("KERNELS==\"eth*\", IMPORT{builtin}=\"hwdb $id:$driver:$attr{phys_port_id}:\"" ∷ []) (Some (codes "hwdb eth0:::"))
+  pub stays : AskedIn ("KERNELS==\"0000:*\", ENV{A}=\"1\"\nIMPORT{builtin}=\"hwdb $id\"" ∷ []) (Some (codes "hwdb 0000:00:1f.6"))
+  pub next_file : AskedIn ("KERNELS==\"0000:*\", ENV{A}=\"1\"" ∷ "IMPORT{builtin}=\"hwdb $id\"" ∷ []) (Some (codes "hwdb 0000:00:1f.6"))
+  pub none_fits : AskedIn ("KERNELS==\"0000:*\", ENV{A}=\"1\"\nKERNELS==\"usb*\", ENV{A}=\"1\"\nIMPORT{builtin}=\"hwdb a$id\"" ∷ []) (Some (codes "hwdb a"))
+  pub earlier_fails : AskedIn ("KERNEL==\"wlan*\", KERNELS==\"0000:*\", ENV{A}=\"1\"\nIMPORT{builtin}=\"hwdb a$id\"" ∷ []) (Some (codes "hwdb a"))
+  pub earlier_unknown : AskedIn ("TAG==\"x\", KERNELS==\"0000:*\", ENV{A}=\"1\"\nIMPORT{builtin}=\"hwdb a$id\"" ∷ []) None
+  pub later_unknown : AskedIn ("KERNELS==\"0000:*\", TEST==\"x\", ENV{A}=\"1\"\nIMPORT{builtin}=\"hwdb a$id\"" ∷ []) (Some (codes "hwdb a0000:00:1f.6"))
+  pub in_its_line : AskedIn ("TAG==\"x\", KERNELS==\"0000:*\", IMPORT{builtin}=\"hwdb a$id\"" ∷ []) (Some (codes "hwdb a0000:00:1f.6"))
+  pub unknown : AskedIn ("ATTRS{speed}==\"1\", ENV{A}=\"1\"\nIMPORT{builtin}=\"hwdb a$id\"" ∷ []) None
+  pub after_jump : AskedIn ("TAG==\"x\", GOTO=\"b\"\nKERNELS==\"0000:*\", ENV{A}=\"1\"\nLABEL=\"b\", IMPORT{builtin}=\"hwdb a$id\"" ∷ []) None

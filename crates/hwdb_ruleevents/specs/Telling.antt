@@ -11,7 +11,8 @@ use Rattle.hwdb_rulerun.specs.Sights.{Sight, Entry}
 use Rattle.hwdb_rulerun.specs.Telling.{and_then, by_operator_told, line_told}
 use Rattle.hwdb_ruleevents.specs.Changes.{Change, Put, value_in, by_sure}
 use Rattle.hwdb_ruleevents.specs.Events.{Turn, turn}
-use Rattle.hwdb_ruleevents.specs.Effects.{Effect, Knowledge, assigned_told, effect_of, is_env}
+use Rattle.hwdb_ruleevents.specs.Effects.{Effect, Knowledge, assigned_told, effect_of, is_env, with_chosen}
+use Rattle.hwdb_ruleevents.specs.Parents.{Chosen, parent_after_told, parent_told}
 use Rattle.hwdb_ruleevents.specs.Texts.{text_told}
 
 abbrev pub entry_for : List Change → Token → Entry
@@ -105,14 +106,22 @@ tell_tokens k sure n cs (t ∷ more) =
 abbrev pub tell_by : (holds : Option Bool) → Knowledge → (sure : Bool) → (at : Turn) → List Change → List Token → Tale
 tell_by holds k sure n cs tokens = told_before [] holds (if is_no holds then ended false cs else tell_tokens k (is_sure sure holds) n cs tokens)
 
+-- what is known when the tokens of a line are run, and after it
+abbrev pub known_in : Knowledge → List Change → RuleLine → Knowledge
+known_in k cs l = with_chosen k (parent_told (sight_at k.sight cs l.tokens) l.tokens k.parent)
+
+abbrev pub known_after : (sure : Bool) → Knowledge → List Change → RuleLine → Knowledge
+known_after sure k cs l = with_chosen k (parent_after_told sure (sight_at k.sight cs l.tokens) l.tokens k.parent)
+
 -- a line that is tried, or that may be tried
 abbrev pub tell_line : Knowledge → (sure : Bool) → (at : Turn) → List Change → RuleLine → Tale
-tell_line k sure n cs l = tell_by (line_told (sight_at k.sight cs l.tokens) l.tokens) k sure n cs l.tokens
+tell_line k sure n cs l = tell_by (line_told (sight_at k.sight cs l.tokens) l.tokens) (known_in k cs l) sure n cs l.tokens
 
--- what is told of lines
+-- what is told of lines: their lookups, and what is known of properties and of the parent after them
 pub record Story : Type 0 where
   pub told : List Told
   pub changes : List Change
+  pub parent : Chosen
 
 abbrev pub story_before : List Told → Story → Story
 story_before told s = record s { told = told ++ s.told }
@@ -142,15 +151,17 @@ jumped None (Some name) w = waiting_for w.here w name
 
 -- the lines of a file, of which the first has this number
 abbrev pub tell_lines : Knowledge → (file line : ℕ) → List Change → Ways → List RuleLine → Story
-tell_lines k file n cs w [] = record { told = []; changes = cs }
+tell_lines k file n cs w [] = record { told = []; changes = cs; parent = k.parent }
 tell_lines k file n cs w (l ∷ more) =
     let at = arrived l.label w in
     if at.here
     then (let tale = tell_line k (is_none at.waiting) (turn file n) cs l in
-    story_before tale.told (tell_lines k file (n + 1) tale.changes (jumped tale.passed l.goto at) more))
+    story_before tale.told (tell_lines (known_after (is_none at.waiting) k cs l) file (n + 1) tale.changes (jumped tale.passed l.goto at) more))
     else tell_lines k file (n + 1) cs at more
 
 -- what is told of the lookups of files, one after the other, of which the first has this number
 abbrev pub tell_files : Knowledge → (file : ℕ) → List Change → List (List RuleLine) → List Told
 tell_files k n cs [] = []
-tell_files k n cs (lines ∷ more) = (tell_lines k n 0 cs start lines).told ++ tell_files k (n + 1) (tell_lines k n 0 cs start lines).changes more
+tell_files k n cs (lines ∷ more) =
+    (tell_lines k n 0 cs start lines).told
+    ++ tell_files (with_chosen k (tell_lines k n 0 cs start lines).parent) (n + 1) (tell_lines k n 0 cs start lines).changes more

@@ -11,6 +11,7 @@ use Rattle.hwdb_rulerun.specs.Conditions.{attribute_size}
 use Rattle.hwdb_rulerun.specs.Sights.{Known, Unknown, Missing, Text, attribute_of, entry_of}
 use Rattle.hwdb_ruleevents.specs.Changes.{Change, value_in}
 use Rattle.hwdb_ruleevents.specs.Effects.{Knowledge, is_env}
+use Rattle.hwdb_ruleevents.specs.Parents.{Chosen, Anyone, Nobody, One}
 use Rattle.hwdb_ruleevents.specs.Pieces.{Piece, Byte, Stands, pieces}
 use Rattle.hwdb_ruleevents.specs.declared.pieces.Variable.{Variable}
 use Rattle.hwdb_ruleevents.specs.declared.pieces.Variable.TheVariants as Variables
@@ -82,11 +83,27 @@ known_text Unknown = None
 known_text Missing = Some []
 known_text (Text text) = Some text
 
--- what is known of an attribute's text; if the device has none, udev asks a parent, which isn't followed
-abbrev pub own_told : Known → Option (List ℕ)
-own_told Unknown = None
-own_told Missing = None
-own_told (Text text) = attribute_text text
+-- what is known of an attribute's text, and of another one that counts if the device has none
+abbrev pub own_told : Known → (otherwise : Option (List ℕ)) → Option (List ℕ)
+own_told Unknown otherwise = None
+own_told Missing otherwise = otherwise
+own_told (Text text) otherwise = attribute_text text
+
+-- what is known of the texts of a parent: an attribute, the name and the driver; without a parent they are empty
+abbrev pub parent_attribute_told : Chosen → (name : List ℕ) → Option (List ℕ)
+parent_attribute_told Anyone name = None
+parent_attribute_told Nobody name = Some []
+parent_attribute_told (One s) name = own_told (attribute_of s name) (Some [])
+
+abbrev pub parent_name_told : Chosen → Option (List ℕ)
+parent_name_told Anyone = None
+parent_name_told Nobody = Some []
+parent_name_told (One s) = Some s.name
+
+abbrev pub parent_driver_told : Chosen → Option (List ℕ)
+parent_driver_told Anyone = None
+parent_driver_told Nobody = Some []
+parent_driver_told (One s) = known_text s.driver
 
 abbrev pub other_told : Known → Option (List ℕ)
 other_told Unknown = None
@@ -95,7 +112,7 @@ other_told (Text text) = Some (other_text (Some text))
 
 abbrev pub attribute_told : Knowledge → (argument : List ℕ) → Option (List ℕ)
 attribute_told k argument =
-    if names_other argument then other_told (entry_of argument Unknown k.others) else own_told (attribute_of k.sight.own argument)
+    if names_other argument then other_told (entry_of argument Unknown k.others) else own_told (attribute_of k.sight.own argument) (parent_attribute_told k.parent argument)
 
 -- what is known of the text that a variable stands for
 abbrev pub meaning_told : Knowledge → List Change → Meaning
@@ -104,6 +121,8 @@ meaning_told k cs Variables.Number argument = Some (number k.sight.own.name)
 meaning_told k cs Variables.Devpath argument = Some k.sight.path
 meaning_told k cs Variables.Env argument = known_text (value_in cs argument)
 meaning_told k cs Variables.Attr argument = attribute_told k argument
+meaning_told k cs Variables.Id argument = parent_name_told k.parent
+meaning_told k cs Variables.Driver argument = parent_driver_told k.parent
 meaning_told k cs Variables.Root argument = Some (codes "/dev")
 meaning_told k cs Variables.Sys argument = Some (codes "/sys")
 meaning_told k cs variable argument = None

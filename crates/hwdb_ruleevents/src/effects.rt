@@ -7,10 +7,12 @@ ghost use Rattle.hwdb_rulerun.specs.Matching;
 ghost use Rattle.hwdb_rulefiles.specs.PairViews.{value_view};
 ghost use Rattle.hwdb_rulerun.specs.Views.{known_of};
 ghost use Rattle.hwdb_ruleevents.specs.ChangeViews.{value_of};
+ghost use Rattle.hwdb_ruleevents.specs.ParentViews.{chosen_of};
 ghost use Rattle.hwdb_ruleevents.specs.Effects;
 ghost use Rattle.hwdb_ruleevents.specs.EffectViews.{effect_view, command_of, knowledge_of};
 
 use crate::changes::{Change, Held, Value, all_held, value_for};
+use crate::parents::Parent;
 use hwdb_rulefiles::{Operator, TokenKind};
 use hwdb_rulerun::{Entry, Known, Sight, has_byte, is_wild};
 use std::alloc::{AllocError, Global};
@@ -31,12 +33,30 @@ pub struct Command<'a> {
 pub struct Knowledge<'a> {
     /// Of the device; its properties aren't looked at.
     pub sight: Sight<'a>,
+    /// Of the parent that a line before these chose.
+    pub parent: Parent<'a>,
     /// Of attributes of other devices, by the texts in braces that name them, as `[dmi/id]modalias`.
     pub others: &'a [Entry<'a>],
     /// Of commands that udev has built in.
     pub builtins: &'a [Command<'a>],
     /// Of programs.
     pub programs: &'a [Command<'a>],
+}
+
+impl<'a> Knowledge<'a> {
+    /// The same, after a line chose this parent.
+    pub fn with_parent(&self, parent: Parent<'a>) -> Knowledge<'a>
+        ensures { knowledge_of result
+            ≡ Effects.with_chosen (knowledge_of self.now) (chosen_of parent.entry) }
+    {
+        Knowledge {
+            sight: self.sight,
+            parent,
+            others: self.others,
+            builtins: self.builtins,
+            programs: self.programs,
+        }
+    }
 }
 
 /// Whether a token that is run succeeds, and what it changes.

@@ -7,6 +7,7 @@ ghost use Rattle.hwdb_rulefiles.specs.RuleTokens.{is_word};
 ghost use Rattle.hwdb_rulefiles.specs.LineViews.{line_of};
 ghost use Rattle.hwdb_rulefiles.specs.Views.{text_of};
 ghost use Rattle.hwdb_ruleevents.specs.Telling;
+ghost use Rattle.hwdb_ruleevents.specs.Effects.{with_chosen};
 ghost use Rattle.hwdb_ruleevents.specs.Internal;
 ghost use Rattle.hwdb_ruleevents.specs.Events.{turn};
 ghost use Rattle.hwdb_ruleevents.specs.ChangeViews.{change_of, held_of};
@@ -16,7 +17,8 @@ ghost use Rattle.hwdb_ruleevents.specs.FileViews.{lines_of, progress_of, story_o
 
 use crate::changes::{Change, Held, all_held};
 use crate::effects::Knowledge;
-use crate::telling::{Place, Told, tell_line};
+use crate::parents::Parent;
+use crate::telling::{Place, Told, known_after, tell_line};
 use hwdb_rulefiles::RuleLine;
 use std::alloc::{AllocError, Global};
 
@@ -34,6 +36,8 @@ pub struct Story<'a> {
     pub told: Vec<Told<'a>>,
     /// What is known of properties after them.
     pub changes: Vec<Held>,
+    /// What is known of the parent that they chose.
+    pub parent: Parent<'a>,
 }
 
 /// What is told of the lines so far, and where the ways are.
@@ -137,14 +141,21 @@ fn tried<'a>(
         at.sure (turn_of at) (progress_of progress.entry) (line_of line.now)) }
 {
     let Progress { story, ways } = progress;
-    let Story { mut told, changes } = story;
-    let mut tale = tell_line(alloc, knowledge, at, changes, line)?;
+    let Story {
+        mut told,
+        changes,
+        parent,
+    } = story;
+    let now = knowledge.with_parent(parent);
+    let after = known_after(alloc, at.sure, &now, &changes, line)?;
+    let mut tale = tell_line(alloc, &now, at, changes, line)?;
     told.append(&mut tale.told)?;
     let ways = jumped(tale.passed, &line.goto, ways)?;
     Ok(Progress {
         story: Story {
             told,
             changes: tale.changes,
+            parent: after.parent,
         },
         ways,
     })
@@ -192,8 +203,8 @@ fn tell_lines<'a>(
     lines: &'a [RuleLine],
 ) -> Result<Story<'a>, AllocError>
     ensures { IfOk result (λ s. story_of s ≡ Telling.story_before (story_of story.entry).told
-        (Telling.tell_lines (knowledge_of knowledge.now) file 0 (story_of story.entry).changes
-        Telling.start (map line_of lines.now))) }
+        (Telling.tell_lines (with_chosen (knowledge_of knowledge.now) (story_of story.entry).parent)
+        file 0 (story_of story.entry).changes Telling.start (map line_of lines.now))) }
 {
     let mut progress = Progress {
         story,
@@ -227,6 +238,7 @@ pub fn tell_files<'a>(
     let mut story = Story {
         told: Vec::new(alloc),
         changes: all_held(alloc, changes)?,
+        parent: knowledge.parent,
     };
     for (number, lines) in files.iter().enumerate() {
         story = tell_lines(alloc, knowledge, number, story, lines)?;

@@ -6,6 +6,7 @@
 //! | `pieces` | the pieces of a value: bytes, and variables |
 //! | `values` | attributes, as udev writes them into texts |
 //! | `texts` | the texts of values, as far as they are known |
+//! | `parents` | the parent that a line chose |
 //! | `effects` | what is known of a token that is run |
 //! | `telling` | what is told of a line |
 //! | `files` | jumps, and what is told of the lines of files |
@@ -16,6 +17,7 @@ mod changes;
 mod effects;
 mod files;
 mod laws;
+mod parents;
 mod pieces;
 mod telling;
 mod texts;
@@ -25,6 +27,8 @@ pub use changes::Change;
 pub use effects::{Command, Knowledge};
 pub use files::tell_files;
 pub use laws::{
-    events_are_covered, events_are_exact, jump_rows, property_rows, text_rows, written_rows,
+    events_are_covered, events_are_exact, jump_rows, parent_rows, property_rows, text_rows,
+    written_rows,
 };
+pub use parents::Parent;
 pub use telling::Told;

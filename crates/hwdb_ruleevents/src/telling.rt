@@ -8,15 +8,20 @@ ghost use Rattle.hwdb_rulerun.specs.Views.{entry_view, known_of, sight_of};
 ghost use Rattle.hwdb_ruleevents.specs.Telling;
 ghost use Rattle.hwdb_ruleevents.specs.Effects;
 ghost use Rattle.hwdb_ruleevents.specs.Texts;
+ghost use Rattle.hwdb_ruleevents.specs.Parents;
+ghost use Rattle.hwdb_ruleevents.specs.ParentViews.{chosen_of};
 ghost use Rattle.hwdb_ruleevents.specs.ChangeViews.{held_of};
 ghost use Rattle.hwdb_ruleevents.specs.EffectViews.{effect_view, knowledge_of};
 ghost use Rattle.hwdb_ruleevents.specs.TellViews.{turn_of, told_of, tale_of};
 
 use crate::changes::{Held, put_all, value_in};
 use crate::effects::{Effect, Knowledge, assigned_told, effect_of, is_env};
+use crate::parents::{Parent, by_reached, first_tokens, parent_told};
 use crate::texts::text_told;
 use hwdb_rulefiles::{Operator, RuleLine, Token, TokenKind};
-use hwdb_rulerun::{Entry, Sight, and_then, by_operator_told, is_lookup, line_told, runs};
+use hwdb_rulerun::{
+    Entry, Sight, and_then, by_operator_told, has_parents, is_lookup, line_told, runs,
+};
 use std::alloc::{AllocError, Global};
 
 /// A lookup that is told.
@@ -118,17 +123,18 @@ fn entries<'a>(
     Ok(all)
 }
 
-/// The conditions of a line, as far as they are known.
+/// Some conditions of a line, as far as they are known, by the properties that its tokens name.
 fn holds(
     alloc: Global,
     sight: &Sight<'_>,
     changes: &[Held],
     tokens: &[Token],
+    conditions: &[Token],
 ) -> Result<Option<bool>, AllocError>
     ensures { IfOk result (λ told. told ≡ RunTelling.line_told
         (Telling.sight_at (sight_of sight.now) (map held_of changes.now)
         (map token_of tokens.now))
-        (map token_of tokens.now)) }
+        (map token_of conditions.now)) }
 {
     let entries = entries(alloc, changes, tokens)?;
     let seen = Sight {
@@ -139,7 +145,64 @@ fn holds(
         properties: &entries,
         closed: false,
     };
-    line_told(alloc, &seen, tokens)
+    line_told(alloc, &seen, conditions)
+}
+
+/// What is known when the tokens of a line are run.
+fn known_in<'a>(
+    alloc: Global,
+    knowledge: &Knowledge<'a>,
+    changes: &[Held],
+    line: &RuleLine,
+) -> Result<Knowledge<'a>, AllocError>
+    ensures { IfOk result (λ k. knowledge_of k ≡ Telling.known_in (knowledge_of knowledge.now)
+        (map held_of changes.now) (line_of line.now)) }
+{
+    let parent = parent_told(alloc, &knowledge.sight, &line.tokens, knowledge.parent)?;
+    Ok(knowledge.with_parent(parent))
+}
+
+/// The parent after a line that is tried, or may be tried.
+fn parent_after<'a>(
+    alloc: Global,
+    sure: bool,
+    knowledge: &Knowledge<'a>,
+    changes: &[Held],
+    tokens: &[Token],
+) -> Result<Parent<'a>, AllocError>
+    ensures { IfOk result (λ p. chosen_of p ≡ Parents.parent_after_told sure
+        (Telling.sight_at (knowledge_of knowledge.now).sight (map held_of changes.now)
+        (map token_of tokens.now))
+        (map token_of tokens.now) (knowledge_of knowledge.now).parent) }
+{
+    if !has_parents(tokens) {
+        return Ok(knowledge.parent);
+    }
+    let reached = holds(
+        alloc,
+        &knowledge.sight,
+        changes,
+        tokens,
+        first_tokens(tokens),
+    )?;
+    let new = parent_told(alloc, &knowledge.sight, tokens, knowledge.parent)?;
+    Ok(by_reached(sure, reached, new, knowledge.parent))
+}
+
+/// What is known after a line that is tried, or may be tried.
+pub fn known_after<'a>(
+    alloc: Global,
+    sure: bool,
+    knowledge: &Knowledge<'a>,
+    changes: &[Held],
+    line: &RuleLine,
+) -> Result<Knowledge<'a>, AllocError>
+    ensures { IfOk result (λ k. knowledge_of k
+        ≡ Telling.known_after sure (knowledge_of knowledge.now) (map held_of changes.now)
+        (line_of line.now)) }
+{
+    let parent = parent_after(alloc, sure, knowledge, changes, &line.tokens)?;
+    Ok(knowledge.with_parent(parent))
 }
 
 /// The effect of ENV, by the text of its value.
@@ -320,6 +383,13 @@ pub fn tell_line<'a>(
     ensures { IfOk result (λ tale. tale_of tale ≡ Telling.tell_line (knowledge_of knowledge.now)
         at.sure (turn_of at) (map held_of changes.items) (line_of line.now)) }
 {
-    let holds = holds(alloc, &knowledge.sight, &changes, &line.tokens)?;
-    tell_by(alloc, knowledge, at, (holds, changes), &line.tokens)
+    let holds = holds(
+        alloc,
+        &knowledge.sight,
+        &changes,
+        &line.tokens,
+        &line.tokens,
+    )?;
+    let here = known_in(alloc, knowledge, &changes, line)?;
+    tell_by(alloc, &here, at, (holds, changes), &line.tokens)
 }

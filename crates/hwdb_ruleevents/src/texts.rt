@@ -3,7 +3,9 @@ ghost use Rattle.std.specs.Prelude.{◌≡◌, ◌++◌, map, take, nat_lt, leng
 ghost use Rattle.hwdb_rulefiles.specs.Escapes.{onto};
 ghost use Rattle.hwdb_rulefiles.specs.PairViews.{value_view};
 ghost use Rattle.hwdb_rulefiles.specs.TokenViews.{token_of};
+ghost use Rattle.hwdb_rulerun.specs.Sights.{attribute_of as attribute_in};
 ghost use Rattle.hwdb_rulerun.specs.Views.{known_of};
+ghost use Rattle.hwdb_ruleevents.specs.ParentViews.{chosen_of};
 ghost use Rattle.hwdb_spec_commands.specs.Sysfs;
 ghost use Rattle.hwdb_ruleevents.specs.Texts;
 ghost use Rattle.hwdb_ruleevents.specs.ChangeViews.{held_of};
@@ -13,6 +15,7 @@ ghost use Rattle.hwdb_ruleevents.specs.Internal.{if_known};
 
 use crate::changes::{Held, value_in};
 use crate::effects::{Knowledge, is_digit, is_env};
+use crate::parents::Parent;
 use crate::pieces::{Piece, Variable, pieces_of};
 use crate::values::{first, push_written};
 use hwdb_rulefiles::{Token, TokenKind};
@@ -56,13 +59,61 @@ fn other_told(alloc: Global, known: Known<'_>) -> Result<Option<Vec<u8>>, AllocE
     }
 }
 
-/// An attribute of the device.
-fn own_told(alloc: Global, known: Known<'_>) -> Result<Option<Vec<u8>>, AllocError>
-    ensures { IfOk result (λ t. value_view t ≡ Texts.own_told (known_of known.entry)) }
+/// An attribute of the parent that a line chose.
+fn parent_attribute_told(
+    alloc: Global,
+    parent: &Parent<'_>,
+    name: &[u8],
+) -> Result<Option<Vec<u8>>, AllocError>
+    ensures { IfOk result (λ t. value_view t
+        ≡ Texts.parent_attribute_told (chosen_of parent.now) name.now) }
 {
-    match known {
+    match parent {
+        Parent::Anyone => Ok(None),
+        Parent::Nobody => own(alloc, b""),
+        Parent::One(seen) => match attribute_of(seen, name) {
+            Known::Unknown => Ok(None),
+            Known::Missing => own(alloc, b""),
+            Known::Text(text) => attribute_text(alloc, text),
+        },
+    }
+}
+
+/// The name of the parent.
+fn parent_name_told(alloc: Global, parent: &Parent<'_>) -> Result<Option<Vec<u8>>, AllocError>
+    ensures { IfOk result (λ t. value_view t ≡ Texts.parent_name_told (chosen_of parent.now)) }
+{
+    match parent {
+        Parent::Anyone => Ok(None),
+        Parent::Nobody => own(alloc, b""),
+        Parent::One(seen) => own(alloc, seen.name),
+    }
+}
+
+/// The driver of the parent.
+fn parent_driver_told(alloc: Global, parent: &Parent<'_>) -> Result<Option<Vec<u8>>, AllocError>
+    ensures { IfOk result (λ t. value_view t ≡ Texts.parent_driver_told (chosen_of parent.now)) }
+{
+    match parent {
+        Parent::Anyone => Ok(None),
+        Parent::Nobody => own(alloc, b""),
+        Parent::One(seen) => known_text(alloc, seen.driver),
+    }
+}
+
+/// An attribute of the device, or else of the parent.
+fn own_told(
+    alloc: Global,
+    knowledge: &Knowledge<'_>,
+    name: &[u8],
+) -> Result<Option<Vec<u8>>, AllocError>
+    ensures { IfOk result (λ t. value_view t
+        ≡ Texts.own_told (attribute_in (knowledge_of knowledge.now).sight.own name.now)
+        (Texts.parent_attribute_told (knowledge_of knowledge.now).parent name.now)) }
+{
+    match attribute_of(&knowledge.sight.own, name) {
         Known::Unknown => Ok(None),
-        Known::Missing => Ok(None),
+        Known::Missing => parent_attribute_told(alloc, &knowledge.parent, name),
         Known::Text(text) => attribute_text(alloc, text),
     }
 }
@@ -78,7 +129,7 @@ fn attribute_told(
     if begins_with(b'[', argument) {
         return other_told(alloc, entry_of(argument, Known::Unknown, knowledge.others));
     }
-    own_told(alloc, attribute_of(&knowledge.sight.own, argument))
+    own_told(alloc, knowledge, argument)
 }
 
 /// A property's text.
@@ -144,6 +195,8 @@ fn meaning_told(
         Variable::Devpath => own(alloc, knowledge.sight.path),
         Variable::Env => known_text(alloc, value_in(changes, argument)),
         Variable::Attr => attribute_told(alloc, knowledge, argument),
+        Variable::Id => parent_name_told(alloc, &knowledge.parent),
+        Variable::Driver => parent_driver_told(alloc, &knowledge.parent),
         Variable::Root => own(alloc, b"/dev"),
         Variable::Sys => own(alloc, b"/sys"),
         _ => Ok(None),

@@ -1,5 +1,6 @@
 use Rattle.std.proofs.Common.{◌≡◌, map, drop}
 use Rattle.hwdb_rulefiles.specs.LineViews.{line_of}
+use Rattle.hwdb_ruleevents.specs.Effects.{with_chosen}
 use Rattle.hwdb_ruleevents.specs.EffectViews.{knowledge_of}
 use Rattle.hwdb_ruleevents.specs.FileViews.{progress_of, story_of}
 use Rattle.hwdb_ruleevents.specs.Internal.{lines_from}
@@ -9,4 +10,4 @@ use Rattle.hwdb_ruleevents.proofs.files.tell_lines.Given as goal
 abbrev pub invariant-loop-number : goal.invariant-loop-number
 invariant-loop-number l =
     lines_from (knowledge_of l.knowledge) l.file l.number (progress_of l.progress) (map line_of (drop l.number l.lines))
-    ≡ story_before (story_of l.fn.story).told (tell_lines (knowledge_of l.knowledge) l.file 0 (story_of l.fn.story).changes start (map line_of l.lines))
+    ≡ story_before (story_of l.fn.story).told (tell_lines (with_chosen (knowledge_of l.knowledge) (story_of l.fn.story).parent) l.file 0 (story_of l.fn.story).changes start (map line_of l.lines))
