@@ -1,8 +1,9 @@
 -- Tokens and lines, one after the other.
 use Rattle.std.proofs.Common.{Bor, map, ◌≡◌, ◌∙◌, ℕ, ◌+◌, Bool, true, false, List, [], ◌∷◌, ◌++◌, ◌<◌, zero, suc, arith, cond, drop, drop-cons, get_or, length, refl, sym, ap, append_assoc, append-nil, Option, Some, None}
-use Rattle.std.specs.Prelude.{if◌then◌else◌}
+use Rattle.std.specs.Prelude.{filter, if◌then◌else◌, not}
+use Rattle.std.specs.List.{list_any}
 use Rattle.hwdb_spec.specs.Lines.{is_none}
-use Rattle.hwdb_rulefiles.specs.RuleTokens.{Token}
+use Rattle.hwdb_rulefiles.specs.RuleTokens.{Token, is_word}
 use Rattle.hwdb_rulefiles.specs.RuleLines.{RuleLine}
 use Rattle.hwdb_rulefiles.specs.Views.{text_of}
 use Rattle.hwdb_rulerun.specs.Telling.{and_then}
@@ -17,6 +18,9 @@ use Rattle.hwdb_ruleevents.specs.Internal.{Progress, rest_of, lines_from, step, 
 
 abbrev tale_with : List Told → Option Bool → List Change → Tale
 tale_with told passed cs = record { told = told; passed = passed; changes = cs }
+
+abbrev ways_with : Bool → List (List ℕ) → Ways
+ways_with here waiting = record { here = here; waiting = waiting }
 
 abbrev story_with : List Told → List Change → Chosen → Story
 story_with told cs parent = record { told = told; changes = cs; parent = parent }
@@ -139,6 +143,24 @@ file_on k n story next lines more e =
     let ran : Story = Telling.tell_lines (with_chosen k story.parent) n 0 story.changes Telling.start lines in
     ap (λ (x : Story). x.told ++ Telling.tell_files (with_chosen k x.parent) (n + 1) x.changes more) e
     ∙ append_assoc story.told ran.told (Telling.tell_files (with_chosen k ran.parent) (n + 1) ran.changes more)
+
+nobody_is : (names : List (List ℕ)) → list_any (is_word None) names ≡ false
+nobody_is [] = refl
+nobody_is (name ∷ more) = nobody_is more
+
+all_wait : (names : List (List ℕ)) → filter (λ name. not (is_word None name)) names ≡ names
+all_wait [] = refl
+all_wait (name ∷ more) = ap (λ (l : List (List ℕ)). name ∷ l) (all_wait more)
+
+-- no way arrives at a line without a label
+pub nobody_arrives : (w : Ways) → w ≡ Telling.arrived None w
+nobody_arrives w =
+    sym (ap (λ (l : List (List ℕ)). ways_with (Telling.arrived None w).here l) (all_wait w.waiting)
+    ∙ ap (λ (b : Bool). ways_with b w.waiting) (ap (λ (b : Bool). if w.here then true else b) (nobody_is w.waiting) ∙ here w.here))
+  where
+    here : (b : Bool) → (if b then true else false) ≡ b
+    here true = refl
+    here false = refl
 
 -- whether no way waits
 pub nobody_waits : (names : List (Bor (List ℕ))) → is_none (map text_of names) ≡ is_none names

@@ -1,4 +1,5 @@
--- Worked rows: which lookups are told of the lines of rules, by hand from udev-rules.c (systemd 257).
+-- Worked rows: which lookups are told of the lines of rules, by hand from udev-rules.c (systemd 257). Texts are what `udevadm test` of systemd
+-- 252 runs, but for long commands, of which it runs some more.
 use Rattle.std.specs.Prelude.{List, [], ◌∷◌, ◌++◌, Bool, true, false, ℕ, codes, map, replicate, ◌≡◌, Option, Some, None}
 use Prim.Native.String.{String}
 use Rattle.hwdb_rulefiles.specs.RuleLines.{RuleLine}

@@ -56,7 +56,7 @@ fn is_label(label: &Option<Vec<u8>>, name: &[u8]) -> bool
     }
 }
 
-/// Whether a way waits for a line. All are looked at: the time grows with the lines times the jumps that are open.
+/// Whether a way waits for a line. All are looked at: the time grows with the labels times the jumps that are open.
 fn waits(label: &Option<Vec<u8>>, waiting: &[&[u8]]) -> bool
     ensures { result ≡ list_any (is_word (value_view label.now)) (map text_of waiting.now) }
 {
@@ -86,8 +86,8 @@ fn others<'a>(
     Ok(all)
 }
 
-/// Those that waited for a line are here.
-fn arrived<'a>(
+/// Those that waited for a line with a name are here.
+fn arrived_at<'a>(
     alloc: Global,
     label: &Option<Vec<u8>>,
     ways: Ways<'a>,
@@ -98,6 +98,22 @@ fn arrived<'a>(
     let here = ways.here || waits(label, &ways.waiting);
     let waiting = others(alloc, label, &ways.waiting)?;
     Ok(Ways { here, waiting })
+}
+
+/// Those that waited for a line are here. Most lines have no name.
+#[tactic(auto, using(crate::proofs::TellLemmas::nobody_arrives))]
+fn arrived<'a>(
+    alloc: Global,
+    label: &Option<Vec<u8>>,
+    ways: Ways<'a>,
+) -> Result<Ways<'a>, AllocError>
+    ensures { IfOk result (λ w. ways_of w
+        ≡ Telling.arrived (value_view label.now) (ways_of ways.entry)) }
+{
+    match label {
+        None => Ok(ways),
+        Some(_) => arrived_at(alloc, label, ways),
+    }
 }
 
 /// A way waits for a line with this name.
