@@ -17,3 +17,4 @@ pub mod ComputedWordRows
 pub mod ComputedDeviceRows
 pub mod ComputedTaskRows
 pub mod ComputedPlanRows
+pub mod PlannedLemmas

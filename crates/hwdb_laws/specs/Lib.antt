@@ -16,3 +16,4 @@ pub mod WordRows
 pub mod DeviceRows
 pub mod TaskRows
 pub mod PlanRows
+pub mod PlannedRuns

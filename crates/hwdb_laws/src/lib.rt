@@ -1,4 +1,5 @@
-//! Laws over definitions alone: rows of what they give when they are computed, with expected values from outside.
+//! Laws over definitions alone: rows of what they give when they are computed, with expected values from outside. And what follows from the
+//! laws of all plans for the words of a run.
 //!
 //! A definition that computes can be turned together with its function, and no contract notices. A row does: its value is a standard's, or
 //! of udev's own log, of a manual page, or worked out by hand. Nothing names this crate, so that no other one waits for it.
@@ -23,11 +24,13 @@
 //! | `TaskRows` | what tasks read, and what `explain --text` says besides |
 //! | `PlanRows` | which plans words ask for |
 //!
-//! `rows` shows them.
+//! `rows` shows them. `planned` shows `PlannedRuns`: two runs with the same words are one, if the words have a plan.
 #![tactic(auto)]
 
+mod planned;
 mod rows;
 
+pub use planned::planned_runs_are_one;
 pub use rows::{
     answer_rows, change_rows, check_rows, colour_rows, compare_rows, device_rows, error_rows,
     explain_rows, form_rows, likely_rows, near_rows, over_text_rows, place_rows, plan_rows,

@@ -1,0 +1,329 @@
+-- Two runs with the same words are one.
+use Rattle.std.proofs.Common.{◌≡◌, ◌≢◌, ◌∙◌, ◌++◌, ◌⊎◌, ◌∷◌, ⊎_elim, inl, inr, ap, refl, subst, sym, length, Bool, IfSome, List, Option, None, Result, Some, Ok, Err, ℕ, [], true, false}
+use Rattle.std.specs.Option.{option_map_or}
+use Rattle.std.specs.Prelude.{codes, find, if◌then◌else◌, nat_le, option_map}
+use Rattle.std.specs.Str.{bytes_eq}
+use Rattle.clap.specs.Simple.{matches_of, subcommand_of}
+use Rattle.clap.specs.Walk.{Row, Text, first_of}
+use Rattle.hwdb_spec.specs.Folders.{Source, max_files, names}
+use Rattle.hwdb_spec_commands.specs.CheckedFiles.{files_in, folder_of}
+use Rattle.hwdb_spec_commands.specs.CommandLine.{hwdb_app}
+use Rattle.hwdb_spec_commands.specs.DeviceAsked.{device_form, device_list, missing_text, no_sysfs_text, unread_text}
+use Rattle.hwdb_spec_commands.specs.DeviceTree.{Sight, device_at, device_for, last_after, unread_for}
+use Rattle.hwdb_spec_commands.specs.declared.devices.DeviceForm.{DeviceForm}
+use Rattle.hwdb_spec_commands.specs.Given.{any_dash, is_dash}
+use Rattle.hwdb_spec_commands.specs.Jobs.{has_flag}
+use Rattle.hwdb_spec_commands.specs.Near.{PatternAt}
+use Rattle.hwdb_spec_commands.specs.NearAsked.{near_form, near_limit, patterns_from}
+use Rattle.hwdb_spec_commands.specs.Runs.{Told, World}
+use Rattle.hwdb_spec_commands.specs.Told.{Reads, Stop, Unlisted, unread_stop}
+use Rattle.hwdb_spec_commands.specs.Told.Stop.{Plain, Says}
+use Rattle.hwdb_spec.specs.declared.errors.ToolError.TheVariants.{TooManyFiles}
+use Rattle.hwdb_spec_commands.specs.declared.unread.Unread.{Unread}
+use Rattle.hwdb_plan.specs.Ask.{lone_answer}
+use Rattle.hwdb_plan.specs.Asking.{asked, if_read, named}
+use Rattle.hwdb_plan.specs.Check.{check_plan, said_of}
+use Rattle.hwdb_plan.specs.Device.{device_answer, device_plan, folder_of as folder_place, place_of, says, sysfs_of}
+use Rattle.hwdb_spec_program.specs.DeviceErrors.{asked_names}
+use Rattle.hwdb_plan.specs.Dump.{text_form}
+use Rattle.hwdb_plan.specs.Ended.{Leaves, Outs, Shows, ShowsEnd}
+use Rattle.hwdb_plan.specs.Files.{given_files, if_input, read_files}
+use Rattle.hwdb_plan.specs.Folders.{if_listed}
+use Rattle.hwdb_plan.specs.Given.{given_at, given_or_asked}
+use Rattle.hwdb_plan.specs.GivenFolders.{files_at, files_for, if_few, if_folder, named_files}
+use Rattle.hwdb_plan.specs.Input.{IsInputTold}
+use Rattle.hwdb_plan.specs.Laws.{DoneIsOne}
+use Rattle.hwdb_plan.specs.Lemmas.Ends.{leaves_one, nothing_changed}
+use Rattle.hwdb_plan.specs.Near.{near_plan}
+use Rattle.hwdb_plan.specs.Plans.{End, Ends, Next, Plan}
+use Rattle.hwdb_plan.specs.Plans.End.{Answers, Lines, Replaces, Stops, Streams}
+use Rattle.hwdb_plan.specs.Plans.Plan.{Done, Input}
+use Rattle.hwdb_spec_program.specs.ProgramPlan.{Around, ShowsPlan, before_last, files_plan, found_plan, has_text, limit_of, plans, program_plan, root_given, strict_given, value_of, values_of}
+use Rattle.hwdb_laws.specs.PlannedRuns.{HavePlan, PlannedRunsAreOne, Tells}
+use Rattle.hwdb_plan.specs.Test.{tested}
+use Rattle.hwdb_plan.specs.Verify.{summary}
+
+-- an end that is no error
+abbrev IsDone : End → Type 0
+IsDone e = (s : Stop) → e ≢ Stops s
+
+-- an input that wasn't read
+abbrev IsErr : Result (List ℕ) Unread → Type 0
+IsErr (Ok bytes) = ⊥
+IsErr (Err why) = Unit {0}
+
+-- what another run is told is the same, or this one did without it
+abbrev Serves : (one other : Result (List ℕ) Unread) → Type 0
+Serves one other = (one ≡ other) ⊎ IsErr one
+
+one_some : {X : Type 0} (x y : X) → Some x ≡ Some y → x ≡ y
+one_some x y is = cc
+
+module _ (w : Reads) (e : End) (is_done : IsDone e) where
+  abbrev Moves : (p q : Plan) → Type 0
+  Moves p q = Ends w p e → Ends w q e
+
+  no_stop : {X : Type 0} (s : Stop) → Ends w (Done (Stops s)) e → X
+  unfolding Ends
+  no_stop s ends = absurd (is_done s ends)
+
+  -- ---- standard input
+  given_moves : (one other : Result (List ℕ) Unread) (path : List ℕ) (next : Next) → Serves one other → Moves (given_at one path next) (given_at other path next)
+  given_moves one other path next serves = by (is_dash path) one serves
+    where
+      by : (b : Bool) (told : Result (List ℕ) Unread) → Serves told other → Moves (if b then if_read (codes "standard input") next told else Input path (if_read path next))
+          (if b then if_read (codes "standard input") next other else Input path (if_read path next))
+      by false told serves ends = ends
+      by true told (inl same) ends = subst (λ t. Ends w (if_read (codes "standard input") next t) e) same ends
+      by true (Ok bytes) (inr err) ends = absurd err
+      by true (Err why) (inr err) ends = no_stop (unread_stop (codes "standard input") why) ends
+
+  named_moves : (one other : Result (List ℕ) Unread) (given : Option (List ℕ)) (root : List ℕ) (next : Next) → Serves one other → Moves (given_or_asked one given root next) (given_or_asked other given root next)
+  named_moves one other None root next serves ends = ends
+  named_moves one other (Some path) root next serves ends = given_moves one other path next serves ends
+
+  files_move : (words paths : List (List ℕ)) (one other : Result (List ℕ) Unread) (next : List Source → Plan) → Serves one other → Moves (given_files words one paths next) (given_files words other paths next)
+  files_move words paths one other next serves = by (any_dash paths) one serves
+    where
+      rest : (text : List ℕ) → Plan
+      rest text = read_files words text paths [] next
+
+      by : (b : Bool) (told : Result (List ℕ) Unread) → Serves told other → Moves (if_input b told rest) (if_input b other rest)
+      by false told serves ends = ends
+      by true told (inl same) ends = subst (λ t. Ends w (if_read (codes "standard input") (λ at text. rest text) t) e) same ends
+      by true (Ok bytes) (inr err) ends = absurd err
+      by true (Err why) (inr err) ends = no_stop (unread_stop (codes "standard input") why) ends
+
+  -- ---- what given paths mean, and then what follows that
+  module _ (one two : List (List ℕ) → Plan) (step : (paths : List (List ℕ)) → Moves (one paths) (two paths)) where
+    few_moves : (path : List ℕ) (found : List (List ℕ)) → Moves (if_few path found one) (if_few path found two)
+    few_moves path found = by (nat_le (length (names found [])) max_files)
+      where
+        by : (b : Bool) → Moves (if b then one (files_in path found) else Done (Stops (Plain TooManyFiles))) (if b then two (files_in path found) else Done (Stops (Plain TooManyFiles)))
+        by true ends = step (files_in path found) ends
+        by false ends = ends
+
+    listed_moves : (path : List ℕ) (told : Result (Option (List (List ℕ))) Unlisted)
+        → Moves (if_listed (folder_of path) (λ found. if_folder path found one) told) (if_listed (folder_of path) (λ found. if_folder path found two) told)
+    listed_moves path (Ok None) ends = step (path ∷ []) ends
+    listed_moves path (Ok (Some found)) ends = few_moves path found ends
+    listed_moves path (Err why) ends = ends
+
+    path_moves : (path : List ℕ) → Moves (files_for path one) (files_for path two)
+    unfolding Ends
+    path_moves path = by (is_dash path)
+      where
+        by : (b : Bool) → Moves (if b then one (path ∷ []) else files_at path one) (if b then two (path ∷ []) else files_at path two)
+        by true ends = step (path ∷ []) ends
+        by false ends = listed_moves path (w.folder (folder_of path)) ends
+
+  paths_move : (given paths : List (List ℕ)) (one two : List (List ℕ) → Plan) → ((paths : List (List ℕ)) → Moves (one paths) (two paths)) → Moves (named_files given paths one) (named_files given paths two)
+  unfolding named_files
+  paths_move [] paths one two step = step paths
+  paths_move (path ∷ more) paths one two step =
+      path_moves (λ own. named_files more (paths ++ own) one) (λ own. named_files more (paths ++ own) two) (λ own. paths_move more (paths ++ own) one two step) path
+
+  -- ---- sysfs: the words of a cause are in errors alone
+  module _ (sight : Sight) (cause other : List ℕ) where
+    folder_moves : (path : List ℕ) (one two : List ℕ → Plan) → ((place : List ℕ) → Moves (one place) (two place)) → Moves (folder_place sight cause path one) (folder_place sight other path two)
+    folder_moves path one two step = by (sight.place path)
+      where
+        by : (o : Option (List ℕ)) → Moves (option_map_or one o (says (no_sysfs_text path cause))) (option_map_or two o (says (no_sysfs_text path other)))
+        by None ends = no_stop (Says (no_sysfs_text path cause)) ends
+        by (Some place) ends = step place ends
+
+    sysfs_moves : (root : List ℕ) (one two : List ℕ → Plan) → ((sys : List ℕ) → Moves (one sys) (two sys)) → Moves (sysfs_of sight cause root one) (sysfs_of sight other root two)
+    sysfs_moves root one two step =
+        folder_moves (root ++ codes "/sys") (λ sys. folder_place sight cause (sys ++ codes "/devices") (λ devices. one sys)) (λ sys. folder_place sight other (sys ++ codes "/devices") (λ devices. two sys))
+        (λ sys. folder_moves (sys ++ codes "/devices") (λ devices. one sys) (λ devices. two sys) (λ devices. step sys))
+
+    place_moves : (root given sys : List ℕ) (next : List ℕ → Plan) → Moves (place_of sight cause root given sys next) (place_of sight other root given sys next)
+    place_moves root given sys next = by (device_for sight root sys given) (unread_for sight root sys given)
+      where
+        by : (o u : Option (List ℕ)) → Moves (option_map_or next o (option_map_or (λ path. says (unread_text path cause)) u (says (missing_text sight root sys given cause))))
+            (option_map_or next o (option_map_or (λ path. says (unread_text path other)) u (says (missing_text sight root sys given other))))
+        by None None ends = no_stop (Says (missing_text sight root sys given cause)) ends
+        by None (Some path) ends = no_stop (Says (unread_text path cause)) ends
+        by (Some place) u ends = ends
+
+    device_moves : (root : List ℕ) (form : DeviceForm) (given : Option (List ℕ)) → Moves (device_plan sight cause asked_names root form given) (device_plan sight other asked_names root form given)
+    device_moves root form None = let all = λ (sys : List ℕ). Done (Answers 0 [] (device_list sight asked_names sys)) in sysfs_moves root all all (λ sys ends. ends)
+    device_moves root form (Some given) =
+        let meant = λ (sys place : List ℕ). asked root (device_answer form (device_at sight asked_names sys place)) in
+        sysfs_moves root (λ sys. place_of sight cause root given sys (meant sys)) (λ sys. place_of sight other root given sys (meant sys)) (λ sys. place_moves root given sys (meant sys))
+
+  -- ---- each command's row
+  abbrev RowsMove : (rows others : List (Text × Plan)) → Type 0
+  RowsMove [] [] = Unit {0}
+  RowsMove (row ∷ rows) (other ∷ others) = (row.0 ≡ other.0) × Moves row.1 other.1 × RowsMove rows others
+  RowsMove rows others = ⊥
+
+  abbrev Finds : (word : Text) (rows : List (Text × Plan)) (p : Plan) → Type 0
+  Finds word rows p = option_map (λ row. row.1) (find (λ row. bytes_eq row.0 word) rows) ≡ Some p
+
+  row_moves : (word : Text) (rows others : List (Text × Plan)) (p q : Plan) → RowsMove rows others → Finds word rows p → Finds word others q → Moves p q
+  row_moves word [] [] p q move is is2 = absurd cc
+  row_moves word (row ∷ rows) [] p q move is is2 = absurd move
+  row_moves word [] (other ∷ others) p q move is is2 = absurd move
+  row_moves word (row ∷ rows) (other ∷ others) p q (same, move, more) is is2 =
+      by (row_moves word rows others p q more) (bytes_eq row.0 word) is
+      (subst (λ (n : Text). option_map (λ (r : Text × Plan). r.1) (if bytes_eq n word then Some other else find (λ (r : Text × Plan). bytes_eq r.0 word) others) ≡ Some q) (sym same) is2)
+    where
+      by : (Finds word rows p → Finds word others q → Moves p q) → (b : Bool) → option_map (λ (r : Text × Plan). r.1) (if b then Some row else find (λ (r : Text × Plan). bytes_eq r.0 word) rows) ≡ Some p
+          → option_map (λ (r : Text × Plan). r.1) (if b then Some other else find (λ (r : Text × Plan). bytes_eq r.0 word) others) ≡ Some q → Moves p q
+      by rest true is is2 ends = subst (λ (x : Plan). Ends w x e) (one_some other.1 q is2) (move (subst (λ (x : Plan). Ends w x e) (sym (one_some row.1 p is)) ends))
+      by rest false is is2 ends = rest is is2 ends
+
+  module _ (sight : Sight) (cause cause2 : List ℕ) (one other : Result (List ℕ) Unread) (serves : Serves one other) where
+    abbrev first : Around
+    first = record { input = one; sight = sight; cause = cause }
+
+    abbrev second : Around
+    second = record { input = other; sight = sight; cause = cause2 }
+
+    near_moves : (root : List ℕ) (given : List (List ℕ)) (form : List PatternAt → List ℕ) → Moves (near_plan one given root form) (near_plan other given root form)
+    near_moves root [] form ends = ends
+    near_moves root (path ∷ more) form ends = files_move (path ∷ more) (path ∷ more) one other (λ sources. Done (Answers 0 [] (form (patterns_from 1 sources)))) serves ends
+
+    check_moves : (given : List (List ℕ)) (root : List ℕ) (say : List Source → End) → Moves (check_plan one given root say) (check_plan other given root say)
+    check_moves [] root say ends = ends
+    check_moves (path ∷ more) root say ends =
+        paths_move (path ∷ more) [] (λ paths. given_files (path ∷ more) one paths (λ sources. Done (say sources))) (λ paths. given_files (path ∷ more) other paths (λ sources. Done (say sources)))
+        (λ paths. files_move (path ∷ more) paths one other (λ sources. Done (say sources)) serves) ends
+
+    rows_move : (root : List ℕ) (strict : Bool) (rows : List Row) → RowsMove (plans first root strict rows) (plans second root strict rows)
+    rows_move root strict rows =
+        let json = has_flag (codes "json") rows in
+        let words = values_of (codes "MODALIAS") rows in
+        let file = value_of (codes "FILE") rows in
+        let files = values_of (codes "FILE") rows in
+        let database = first_of (codes "DATABASE") rows in ((
+          refl,
+          λ ends. ends,
+          (
+            refl,
+            λ ends. ends,
+            (
+              refl,
+              given_moves one other file (lone_answer file (value_of (codes "MODALIAS") rows)) serves,
+              (
+                refl,
+                λ ends. ends,
+                (
+                  refl,
+                  near_moves root (before_last words) (near_form json (last_after [] words) (near_limit (limit_of rows))),
+                  (
+                    refl,
+                    device_moves sight cause cause2 root (device_form (has_flag (codes "strings") rows) json (has_flag (codes "pattern") rows)) (first_of (codes "DEVICE") rows),
+                    (
+                      refl,
+                      check_moves files root (said_of json strict (values_of (codes "allow") rows)),
+                      (
+                        refl,
+                        files_move files files one other (λ sources. named (first_of (codes "database") rows) root (tested json sources)) serves,
+                        (
+                          refl,
+                          named_moves one other database root summary serves,
+                          (refl, named_moves one other database root text_form serves, tt),
+                        ),
+                      ),
+                    ),
+                  ),
+                ),
+              ),
+            ),
+          ),
+        )
+        )
+
+    found_moves : (top : List Row) (found : Option (Text × List Row)) (p q : Plan) → found_plan first top found ≡ Some p → found_plan second top found ≡ Some q → Moves p q
+    found_moves top None p q is is2 = absurd cc
+    found_moves top (Some f) p q is is2 =
+        row_moves f.0 (plans first (root_given top f.1) (strict_given top f.1) f.1) (plans second (root_given top f.1) (strict_given top f.1) f.1) p q (rows_move (root_given top f.1) (strict_given top f.1) f.1) is is2
+
+    plan_moves : (words : List Text) (p q : Plan) → program_plan first words ≡ Some p → program_plan second words ≡ Some q → Moves p q
+    plan_moves words p q = by (has_text (subcommand_of hwdb_app words))
+      where
+        by : (b : Bool) → (if b then None else files_plan first words) ≡ Some p → (if b then None else files_plan second words) ≡ Some q → Moves p q
+        by true is is2 = absurd cc
+        by false is is2 = found_moves (matches_of hwdb_app words) (subcommand_of hwdb_app words) p q is is2
+
+-- ---- two runs
+-- of two that are told what standard input had, one serves the other
+one_serves : (input : Told) (n m k : ℕ) (told told2 : Result (List ℕ) Unread) → Tells input → IsInputTold input.bytes n m told → IsInputTold input.bytes n k told2 → Serves told told2 ⊎ Serves told2 told
+one_serves input n m k (Err why) told2 tells is is2 = inl (inr tt)
+one_serves input n m k (Ok x) (Err why) tells is is2 = inr (inr tt)
+one_serves input n m k (Ok x) (Ok y) (bytes, told) is is2 =
+    let had = λ (z : List ℕ) (so : IfSome input.bytes (λ t. z ≡ t)). subst (λ (o : Option (List ℕ)). IfSome o (λ t. z ≡ t)) told so in
+    inl (inl (ap Ok (had x is.0 ∙ sym (had y is2.0))))
+
+module _ (one_end : DoneIsOne) where
+  done_is_one : (w : Reads) (p q : Plan) (e f : End) → IsDone e → IsDone f → ((g : End) → IsDone g → Ends w p g → Ends w q g) ⊎ ((g : End) → IsDone g → Ends w q g → Ends w p g)
+      → Ends w p e → Ends w q f → e ≡ f
+  done_is_one w p q e f of_e of_f (inl moves) ends ends2 = one_end w q e f of_e (moves e of_e ends) ends2
+  done_is_one w p q e f of_e of_f (inr moves) ends ends2 = one_end w p e f of_e ends (moves f of_f ends2)
+
+-- a run of which only devices matter
+abbrev over_files : (input : Told) (o : Outs) → Sight → World
+over_files input o sight = record { files = record { seen = λ path. None; fails = λ path. ⊥; left = λ path v. ⊥; failures = 0 }; input = input; out = o.out; err = o.err; devices = sight }
+
+leaves : (e : End) (sight : Sight) (input input_now : Told) (before now : Outs) (n : ℕ) → Shows e input input_now before now (Ok n) → Leaves e (over_files input before sight) (over_files input_now now sight) (Ok n)
+leaves (Stops s) sight input input_now before now n shows = absurd shows.0
+leaves (Answers status err out) sight input input_now before now n shows = (shows, nothing_changed _)
+leaves (Lines lines) sight input input_now before now n shows = (shows, nothing_changed _)
+leaves (Streams text) sight input input_now before now n shows = (shows, nothing_changed _)
+leaves (Replaces folder bytes said status) sight input input_now before now n shows = absurd shows
+
+-- an end that is shown with a status is no error
+shown_done : (e : End) (input input_now : Told) (before now : Outs) (n : ℕ) → Shows e input input_now before now (Ok n) → IsDone e
+shown_done (Stops s) input input_now before now n shows = absurd shows.0
+shown_done (Answers status err out) input input_now before now n shows = λ s is. cc
+shown_done (Lines lines) input input_now before now n shows = λ s is. cc
+shown_done (Streams text) input input_now before now n shows = λ s is. cc
+shown_done (Replaces folder bytes said status) input input_now before now n shows = λ s is. cc
+
+module _ (one_end : DoneIsOne) (words : List Text) (w : Reads) (sight : Sight) (input input_now input_now2 : Told) (before now now2 : Outs) (status status2 : ℕ) (have : HavePlan words)
+    (of_input : Tells input) (of_err : Tells before.err) (of_out : Tells before.out) where
+  abbrev Shown : (now : Outs) (input_now : Told) (status : ℕ) → Plan → Type 0
+  Shown after input_after n p = ShowsEnd w p input input_after before after (Ok n)
+
+  abbrev IsOne : Type 0
+  IsOne = (status ≡ status2) × (now.err.bytes ≡ now2.err.bytes) × (now.out.bytes ≡ now2.out.bytes)
+
+  abbrev AreOne : (p q : Plan) → Type 0
+  AreOne p q = ((g : End) → IsDone g → Ends w p g → Ends w q g) ⊎ ((g : End) → IsDone g → Ends w q g → Ends w p g)
+
+  ends_one : (p q : Plan) → AreOne p q → Shown now input_now status p → Shown now2 input_now2 status2 q → IsOne
+  ends_one p q one (inr none) b = absurd none.0
+  ends_one p q one (inl a) (inr none) = absurd none.0
+  ends_one p q one (inl (e, ends, shows)) (inl (f, ends2, shows2)) =
+      let same = done_is_one one_end w p q e f (shown_done e input input_now before now status shows) (shown_done f input input_now2 before now2 status2 shows2) one ends ends2 in
+      leaves_one e (over_files input before sight) (over_files input_now now sight) (over_files input_now2 now2 sight) status status2
+      (record { input = of_input.0; err = of_err.0; out = of_out.0; of_input = of_input.1; of_err = of_err.1; of_out = of_out.1 })
+      (leaves e sight input input_now before now status shows)
+      (leaves e sight input input_now2 before now2 status2 (subst (λ (x : End). Shows x input input_now2 before now2 (Ok status2)) (sym same) shows2))
+
+  plans_are_one : (told told2 : Result (List ℕ) Unread) (cause cause2 : List ℕ) → Serves told told2 ⊎ Serves told2 told
+      → AreOne (have.plan (record { input = told; sight = sight; cause = cause })) (have.plan (record { input = told2; sight = sight; cause = cause2 }))
+  plans_are_one told told2 cause cause2 serves =
+      let first : Around = record { input = told; sight = sight; cause = cause } in
+      let second : Around = record { input = told2; sight = sight; cause = cause2 } in
+      ⊎_elim
+      (λ one. inl (λ g done. plan_moves w g done sight cause cause2 told told2 one words (have.plan first) (have.plan second) (have.is first) (have.is second)))
+      (λ other. inr (λ g done. plan_moves w g done sight cause2 cause told2 told other words (have.plan second) (have.plan first) (have.is second) (have.is first)))
+      serves
+
+  of_plan : (a : Around) (after : Outs) (input_after : Told) (n : ℕ) → IfSome (program_plan a words) (Shown after input_after n) → Shown after input_after n (have.plan a)
+  of_plan a after input_after n shows = subst (λ (o : Option Plan). IfSome o (Shown after input_after n)) (have.is a) shows
+
+  runs_one : ShowsPlan (λ a. program_plan a words) w sight input input_now before now (Ok status) → ShowsPlan (λ a. program_plan a words) w sight input input_now2 before now2 (Ok status2) → IsOne
+  runs_one (told, so, (cause, line, shows)) (told2, so2, (cause2, line2, shows2)) =
+      let first : Around = record { input = told; sight = sight; cause = cause } in
+      let second : Around = record { input = told2; sight = sight; cause = cause2 } in
+      ends_one (have.plan first) (have.plan second)
+      (plans_are_one told told2 cause cause2 (one_serves input input.failures input_now.failures input_now2.failures told told2 of_input so so2))
+      (of_plan first now input_now status shows) (of_plan second now2 input_now2 status2 shows2)
+
+pub planned_runs : DoneIsOne → PlannedRunsAreOne
+planned_runs one_end words w sight input input_now input_now2 before now now2 status status2 have of_input of_err of_out =
+    runs_one one_end words w sight input input_now input_now2 before now now2 status status2 have of_input of_err of_out

@@ -1,0 +1,27 @@
+-- What two runs with the same words have in common, if the words have a plan. Our choice.
+use Rattle.std.specs.Prelude.{◌≡◌, ℕ, List, Some, Ok}
+use Rattle.clap.specs.Walk.{Text}
+use Rattle.hwdb_spec_commands.specs.DeviceTree.{Sight}
+use Rattle.hwdb_spec_commands.specs.Runs.{Told}
+use Rattle.hwdb_spec_commands.specs.Told.{Reads}
+use Rattle.hwdb_plan.specs.Ended.{Outs}
+use Rattle.hwdb_plan.specs.Plans.{Plan}
+use Rattle.hwdb_spec_program.specs.ProgramPlan.{Around, ShowsPlan, program_plan}
+
+-- the words have a plan, whatever a run is told beside its files
+pub record HavePlan (words : List Text) : Type 0 where
+  pub plan : Around → Plan
+  pub is : (a : Around) → program_plan a words ≡ Some (plan a)
+
+-- a device tells what it had
+abbrev pub Tells : Told → Type 0
+Tells device = (bytes : List ℕ) × (device.bytes ≡ Some bytes)
+
+-- Two runs begin with the same words, over one file system and one sysfs, and their devices tell the same. Each shows what the plan of the
+-- words ends in, and that is no error. Then they have one status, and both outputs take the same, whatever calls of standard input failed.
+abbrev pub PlannedRunsAreOne : Type 0
+PlannedRunsAreOne = (words : List Text) (w : Reads) (sight : Sight) (input input_now input_now2 : Told) (before now now2 : Outs) (status status2 : ℕ)
+    → HavePlan words → Tells input → Tells before.err → Tells before.out
+    → ShowsPlan (λ a. program_plan a words) w sight input input_now before now (Ok status)
+    → ShowsPlan (λ a. program_plan a words) w sight input input_now2 before now2 (Ok status2)
+    → (status ≡ status2) × (now.err.bytes ≡ now2.err.bytes) × (now.out.bytes ≡ now2.out.bytes)
