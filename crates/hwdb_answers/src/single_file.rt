@@ -1,10 +1,12 @@
 //! What `ask` does with one text file.
-ghost use Rattle.std.specs.Prelude.{◌≡◌, ◌≢◌, [], IfOk, IfErr, OnOk};
+ghost use Rattle.std.specs.Prelude.{◌≡◌, ◌≢◌, ℕ, List, [], IfOk, IfErr, OnOk};
 ghost use Rattle.std.specs.Io.KnownBytes.{Appends};
 ghost use Rattle.hwdb_text.specs.Views.{choice_of};
 ghost use Rattle.hwdb_spec.specs.Flushing.{HandsOn};
 ghost use Rattle.hwdb_spec.specs.Outputs.{CutShortTexts, TookTexts};
 ghost use Rattle.hwdb_spec.specs.Texts.{max_file, last_values_text};
+ghost use Rattle.hwdb_spec.specs.Tree.{map_of_files};
+ghost use Rattle.hwdb_spec.specs.Written.{IsCompiled, IsWritten};
 ghost use Rattle.hwdb_spec_commands.specs.Done.{AreAskTexts};
 ghost use Rattle.hwdb_answers.specs.Lookups.{IfWrite};
 ghost use Rattle.hwdb_spec_commands.specs.UpdateErrors.{IsAskRefusal};
@@ -51,6 +53,9 @@ pub fn ask_texts(
     ensures texts { IfOk result
         (λ a. AreAskTexts file.now bytes.now device.now
         (record { err = a.faults.items; out = a.properties.items })) }
+    ensures compiled { IfOk result
+        (λ a. (database : List ℕ) × IsWritten (map_of_files (lone bytes.now) []) database
+        × IsCompiled (lone bytes.now) [] database) }
     ensures headline { IfOk result
         (λ a. a.properties.items ≡ last_values_text device.now (lone bytes.now) []) }
     ensures refusals { IfErr result

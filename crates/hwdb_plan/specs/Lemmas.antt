@@ -8,4 +8,5 @@ pub mod Ends
 pub mod Streams
 pub mod Put
 pub mod Readable
+pub mod Fronts
 pub mod Update

@@ -8,7 +8,7 @@ use Rattle.hwdb_spec.specs.Folders.{AreAccepted, Source}
 use Rattle.hwdb_spec.specs.Format.{IsDatabase}
 use Rattle.hwdb_spec.specs.Texts.{IsSpelling}
 use Rattle.hwdb_spec.specs.Tree.{Tree, map_of_files}
-use Rattle.hwdb_spec.specs.Written.{IsWritten}
+use Rattle.hwdb_spec.specs.Written.{IsCompiled, IsWritten}
 use Rattle.hwdb_spec.specs.declared.DbFault.{DbFault}
 use Rattle.hwdb_spec.specs.declared.errors.CompileError.{CompileError}
 use Rattle.hwdb_spec.specs.declared.errors.CompileError.TheVariants as compiling
@@ -51,11 +51,11 @@ pub data Plan : Type 0 where
 abbrev pub Next : Type 0
 Next = (path bytes : List ℕ) → Plan
 
--- the bytes are the database of the files, which is one, and no more than so many
+-- the bytes are the database of the files, which has their map, and no more than so many
 pub record AreMadeOf (etc usr : List Source) (most : ℕ) (bytes : List ℕ) : Type 0 where
   pub accepted : AreAccepted etc usr
   pub written : IsWritten (map_of_files etc usr) bytes
-  pub sound : (t : Tree) × IsDatabase bytes t
+  pub sound : IsCompiled etc usr bytes
   pub within : length bytes ≤ most
 
 -- the files are too much for one, for this reason; want of memory is none

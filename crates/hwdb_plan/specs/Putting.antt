@@ -29,22 +29,26 @@ abbrev pub IsUnsaid : (said : List ℕ) (before now : Files) (err_before err_now
 IsUnsaid said before now err_before err_now result =
     IsErrAnd result (λ r. (r ≡ Plain Write) × WasCut said err_before err_now) × AreKept before now
 
--- a text was said, and then a plan was followed
-abbrev pub SaidBefore : Reads → (said : List ℕ) (after : Plan) (before now : Files) (err_before err_now : Told) → Result ℕ Refusal → Type 0
-SaidBefore w said after before now err_before err_now result =
-    (err_said : Told) × HasTaken said err_before err_said × PutsEnd w after before now err_said err_now result
+-- a text was said, and then this holds of what standard error had
+abbrev pub SaidBefore : (said : List ℕ) (After : Told → Type 0) (err_before : Told) → Type 0
+SaidBefore said After err_before = (err_said : Told) × HasTaken said err_before err_said × After err_said
 
--- what is left if the first plan ends so: a text for standard error comes before what the second one does
-abbrev pub Precedes : Reads → (after : Plan) → End → (before now : Files) (err_before err_now : Told) → Result ℕ Refusal → Type 0
-Precedes w after (Answers status said out) before now err_before err_now result =
-    IsUnsaid said before now err_before err_now result ⊎ SaidBefore w said after before now err_before err_now result
-Precedes w after (Stops s) before now err_before err_now result = Puts (Stops s) before now err_before err_now result
-Precedes w after e before now err_before err_now result = ⊥
+-- what is left if the first plan ends so: a text for standard error comes before what follows
+abbrev pub Precedes : (After : Told → Type 0) → End → (before now : Files) (err_before err_now : Told) → Result ℕ Refusal → Type 0
+Precedes After (Answers status said out) before now err_before err_now result =
+    IsUnsaid said before now err_before err_now result ⊎ SaidBefore said After err_before
+Precedes After (Stops s) before now err_before err_now result = Puts (Stops s) before now err_before err_now result
+Precedes After e before now err_before err_now result = ⊥
 
--- a run says what one plan ends in, and then does what another one ends in; or there was no memory before anything was done
+-- a run says what a plan ends in, and then this holds of what standard error had; or there was no memory before anything was done
+abbrev pub SaysThen : Reads → (first : Plan) (After : Told → Type 0) → (before now : Files) (err_before err_now : Told) → Result ℕ Refusal → Type 0
+SaysThen w first After before now err_before err_now result =
+    ((e : End) × Ends w first e × Precedes After e before now err_before err_now result) ⊎ IsUnput before now err_before err_now result
+
+-- and then it does what another plan ends in
 abbrev pub SaysThenPuts : Reads → (first after : Plan) → (before now : Files) (err_before err_now : Told) → Result ℕ Refusal → Type 0
 SaysThenPuts w first after before now err_before err_now result =
-    ((e : End) × Ends w first e × Precedes w after e before now err_before err_now result) ⊎ IsUnput before now err_before err_now result
+    SaysThen w first (λ err_said. PutsEnd w after before now err_said err_now result) before now err_before err_now result
 
 -- ---- a crash
 -- a crash leaves what there was, or the bytes that the plan ends with in their place; or something under the path of a new file

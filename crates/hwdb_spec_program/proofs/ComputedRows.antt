@@ -2,7 +2,7 @@
 use Rattle.hex.specs.Hex.{encode_with}
 use Rattle.hwdb_spec.specs.Lines.{pieces}
 use Rattle.hwdb_spec.specs.Visible.{visible_after}
-use Rattle.hwdb_spec_program.specs.Rows.{HidingRows, UnsaidRows}
+use Rattle.hwdb_spec_program.specs.Rows.{HidingRows, QuietRows, ThereRows, UnsaidRows}
 use Rattle.std.proofs.Common.{refl}
 use Rattle.std.specs.Char.{encode_utf8}
 use Rattle.std.specs.Str.{chars, is_utf8}
@@ -13,3 +13,9 @@ hiding_rows = refl
 
 pub unsaid_rows : UnsaidRows
 unsaid_rows = λ contents. refl
+
+pub quiet_rows : QuietRows
+quiet_rows = refl
+
+pub there_rows : ThereRows
+there_rows = refl

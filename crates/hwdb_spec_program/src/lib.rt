@@ -13,6 +13,7 @@
 //! | `TestErrors` | what `test` refuses, and when |
 //! | `DeviceErrors` | what `device` asks sysfs, and its errors |
 //! | `HidingTold` | an update, and before it the line on a database that hides the new one |
+//! | `HidingPlan` | that line as a plan, before the plans of an update |
 //! | `CheckedReasons` | what an error of `check` says of a file is so |
 //! | `GivenDatabases` | the databases that words name to `verify`, `dump` and `diff`: `-` is standard input |
 //! | `ComparedDatabases` | what `diff` compares, and its errors, with their paths |

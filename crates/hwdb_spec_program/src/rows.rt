@@ -5,4 +5,6 @@ ghost use Rattle.hwdb_spec_program.specs.Rows;
 pub fn hiding_rows()
     ensures line { Rows.HidingRows }
     ensures unsaid { Rows.UnsaidRows }
+    ensures quiet { Rows.QuietRows }
+    ensures there { Rows.ThereRows }
 {}

@@ -1,12 +1,11 @@
 -- Names as a set, and those of some names that aren't in it.
-use Rattle.std.proofs.Common.{◌≡◌, ◌∙◌, ◌<◌, ◌++◌, ◌||◌, ap, arith, sym, refl, cond, filter, get_or, map, length, string_bytes, take, ℕ, zero, suc, Bool, Global, String, true, false, List, [], ◌∷◌, Contains}
+use Rattle.std.proofs.Common.{◌≡◌, ◌∙◌, ◌<◌, ◌++◌, ◌||◌, ap, sym, refl, cond, filter, get_or, map, length, string_bytes, take, ℕ, suc, Bool, Global, String, true, false, List, [], ◌∷◌}
 use Rattle.std.specs.Borrow.{Bor}
 use Rattle.std.specs.BTreeSet.{BTreeSet, contains}
 use Rattle.std.specs.Cmp.Lexicographic.{slice_cmp}
 use Rattle.std.specs.List.{list_any}
 use Rattle.std.specs.Ordering.{is_eq, nat_cmp}
 use Rattle.std.specs.declared.cmp.Ordering.{Ordering}
-use Rattle.std.proofs.lemmas.Bool.{cond_both}
 use Rattle.std.proofs.lemmas.List.Folds.{list_any-append}
 use Rattle.hwdb_spec.specs.Folders.{lists, same}
 use Rattle.hwdb_system.specs.Internal.{IsNameSet}
@@ -27,15 +26,6 @@ name_step names i x old new k lt is own so_far put = λ q.
     ∙ or_one_more (is_eq (order k q)) _ _ (so_far q)
     ∙ ap (λ (t : List ℕ). lists q.now before || (same t q.now || false)) own
     ∙ sym (ap (list_any (λ n. same n q.now)) next ∙ list_any-append (λ n. same n q.now) before (string_bytes x ∷ []))
-
--- a name that passes is among those that are kept
-pub contains_filter : (p : List ℕ → Bool) (names : List (List ℕ)) (name : List ℕ) → Contains names name → p name ≡ true → Contains (filter p names) name
-contains_filter p [] name (k, lt, is) pass = absurd (omega (arith, lt))
-contains_filter p (x ∷ names) name (zero, lt, is) pass =
-    cond_both (p x) (x ∷ filter p names) (filter p names) (λ l. Contains l name) (λ e. (0, omega arith, is)) (λ e. absurd (let h : p x ≡ true = ap p is ∙ pass in cc))
-contains_filter p (x ∷ names) name (suc k, lt, is) pass =
-    let rest = contains_filter p names name (k, omega (arith, lt), is) pass in
-    cond_both (p x) (x ∷ filter p names) (filter p names) (λ l. Contains l name) (λ e. (suc rest.0, omega (arith, rest.1), rest.2)) (λ e. rest)
 
 -- what is kept of one more name
 kept_one : (p : List ℕ → Bool) (x : List ℕ) (xs : List (List ℕ)) → filter p (xs ++ x ∷ []) ≡ filter p xs ++ cond (p x) (x ∷ []) []

@@ -1,9 +1,8 @@
 -- The errors while the folders' files are chosen and read, and while they are compiled.
-use Rattle.std.proofs.Common.{◌+◌, [], Some, ◌≡◌, ◌<◌, ◌≤◌, ◌∷◌, All, Bool, arith, drop, false, length-append, suc, take, true, ◌++◌, ◌∙◌, inl, inr, ◌⊎◌, ⊎_elim, ap, sym, subst, refl, ℕ, List, length, map, get_or, string_bytes, Global, String}
+use Rattle.std.proofs.Common.{◌+◌, [], Some, ◌≡◌, ◌<◌, ◌≤◌, ◌∷◌, All, drop, suc, take, ◌++◌, ◌∙◌, inl, inr, ◌⊎◌, ⊎_elim, ap, sym, subst, refl, ℕ, List, length, map, get_or, string_bytes, Global, String}
 use Rattle.std.proofs.lemmas.List.{length-map, get_or-map, map-append, take_more}
 use Rattle.std.proofs.lemmas.List.Elements.{All-map}
-use Rattle.std.proofs.Math.Seq.{get_or-append_seam, split_at}
-use Rattle.std.specs.Prelude.{Contains}
+use Rattle.std.proofs.Math.Seq.{split_at}
 use Rattle.hwdb_spec.specs.Folders.{Choice, choice, names, max_files, path_of}
 use Rattle.hwdb_spec.specs.Store.{Contents}
 use Rattle.hwdb_spec.specs.System.{AreNamesIn, bytes_at, etc_files, usr_files}
@@ -15,7 +14,7 @@ use Rattle.hwdb_spec.specs.Errors.{refusal_of_select}
 use Rattle.hwdb_spec.specs.declared.errors.ToolError.TheVariants.{Memory}
 use Rattle.hwdb_spec.specs.Selected.{AreNamed, AreTexts}
 use Rattle.hwdb_spec_commands.specs.Refusals.{IsUnread}
-use Rattle.hwdb_spec_commands.specs.Reading.{AreUnread, AreUnreadAt, AreUnreadIn, IsChosenUnread, IsFirstUnread, IsText}
+use Rattle.hwdb_spec_commands.specs.Reading.{AreUnreadAt, IsChosenUnread, IsFirstUnread, IsText}
 use Rattle.hwdb_spec_commands.specs.declared.refusals.Refusal.{Refusal}
 use Rattle.hwdb_spec_commands.specs.declared.refusals.Refusal.TheVariants.{Plain}
 
@@ -68,28 +67,6 @@ texts_refused Unread root contents etc usr chosen refusal in_etc in_usr is few r
     ⊎_elim (λ memory. inl memory)
     (λ unread. inr (inr (inr record { etc = etc; usr = usr; in_etc = in_etc; in_usr = in_usr; refused = inr (few, subst (λ l. Unread l refusal) is unread) })))
     refused
-
--- what can't be read at a place can't be read
-at_any : (root : List ℕ) (contents : Contents) (chosen : List Choice) (refusal : Refusal) → IsFirstUnread root contents chosen refusal → IsChosenUnread root chosen refusal
-at_any root contents chosen refusal unread = (
-  unread.first,
-  subst (λ (l : List Choice). Contains l unread.first) (sym unread.are)
-      (length unread.before, (let h = length-append unread.before (unread.first ∷ unread.after) in omega (arith, h)), get_or-append_seam unread.before unread.first unread.after unread.first),
-  unread.unread,
-)
-
-pub any_unread : (skip : Bool) (root : List ℕ) (contents : Contents) (refusal : Refusal) → AreUnread root contents refusal → AreUnreadIn skip root contents refusal
-any_unread false root contents refusal unread = unread
-any_unread true root contents refusal (inl memory) = inl memory
-any_unread true root contents refusal (inr (inl etc)) = inr (inl etc)
-any_unread true root contents refusal (inr (inr (inl usr))) = inr (inr (inl usr))
-any_unread true root contents refusal (inr (inr (inr choice))) = inr (inr (inr record {
-  etc = choice.etc;
-  usr = choice.usr;
-  in_etc = choice.in_etc;
-  in_usr = choice.in_usr;
-  refused = ⊎_elim inl (λ one. inr (one.0, at_any root contents _ refusal one.1)) choice.refused;
-}))
 
 -- all names of both folders
 pub all_named : (root : List ℕ) (contents : Contents) (etc etc2 usr : List (String Global)) → etc2 ≡ etc

@@ -76,7 +76,7 @@ module _ (root : List ℕ) (seen : Contents) (etc usr : List (List ℕ)) (in_etc
   there_at false name has =
       ap (λ p. is_some (bytes_at seen p)) (sym (append_assoc root (codes "/usr/lib/udev/hwdb.d") (47 ∷ name))) ∙ (All-contains (IsNameIn (usr_files root) seen) usr name in_usr.each has).there
 
-  chosen_there : (c : Choice) → IsListed etc usr c → is_some (bytes_at seen (root ++ path_of c)) ≡ true
+  pub chosen_there : (c : Choice) → IsListed etc usr c → is_some (bytes_at seen (root ++ path_of c)) ≡ true
   chosen_there c listed = there_at c.from_etc c.name listed
 
 module _ (w : Reads) (seen : Contents) (fails : List ℕ → Type 0) where
@@ -84,7 +84,7 @@ module _ (w : Reads) (seen : Contents) (fails : List ℕ → Type 0) where
   Reason = HasReason fails ⊥ seen
 
   -- what is said of a file that is there names it, and is so
-  there_unread : (path : List ℕ) (u : Unread) (r : Refusal) → is_some (bytes_at seen path) ≡ true → IsSo seen (IsUnreadable fails seen path) path u → stop_of r ≡ unread_stop path u → IsUnread path r × Reason r
+  pub there_unread : (path : List ℕ) (u : Unread) (r : Refusal) → is_some (bytes_at seen path) ≡ true → IsSo seen (IsUnreadable fails seen path) path u → stop_of r ≡ unread_stop path u → IsUnread path r × Reason r
   there_unread path u r there so says = by u r so says
     where
       failed : IsUnreadable fails seen path → fails path
@@ -100,7 +100,7 @@ module _ (w : Reads) (seen : Contents) (fails : List ℕ → Type 0) where
       by unread.Memory r so is = of_memory (λ x. IsUnread path x × Reason x) (tt, tt) r is
 
   -- so is what is said of a folder
-  unlisted_so : (Long : Type 0) (folder : List ℕ) (u : Unlisted) (r : Refusal) → (Long → IfSome (bytes_at seen folder) (λ b. max_file < length b)) → IsSoOfFolder Long fails folder u → stop_of r ≡ unlisted_stop folder u
+  pub unlisted_so : (Long : Type 0) (folder : List ℕ) (u : Unlisted) (r : Refusal) → (Long → IfSome (bytes_at seen folder) (λ b. max_file < length b)) → IsSoOfFolder Long fails folder u → stop_of r ≡ unlisted_stop folder u
       → IsUnlisted folder r × Reason r
   unlisted_so Long folder (Unopened unread.TooLong) r long so is =
       over_at (λ x. IsUnlisted folder x × Reason x) TooLong folder None (λ p at. (at, subst (λ (q : List ℕ). IfSome (bytes_at seen q) (λ b. max_file < length b)) (sym at) (long so))) r is

@@ -52,7 +52,7 @@ pub found_within : (found : Option FoundDatabase) → IfSome found (λ f. length
 found_within None within = tt
 found_within (Some found) within = within
 
-none_of : {A : Type 0} → (xs : List A) → length xs ≡ 0 → xs ≡ []
+pub none_of : {A : Type 0} → (xs : List A) → length xs ≡ 0 → xs ≡ []
 none_of [] e = refl
 none_of (x ∷ xs) e = absurd (let bad = e in omega (arith, bad))
 

@@ -19,7 +19,7 @@ use Rattle.hwdb_spec_commands.specs.Readable.{AreAllRead}
 use Rattle.hwdb_spec.specs.Lemmas.Orders.{same_itself, same_text}
 
 -- what an option holds, or nothing
-abbrev value : Option (List ℕ) → List ℕ
+abbrev pub value : Option (List ℕ) → List ℕ
 value o = option_map_or (λ b. b) o []
 
 some_value : (o : Option (List ℕ)) → is_some o ≡ true → o ≡ Some (value o)
@@ -27,13 +27,13 @@ some_value None e = absurd (cc)
 some_value (Some b) e = refl
 
 -- the file with a name in a folder
-abbrev source_at : (folder : List ℕ) → Contents → (name : List ℕ) → Source
+abbrev pub source_at : (folder : List ℕ) → Contents → (name : List ℕ) → Source
 source_at folder seen name = record { name = name; bytes = value (bytes_at seen (path_in folder name)) }
 
 abbrev pub files_at : (folder : List ℕ) → Contents → (listed : List (List ℕ)) → List Source
 files_at folder seen listed = map (source_at folder seen) listed
 
-names_back : (folder : List ℕ) (seen : Contents) (listed : List (List ℕ)) → map (λ (s : Source). s.name) (files_at folder seen listed) ≡ listed
+pub names_back : (folder : List ℕ) (seen : Contents) (listed : List (List ℕ)) → map (λ (s : Source). s.name) (files_at folder seen listed) ≡ listed
 names_back folder seen [] = refl
 names_back folder seen (n ∷ listed) = ap (λ l. n ∷ l) (names_back folder seen listed)
 

@@ -1,4 +1,5 @@
 -- Ends of `query`, `explain`, `list` and `ask`, from what their calls promise.
+use Rattle.hwdb_spec.specs.Written.{IsCompiled, IsWritten}
 use Rattle.std.proofs.Common.{◌≡◌, ◌≢◌, ◌∙◌, ◌⊎◌, inl, inr, ap, sym, subst, List, Option, None, Some, Result, Ok, Err, IfSome, ℕ, Bool, true, false, refl, [], ◌∷◌, ◌++◌, length, map, take}
 use Rattle.std.specs.Prelude.{flat_map}
 use Rattle.std.specs.Result.{IsErrAnd}
@@ -9,7 +10,7 @@ use Rattle.hwdb_spec.specs.Folders.{faults_of_files}
 use Rattle.hwdb_spec.specs.Format.{IsDatabase}
 use Rattle.hwdb_spec.specs.Outputs.{CutShortOne, TookOne, Wrote}
 use Rattle.hwdb_spec.specs.Texts.{devices_of, faults_text_at, max_file, query_text, within_limit}
-use Rattle.hwdb_spec.specs.Tree.{Tree, answers_after}
+use Rattle.hwdb_spec.specs.Tree.{Tree, answers_after, map_of_files}
 use Rattle.hwdb_spec.specs.declared.DbFault.{DbFault}
 use Rattle.hwdb_spec.specs.declared.errors.CompileError.TheVariants as compiling
 use Rattle.hwdb_spec.specs.declared.errors.ToolError.{ToolError}
@@ -41,7 +42,7 @@ use Rattle.hwdb_plan.specs.Input.{OverGiven, reads_with}
 use Rattle.hwdb_plan.specs.Lemmas.Ends.{bad_ends, before_next, stop_shows, stream_shows}
 use Rattle.hwdb_plan.specs.Lemmas.Steps.{input_told, input_untold, plainly}
 use Rattle.hwdb_plan.specs.Lemmas.Streams.{stream_done, stream_stops}
-use Rattle.hwdb_plan.specs.Laws.{OneTree}
+use Rattle.hwdb_plan.specs.Laws.{OneTree, OneForm}
 use Rattle.hwdb_plan.specs.List.{hit_lines, listed}
 use Rattle.hwdb_plan.specs.Plans.{End, Ends, Follows, Next, Plan}
 use Rattle.hwdb_plan.specs.Plans.End.{Answers, Lines, Stops}
@@ -196,12 +197,18 @@ unread_shows w p next input before now r result why is = stop_shows w (p next) i
 
 -- ---- `ask`
 -- it ends in an answer
-pub lone_ends : (w : Reads) (file device path bytes err out : List ℕ) → AreAskTexts file bytes device (record { err = err; out = out }) → Ends w (lone_answer file device path bytes) (Answers 0 err out)
+pub lone_ends : (w : Reads) (file device path bytes err out : List ℕ) → AreAskTexts file bytes device (record { err = err; out = out })
+    → ((database : List ℕ) × IsWritten (map_of_files (lone bytes) []) database × IsCompiled (lone bytes) [] database) → OneForm → Ends w (lone_answer file device path bytes) (Answers 0 err out)
 unfolding Ends
-lone_ends w file device path bytes err out are =
+lone_ends w file device path bytes err out are made form =
     inl (
       are.database,
-      record { accepted = are.accepted; written = are.written; sound = (are.properties.tree, are.properties.database); within = are.within },
+      record {
+        accepted = are.accepted;
+        written = are.written;
+        sound = subst (IsCompiled (lone bytes) []) (form (map_of_files (lone bytes) []) made.0 are.database made.1 are.written) made.2;
+        within = are.within;
+      },
       inl (are.properties.tree, are.properties.database, same),
     )
   where

@@ -1,16 +1,20 @@
 -- What whoever follows the plan of a command promises in the older words. Our choice.
+use Rattle.hwdb_plan.specs.Update.{left_out_plan, update_plan}
+use Rattle.hwdb_plan.specs.Putting.{OldOrPut, SaysThenPuts}
+use Rattle.hwdb_spec.specs.System.{database_folder}
+use Rattle.hwdb_spec_commands.specs.Readable.{IsUpdateRefused, IsUpdatedLess}
 use Rattle.std.specs.Prelude.{◌∷◌, ◌≡◌, ◌≤◌, ℕ, Bool, List, [], Option, Result, IfErr, IfOk, false, length, ◌==◌, not}
 use Rattle.std.specs.Str.{bytes_eq}
 use Rattle.hwdb_spec.specs.Outputs.{TookOne}
 use Rattle.hwdb_spec_commands.specs.Asked.{IsAnswered, IsDumped, IsListFrom, IsPrinted, database_path}
 use Rattle.hwdb_spec_commands.specs.CheckedFiles.{AreCheckedFiles, IsChecked}
 use Rattle.hwdb_spec_commands.specs.Databases.{IsSummary}
-use Rattle.hwdb_spec_commands.specs.Done.{IsAsked}
+use Rattle.hwdb_spec_commands.specs.Done.{IsAsked, OldOrUpdatedLess}
 use Rattle.hwdb_spec_commands.specs.Given.{is_dash, is_input}
 use Rattle.hwdb_spec_commands.specs.Queries.{AreDone, AreUnanswered}
 use Rattle.hwdb_spec_commands.specs.Reasons.{HasAskedReason, HasGivenReason, HasFilesReason}
 use Rattle.hwdb_spec_commands.specs.Refusals.{HasReason}
-use Rattle.hwdb_spec_commands.specs.Undone.{AreUncheckable, IsAskRefused, IsCheckRefused, IsListRefused}
+use Rattle.hwdb_spec_commands.specs.Undone.{AreUncheckable, IsAskRefused, IsCheckRefused, IsListRefused, IsUnwritable}
 use Rattle.hwdb_spec_commands.specs.declared.form.Form.{Form}
 use Rattle.hwdb_spec_commands.specs.declared.form.Form.TheVariants.{Explain, Query}
 use Rattle.hwdb_spec_commands.specs.Near.{PatternAt}
@@ -25,8 +29,8 @@ use Rattle.hwdb_spec_program.specs.NearErrors.{IsNearRefused}
 use Rattle.hwdb_spec_program.specs.TestErrors.{HasTestReason, IsTestRefused}
 use Rattle.hwdb_spec_program.specs.Tested.{IsTested}
 use Rattle.hwdb_spec_program.specs.NamedDatabases.{IsDumpRefused, IsVerifyRefused}
-use Rattle.hwdb_spec_commands.specs.Runs.{OnOut, Told}
-use Rattle.hwdb_spec.specs.Store.{Contents}
+use Rattle.hwdb_spec_commands.specs.Runs.{OnOut, Told, Files}
+use Rattle.hwdb_spec.specs.Store.{Contents, InPlace, Stored}
 use Rattle.hwdb_spec.specs.Texts.{max_file}
 use Rattle.hwdb_spec_commands.specs.Told.{Reads}
 use Rattle.hwdb_spec_commands.specs.declared.refusals.Refusal.{Refusal}
@@ -131,3 +135,19 @@ DeviceAsBefore w sight seen MayFail = (root : List ℕ) (form : DeviceForm) (giv
     → OfCause (λ cause. Follows end_of w (device_plan sight cause asked_names root form given) result)
     → IfOk result (λ a. (a.status ≡ 0) × OnOut (IsDevicePrinted form asked_names root given sight seen) (texts_in a))
     × IfErr result (IsDeviceRefused root given sight seen) × IfErr result (HasReason MayFail ⊥ seen)
+
+-- ---- `update`
+-- with status 0 or 1 the database is in its place, and standard error took what is said of that; an error is one of `update`, and what it
+-- says of a path is so
+abbrev pub UpdateAsBefore : Reads → (before now : Files) (err_before err_now : Told) → Type 0
+UpdateAsBefore w before now err_before err_now = (root : List ℕ) (usr strict verbose skip : Bool) (words : List (List ℕ)) (result : Result ℕ Refusal)
+    → SaysThenPuts w (left_out_plan root skip words) (update_plan root usr strict verbose skip words) before now err_before err_now result
+    → IfOk result (λ n. (n ≤ 1) × IsUpdatedLess root usr verbose strict skip n before err_before err_now
+    (λ database. InPlace (database_folder usr root) database before.seen now.seen now.left))
+    × IfErr result (λ r. IsUpdateRefused root usr verbose skip r before now err_before err_now
+    × HasReason before.fails (IsUnwritable (database_folder usr root) before.seen before.failures now.failures) before.seen r)
+
+-- what a crash may leave of its plan it may leave of an update
+abbrev pub UpdateCrashAsBefore : Reads → Files → Type 0
+UpdateCrashAsBefore w before = (root : List ℕ) (usr strict verbose skip : Bool) (words : List (List ℕ)) (path : List ℕ) (v : Option Stored)
+    → OldOrPut w (update_plan root usr strict verbose skip words) before.seen before.left path v → OldOrUpdatedLess before.fails root usr skip before.seen before.left path v

@@ -1,5 +1,9 @@
 -- What the steps of an update hold that looks at what is lost.
-use Rattle.std.specs.Prelude.{◌==◌, ◌≡◌, Bool, Err, IsErrAnd, List, Ok, Option, Result, false, ℕ}
+use Rattle.hwdb_spec_commands.specs.declared.refusals.Refusal.TheVariants.{Plain}
+use Rattle.hwdb_spec.specs.declared.errors.ToolError.TheVariants.{Memory, Write}
+use Rattle.hwdb_plan.specs.Plans.End.{Answers}
+use Rattle.hwdb_plan.specs.Plans.{Ends, Plan}
+use Rattle.std.specs.Prelude.{◌==◌, ◌≡◌, Bool, Err, IsErrAnd, List, Ok, Option, Result, false, ℕ, ◌⊎◌, [], MatchResult}
 use Rattle.hwdb_compile.specs.Views.{ForFolders}
 use Rattle.hwdb_text.specs.declared.choice.ChosenFile.{ChosenFile}
 use Rattle.hwdb_spec_commands.specs.Done.{IsUpdated}
@@ -9,7 +13,7 @@ use Rattle.hwdb_plan.specs.Put.{put_plan}
 use Rattle.hwdb_plan.specs.Putting.{PutsEnd}
 use Rattle.hwdb_spec.specs.Texts.{status_of}
 use Rattle.hwdb_spec_commands.specs.Told.{Reads}
-use Rattle.hwdb_spec_commands.specs.Runs.{Files, HasTaken, Told}
+use Rattle.hwdb_spec_commands.specs.Runs.{Files, HasTaken, Told, WasCut}
 use Rattle.hwdb_spec_commands.specs.Status.{Amount}
 use Rattle.hwdb_spec_commands.specs.Status.Amount.{Counted, Uncounted}
 use Rattle.hwdb_spec.specs.Store.{Contents, database_name, path_in}
@@ -50,3 +54,10 @@ abbrev pub PutsFiles : Result ℕ ToolError → (loss : List ℕ) (listed : Opti
 PutsFiles result loss listed strict folder files before now err_before err_now =
     (w : Reads) (less : ℕ → ℕ) (shown : Result ℕ Refusal) → IsResultOf (path_in folder database_name) less result shown
     → ForFolders files (λ etc usr. PutsEnd w (put_plan loss etc usr listed (λ faults. less (status_of strict faults)) folder) before now err_before err_now shown)
+
+-- ---- a text before an update
+-- a step says what a plan ends in, for standard error alone; or it doesn't, since there was no memory, or standard error fails
+abbrev pub SaysOnly : {V : Type 0} → Reads → Plan → (err_before err_now : Told) → Result V Refusal → Type 0
+SaysOnly w p err_before err_now result =
+    MatchResult result (λ _. (text : List ℕ) × Ends w p (Answers 0 text []) × HasTaken text err_before err_now)
+    (λ r. ((r ≡ Plain Memory) × (err_now ≡ err_before)) ⊎ ((text : List ℕ) × Ends w p (Answers 0 text []) × (r ≡ Plain Write) × WasCut text err_before err_now))

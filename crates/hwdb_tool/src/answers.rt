@@ -28,6 +28,7 @@ use crate::printing::printed;
 use hwdb_answers::{Form, answer, ask_texts, print_list};
 use hwdb_io::{Sink, Source};
 use hwdb_system::{Refusal, System};
+use hwdb_writer::law_one_written_form;
 use std::alloc::Global;
 
 /// Prints the properties that the database below the root gives the device, and where each comes from. If the device is `-`,
@@ -167,6 +168,7 @@ pub fn ask_file<D: System, I: Source>(
         (D.System.may_fail system.now) (D.Store.seen system.now)
         (I.left input.old) (I.failures input.old) (I.failures input.new)) }
 {
+    law_one_written_form();
     let bytes = read(alloc, file, system, input)?;
     let texts = ask_texts(alloc, file, &bytes, device)?;
     Ok(Answer {

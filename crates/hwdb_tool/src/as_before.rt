@@ -1,8 +1,11 @@
 //! What follows a plan keeps the older promises of its command. Each function does nothing: its contract is the law.
-ghost use Rattle.hwdb_tool.specs.AsBefore.{AskAsBefore, CheckAsBefore, DeviceAsBefore, DumpAsBefore, ExplainAsBefore, ListAsBefore, QueryAsBefore, TextShowsOver, VerifyAsBefore, NearAsBefore, TestAsBefore};
+ghost use Rattle.hwdb_tool.specs.AsBefore.{AskAsBefore, CheckAsBefore, DeviceAsBefore, DumpAsBefore, ExplainAsBefore, ListAsBefore, QueryAsBefore, TextShowsOver, VerifyAsBefore, NearAsBefore, TestAsBefore, UpdateAsBefore, UpdateCrashAsBefore};
+ghost use Rattle.hwdb_spec_commands.specs.Runs.{files_by, told_by};
 ghost use Rattle.hwdb_spec_commands.specs.SysfsAnswers.{sight_by};
 
+use hwdb_io::Sink;
 use hwdb_plan::{only_asked_matters, over_is_over};
+use hwdb_reader::law_one_tree;
 use hwdb_system::{Machine, System};
 
 /// What follows the plan of `verify` keeps the older promises of `verify`.
@@ -73,3 +76,21 @@ pub fn device_as_before<D: Machine>(system: &D)
         (sight_by D.answers system.now) (D.Store.seen system.now)
         (D.System.may_fail system.now) }
 {}
+
+/// What follows the plans of `update`, from one state to another, keeps those of `update`.
+pub fn update_as_before<D: System, E: Sink>(before: &D, now: &D, err_before: &E, err_now: &E)
+    ensures { let files = files_by D.Store.seen D.System.may_fail D.Store.may_leave
+        D.Store.failures in D.Store.tells → UpdateAsBefore (D.System.reads before.now)
+        (files before.now) (files now.now) (told_by E.taken E.failures err_before.now)
+        (told_by E.taken E.failures err_now.now) }
+{
+    law_one_tree();
+}
+
+/// So does what a crash leaves then.
+pub fn update_crash_as_before<D: System>(before: &D)
+    ensures { D.Store.tells → UpdateCrashAsBefore (D.System.reads before.now)
+        (files_by D.Store.seen D.System.may_fail D.Store.may_leave D.Store.failures before.now) }
+{
+    law_one_tree();
+}

@@ -1,10 +1,16 @@
 //! What `update --usr --verbose` says before it updates, if /etc's database, which is asked first, hides the new one.
-ghost use Rattle.std.specs.Prelude.{◌≡◌, ◌≤◌, ◌++◌, IfOk, IfErr, OnOk, string_bytes};
+ghost use Rattle.std.specs.Prelude.{◌≡◌, ◌≤◌, ◌++◌, [], ℕ, List, IfOk, IfErr, OnOk, string_bytes};
 ghost use Rattle.hwdb_spec.specs.Flushing.{HandsOn};
 ghost use Rattle.hwdb_spec_commands.specs.Runs.{HasTaken, files_by, told_by};
 ghost use Rattle.hwdb_spec_program.specs.Hiding.{hiding_line, hiding_text};
 ghost use Rattle.hwdb_spec.specs.Store as spec;
 ghost use Rattle.hwdb_spec.specs.System as Folder;
+ghost use Rattle.hwdb_spec_program.specs.HidingPlan.{UpdatesTelling, hiding_plan};
+ghost use Rattle.hwdb_plan.specs.Plans.{Ends};
+ghost use Rattle.hwdb_plan.specs.Plans.End.{Answers};
+ghost use Rattle.hwdb_plan.specs.Putting.{OldOrPut};
+ghost use Rattle.hwdb_plan.specs.Update.{update_plan};
+ghost use Rattle.hwdb_tool.specs.Emptying.{SaysOnly};
 ghost use Rattle.hwdb_spec_program.specs.HidingTold.{IsTellingUpdateRefused, IsUpdatedTelling};
 ghost use Rattle.hwdb_spec_commands.specs.Done.{OldOrUpdatedLess};
 ghost use Rattle.hwdb_spec_commands.specs.Refusals.{HasReason};
@@ -59,8 +65,10 @@ fn hiding_text<D: System>(
     verbose: bool,
     system: &D,
 ) -> Result<Vec<u8>, AllocError>
-    ensures { D.Store.tells → IfOk result
+    ensures is { D.Store.tells → IfOk result
         (λ text. text.items ≡ hiding_text usr verbose root.now (D.Store.seen system.now)) }
+    ensures follows { D.Store.tells → IfOk result (λ text. Ends (D.System.reads system.now)
+        (hiding_plan usr verbose root.now) (Answers 0 text.items [])) }
 {
     if !usr || !verbose {
         return Ok(Vec::new(alloc));
@@ -88,6 +96,9 @@ fn tell_hiding<D: System, E: Sink>(
     ensures refused { D.Store.tells → IfErr result (λ r.
         IsUntold (hiding_text usr verbose root.now (D.Store.seen system.now)) r
         (told_by E.taken E.failures err.old) (told_by E.taken E.failures err.new)) }
+    ensures says { D.Store.tells → SaysOnly (D.System.reads system.now)
+        (hiding_plan usr verbose root.now)
+        (told_by E.taken E.failures err.old) (told_by E.taken E.failures err.new) result }
     ensures reason { IfErr result
         (HasReason (D.System.may_fail system.now) ⊥ (D.Store.seen system.now)) }
     ensures unfailed { OnOk result (E.failures err.new ≡ E.failures err.old) }
@@ -110,6 +121,15 @@ pub fn update_telling<D: System, E: Sink>(
     err: &mut E,
 ) -> Result<u8, Refusal>
     ensures status { IfOk result (λ status. status ≤ 1) }
+    ensures follows { let left = files_by D.Store.seen D.System.may_fail D.Store.may_leave
+        D.Store.failures in D.Store.tells → UpdatesTelling (D.System.reads system.old) root.now
+        usr strict verbose skip (left system.old) (left system.new)
+        (told_by E.taken E.failures err.old) (told_by E.taken E.failures err.new) result }
+    ensures any_crash { D.Store.tells → (words : List (List ℕ))
+        × spec.LeavesOnly D.Store.moment D.Store.left_since system.old system.new
+        (OldOrPut (D.System.reads system.old)
+        (update_plan root.now usr strict verbose skip words)
+        (D.Store.seen system.old) (D.Store.may_leave system.old)) }
     ensures any_moment { D.Store.tells
         → spec.LeavesOnly D.Store.moment D.Store.left_since system.old system.new
         (OldOrUpdatedLess (D.System.may_fail system.old) root.now usr skip

@@ -40,3 +40,9 @@ returns-clause-texts c =
           ∙ ap (faults_text_at c.as_bytes.result.now) (c.in_ok-compiled.ensures.faults file [] of) ∙ ap (λ f. faults_text_at f (faults_of_files file [])) c.as_bytes.ensures.value;
       properties = subst P c.deref-2.ensures.value c.in_ok-properties.ensures.text;
     }
+
+pub returns-clause-compiled : goal.returns-clause-compiled
+returns-clause-compiled c =
+    let file = lone c.args.bytes.now in
+    let of = lone_chosen c.args.bytes.now _ c.in_ok-choice.ensures refl in
+    (c.in_ok-compiled.compiled.database.items, c.in_ok-compiled.ensures.database file [] of, c.in_ok-compiled.ensures.checked file [] of)

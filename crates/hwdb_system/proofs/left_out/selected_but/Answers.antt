@@ -1,6 +1,6 @@
 use Rattle.std.proofs.Common.{◌≡◌, ◌∙◌, ap, filter, map, not, string_bytes, subst, sym}
 use Rattle.hwdb_spec_commands.specs.LeftOut.{less}
-use Rattle.hwdb_system.proofs.LeftOutLemmas.{named_less}
+use Rattle.hwdb_system.specs.Lemmas.LeftOut.{named_less}
 use Rattle.hwdb_plan.specs.Readable.{ReachesOf, others, read_names}
 use Rattle.hwdb_spec.specs.Folders.{lists}
 use Rattle.hwdb_system.proofs.ReadableLemmas.{names_reach}

@@ -3,13 +3,14 @@ use Rattle.hwdb_plan.specs.Folders.{names_of}
 use Rattle.hwdb_plan.specs.Lemmas.Folders.{names_asked}
 use Rattle.hwdb_plan.specs.Plans.{ReachesValue}
 use Rattle.hwdb_plan.specs.Folders.{texts_of_names}
-use Rattle.hwdb_plan.specs.Readable.{GoesOn, ReachesOf, none_left_out, read_if, readable_texts}
+use Rattle.hwdb_plan.specs.Readable.{GoesOn, ReachesOf, none_left_out, readable_texts}
 use Rattle.hwdb_spec.specs.System.{etc_files, usr_files}
 use Rattle.hwdb_spec_commands.specs.LeftOutTold.{AreSelectedLess, AreUnreadLess}
 use Rattle.hwdb_text.specs.Views.{choice_of}
 use Rattle.hwdb_system.proofs.LeftOutLemmas.{whole_selected, whole_unread}
 use Rattle.hwdb_system.proofs.ReadableLemmas.{all_read, all_unread, both_listed, first_unlisted, names_reach, second_unlisted}
-use Rattle.hwdb_system.proofs.SelectionLemmas.{all_named, any_unread}
+use Rattle.hwdb_system.proofs.SelectionLemmas.{all_named}
+use Rattle.hwdb_system.specs.Lemmas.LeftOut.{any_unread}
 use Rattle.hwdb_system.specs.Selections.{IsReadableOf, texts_in}
 use Rattle.hwdb_system.specs.declared.left_out.ReadableSelection.{ReadableSelection}
 use Rattle.hwdb_system.proofs.left_out.selected_readable.Goals as goal

@@ -1,4 +1,7 @@
-use Rattle.std.proofs.Common.{◌≢◌, refl, subst, List, ℕ}
+use Rattle.hwdb_spec_commands.specs.LoneFile.{lone}
+use Rattle.hwdb_spec.specs.Written.{IsCompiled, IsWritten}
+use Rattle.hwdb_spec.specs.Tree.{map_of_files}
+use Rattle.std.proofs.Common.{◌≢◌, refl, subst, List, ℕ, []}
 use Rattle.hwdb_spec.specs.Texts.{max_file}
 use Rattle.hwdb_spec.specs.declared.errors.ToolError.TheVariants.{Write}
 use Rattle.hwdb_spec_commands.specs.Done.{AreAskTexts}
@@ -32,4 +35,6 @@ returns-clause-follows g c = λ tells.
     over_each (is_dash file) file (g.I.Source.left c.args.input.now) (g.I.Source.failures c.args.input.now) (g.I.Source.failures c.read.new.input) (g.D.System.reads c.args.system.now) _ _
     (λ p w told. input_told w p p c.in_ok-bytes.bytes.items (lone_answer file c.args.device.now) (Answers 0 t.faults.items t.properties.items) told refl
     (lone_ends w file c.args.device.now p c.in_ok-bytes.bytes.items t.faults.items t.properties.items
-    (subst (λ (b : List ℕ). AreAskTexts file b c.args.device.now (record { err = t.faults.items; out = t.properties.items })) c.deref.ensures.value c.in_ok-texts.ensures.texts))) (c.in_ok-bytes.ensures.told tells)
+    (subst (λ (b : List ℕ). AreAskTexts file b c.args.device.now (record { err = t.faults.items; out = t.properties.items })) c.deref.ensures.value c.in_ok-texts.ensures.texts)
+    (subst (λ (b : List ℕ). (database : List ℕ) × IsWritten (map_of_files (lone b) []) database × IsCompiled (lone b) [] database) c.deref.ensures.value c.in_ok-texts.ensures.compiled)
+    c.law_one_written_form.ensures)) (c.in_ok-bytes.ensures.told tells)

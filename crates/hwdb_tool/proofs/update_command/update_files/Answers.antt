@@ -171,7 +171,7 @@ returns-clause-follows g c = λ tells w less shown is etc usr of.
     (λ n same. same ∙ ap (status_of c.args.strict) (c.in_ok-compiled.ensures.faults etc usr of)) c.put_in_place.ensures.status in
     put_ended w (path_in c.args.folder.now database_name) less loss etc usr names (status_of c.args.strict) c.args.folder.now F T c.args.store.now c.put_in_place.new.store c.args.err.now c.put_in_place.new.err
     compiled.database.items (c.deref-2.result.now ++ faults) made.0
-    (record { accepted = c.in_ok-compiled.ensures.accepted etc usr of; written = c.in_ok-compiled.ensures.database etc usr of; sound = c.in_ok-compiled.ensures.sound; within = c.in_ok-compiled.ensures.within })
+    (record { accepted = c.in_ok-compiled.ensures.accepted etc usr of; written = c.in_ok-compiled.ensures.database etc usr of; sound = c.in_ok-compiled.ensures.checked etc usr of; within = c.in_ok-compiled.ensures.within })
     made.1 text c.put_in_place.result shown refl c.put_in_place.ensures.told (c.put_in_place.ensures.placed tells) status c.put_in_place.ensures.refusals c.put_in_place.ensures.unreplaced
     (c.put_in_place.ensures.seen tells) (c.put_in_place.ensures.left tells) c.put_in_place.ensures.cut_short c.put_in_place.ensures.untouched is
 
@@ -181,5 +181,5 @@ returns-clause-any_crash g c = λ tells w less etc usr of.
     let made = c.in_ok-compiled.ensures.checked etc usr of in
     leaves_put g.S.Store.moment g.S.Store.left_since c.args.store.now c.put_in_place.new.store w (g.S.Store.seen c.args.store.now) (g.S.Store.may_leave c.args.store.now) c.args.loss.now etc usr
     (option_map (λ l. map string_bytes l.now) c.args.listed) (λ faults. less (status_of c.args.strict faults)) c.args.folder.now compiled.database.items made.0
-    (record { accepted = c.in_ok-compiled.ensures.accepted etc usr of; written = c.in_ok-compiled.ensures.database etc usr of; sound = c.in_ok-compiled.ensures.sound; within = c.in_ok-compiled.ensures.within })
+    (record { accepted = c.in_ok-compiled.ensures.accepted etc usr of; written = c.in_ok-compiled.ensures.database etc usr of; sound = c.in_ok-compiled.ensures.checked etc usr of; within = c.in_ok-compiled.ensures.within })
     made.1 (c.put_in_place.ensures.any_moment tells)
