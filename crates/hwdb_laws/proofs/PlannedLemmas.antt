@@ -1,5 +1,5 @@
 -- Two runs with the same words are one.
-use Rattle.std.proofs.Common.{◌≡◌, ◌≢◌, ◌∙◌, ◌++◌, ◌⊎◌, ◌∷◌, ⊎_elim, inl, inr, ap, refl, subst, sym, length, Bool, IfSome, List, Option, None, Result, Some, Ok, Err, ℕ, [], true, false}
+use Rattle.std.proofs.Common.{arith, ◌<◌, ◌≤◌, ◌≡◌, ◌≢◌, ◌∙◌, ◌++◌, ◌⊎◌, ◌∷◌, ⊎_elim, inl, inr, ap, refl, subst, sym, length, Bool, IfSome, List, Option, None, Result, Some, Ok, Err, ℕ, [], true, false}
 use Rattle.std.specs.Option.{option_map_or}
 use Rattle.std.specs.Prelude.{codes, find, if◌then◌else◌, nat_le, option_map}
 use Rattle.std.specs.Str.{bytes_eq}
@@ -16,17 +16,23 @@ use Rattle.hwdb_spec_commands.specs.Jobs.{has_flag}
 use Rattle.hwdb_spec_commands.specs.Near.{PatternAt}
 use Rattle.hwdb_spec_commands.specs.NearAsked.{near_form, near_limit, patterns_from}
 use Rattle.hwdb_spec_commands.specs.Runs.{Told, World}
-use Rattle.hwdb_spec_commands.specs.Told.{Reads, Stop, Unlisted, unread_stop}
+use Rattle.hwdb_spec_commands.specs.Told.{Reads, Stop, Unlisted, stop_of, unread_stop}
 use Rattle.hwdb_spec_commands.specs.Told.Stop.{Plain, Says}
-use Rattle.hwdb_spec.specs.declared.errors.ToolError.TheVariants.{TooManyFiles}
+use Rattle.hwdb_spec.specs.declared.errors.ToolError.TheVariants.{BadDatabase, BadPosition, Memory as OutOfMemory, Read, Replace, TooLarge, TooLong, TooManyFiles, TooManyLines, Write}
+use Rattle.hwdb_spec.specs.Texts.{max_file}
+use Rattle.hwdb_spec_commands.specs.AnsweredLines.{line_error}
+use Rattle.hwdb_spec.specs.Failures.{HasFailed}
+use Rattle.hwdb_spec_commands.specs.declared.refusals.Refusal.{Refusal}
+use Rattle.hwdb_spec_commands.specs.declared.refusals.Refusal.TheVariants as refusal
 use Rattle.hwdb_spec_commands.specs.declared.unread.Unread.{Unread}
+use Rattle.hwdb_spec_commands.specs.declared.unread.Unread.TheVariants as unread
 use Rattle.hwdb_plan.specs.Ask.{lone_answer}
 use Rattle.hwdb_plan.specs.Asking.{asked, if_read, named}
 use Rattle.hwdb_plan.specs.Check.{check_plan, said_of}
 use Rattle.hwdb_plan.specs.Device.{device_answer, device_plan, folder_of as folder_place, place_of, says, sysfs_of}
 use Rattle.hwdb_spec_program.specs.DeviceErrors.{asked_names}
 use Rattle.hwdb_plan.specs.Dump.{text_form}
-use Rattle.hwdb_plan.specs.Ended.{Leaves, Outs, Shows, ShowsEnd}
+use Rattle.hwdb_plan.specs.Ended.{Leaves, OnLines, Outs, Shows, ShowsEnd, StreamStops, Streamed}
 use Rattle.hwdb_plan.specs.Files.{given_files, if_input, read_files}
 use Rattle.hwdb_plan.specs.Folders.{if_listed}
 use Rattle.hwdb_plan.specs.Given.{given_at, given_or_asked}
@@ -39,7 +45,7 @@ use Rattle.hwdb_plan.specs.Plans.{End, Ends, Next, Plan}
 use Rattle.hwdb_plan.specs.Plans.End.{Answers, Lines, Replaces, Stops, Streams}
 use Rattle.hwdb_plan.specs.Plans.Plan.{Done, Input}
 use Rattle.hwdb_spec_program.specs.ProgramPlan.{Around, ShowsPlan, before_last, files_plan, found_plan, has_text, limit_of, plans, program_plan, root_given, strict_given, value_of, values_of}
-use Rattle.hwdb_laws.specs.PlannedRuns.{HavePlan, PlannedRunsAreOne, Tells}
+use Rattle.hwdb_laws.specs.PlannedRuns.{HavePlan, PlannedDoneIsNoError, PlannedRunsAreOne, Tells}
 use Rattle.hwdb_plan.specs.Test.{tested}
 use Rattle.hwdb_plan.specs.Verify.{summary}
 
@@ -47,25 +53,26 @@ use Rattle.hwdb_plan.specs.Verify.{summary}
 abbrev IsDone : End → Type 0
 IsDone e = (s : Stop) → e ≢ Stops s
 
--- an input that wasn't read
-abbrev IsErr : Result (List ℕ) Unread → Type 0
-IsErr (Ok bytes) = ⊥
-IsErr (Err why) = Unit {0}
-
--- what another run is told is the same, or this one did without it
-abbrev Serves : (one other : Result (List ℕ) Unread) → Type 0
-Serves one other = (one ≡ other) ⊎ IsErr one
-
 one_some : {X : Type 0} (x y : X) → Some x ≡ Some y → x ≡ y
 one_some x y is = cc
 
-module _ (w : Reads) (e : End) (is_done : IsDone e) where
+-- a plan's end is that of another plan, unless it is lost
+module _ (w : Reads) (e : End) (Lost : Type 0) where
   abbrev Moves : (p q : Plan) → Type 0
-  Moves p q = Ends w p e → Ends w q e
+  Moves p q = Ends w p e → Ends w q e ⊎ Lost
 
-  no_stop : {X : Type 0} (s : Stop) → Ends w (Done (Stops s)) e → X
+  lost_at : {X : Type 0} (s : Stop) → (e ≡ Stops s → Lost) → Ends w (Done (Stops s)) e → X ⊎ Lost
   unfolding Ends
-  no_stop s ends = absurd (is_done s ends)
+  lost_at s lost ends = inr (lost ends)
+
+  -- an input that wasn't read: the end that says so is lost
+  abbrev IsSpare : Result (List ℕ) Unread → Type 0
+  IsSpare (Ok bytes) = ⊥
+  IsSpare (Err why) = e ≡ Stops (unread_stop (codes "standard input") why) → Lost
+
+  -- what another run is told is the same, or this one did without it
+  abbrev Serves : (one other : Result (List ℕ) Unread) → Type 0
+  Serves one other = (one ≡ other) ⊎ IsSpare one
 
   -- ---- standard input
   given_moves : (one other : Result (List ℕ) Unread) (path : List ℕ) (next : Next) → Serves one other → Moves (given_at one path next) (given_at other path next)
@@ -73,13 +80,13 @@ module _ (w : Reads) (e : End) (is_done : IsDone e) where
     where
       by : (b : Bool) (told : Result (List ℕ) Unread) → Serves told other → Moves (if b then if_read (codes "standard input") next told else Input path (if_read path next))
           (if b then if_read (codes "standard input") next other else Input path (if_read path next))
-      by false told serves ends = ends
-      by true told (inl same) ends = subst (λ t. Ends w (if_read (codes "standard input") next t) e) same ends
-      by true (Ok bytes) (inr err) ends = absurd err
-      by true (Err why) (inr err) ends = no_stop (unread_stop (codes "standard input") why) ends
+      by false told serves ends = inl ends
+      by true told (inl same) ends = inl (subst (λ t. Ends w (if_read (codes "standard input") next t) e) same ends)
+      by true (Ok bytes) (inr spare) ends = absurd spare
+      by true (Err why) (inr spare) ends = lost_at (unread_stop (codes "standard input") why) spare ends
 
   named_moves : (one other : Result (List ℕ) Unread) (given : Option (List ℕ)) (root : List ℕ) (next : Next) → Serves one other → Moves (given_or_asked one given root next) (given_or_asked other given root next)
-  named_moves one other None root next serves ends = ends
+  named_moves one other None root next serves ends = inl ends
   named_moves one other (Some path) root next serves ends = given_moves one other path next serves ends
 
   files_move : (words paths : List (List ℕ)) (one other : Result (List ℕ) Unread) (next : List Source → Plan) → Serves one other → Moves (given_files words one paths next) (given_files words other paths next)
@@ -89,10 +96,10 @@ module _ (w : Reads) (e : End) (is_done : IsDone e) where
       rest text = read_files words text paths [] next
 
       by : (b : Bool) (told : Result (List ℕ) Unread) → Serves told other → Moves (if_input b told rest) (if_input b other rest)
-      by false told serves ends = ends
-      by true told (inl same) ends = subst (λ t. Ends w (if_read (codes "standard input") (λ at text. rest text) t) e) same ends
-      by true (Ok bytes) (inr err) ends = absurd err
-      by true (Err why) (inr err) ends = no_stop (unread_stop (codes "standard input") why) ends
+      by false told serves ends = inl ends
+      by true told (inl same) ends = inl (subst (λ t. Ends w (if_read (codes "standard input") (λ at text. rest text) t) e) same ends)
+      by true (Ok bytes) (inr spare) ends = absurd spare
+      by true (Err why) (inr spare) ends = lost_at (unread_stop (codes "standard input") why) spare ends
 
   -- ---- what given paths mean, and then what follows that
   module _ (one two : List (List ℕ) → Plan) (step : (paths : List (List ℕ)) → Moves (one paths) (two paths)) where
@@ -101,13 +108,13 @@ module _ (w : Reads) (e : End) (is_done : IsDone e) where
       where
         by : (b : Bool) → Moves (if b then one (files_in path found) else Done (Stops (Plain TooManyFiles))) (if b then two (files_in path found) else Done (Stops (Plain TooManyFiles)))
         by true ends = step (files_in path found) ends
-        by false ends = ends
+        by false ends = inl ends
 
     listed_moves : (path : List ℕ) (told : Result (Option (List (List ℕ))) Unlisted)
         → Moves (if_listed (folder_of path) (λ found. if_folder path found one) told) (if_listed (folder_of path) (λ found. if_folder path found two) told)
     listed_moves path (Ok None) ends = step (path ∷ []) ends
     listed_moves path (Ok (Some found)) ends = few_moves path found ends
-    listed_moves path (Err why) ends = ends
+    listed_moves path (Err why) ends = inl ends
 
     path_moves : (path : List ℕ) → Moves (files_for path one) (files_for path two)
     unfolding Ends
@@ -124,12 +131,12 @@ module _ (w : Reads) (e : End) (is_done : IsDone e) where
       path_moves (λ own. named_files more (paths ++ own) one) (λ own. named_files more (paths ++ own) two) (λ own. paths_move more (paths ++ own) one two step) path
 
   -- ---- sysfs: the words of a cause are in errors alone
-  module _ (sight : Sight) (cause other : List ℕ) where
+  module _ (sight : Sight) (cause other : List ℕ) (lost : (text : List ℕ) → e ≡ Stops (Says text) → Lost) where
     folder_moves : (path : List ℕ) (one two : List ℕ → Plan) → ((place : List ℕ) → Moves (one place) (two place)) → Moves (folder_place sight cause path one) (folder_place sight other path two)
     folder_moves path one two step = by (sight.place path)
       where
         by : (o : Option (List ℕ)) → Moves (option_map_or one o (says (no_sysfs_text path cause))) (option_map_or two o (says (no_sysfs_text path other)))
-        by None ends = no_stop (Says (no_sysfs_text path cause)) ends
+        by None ends = lost_at (Says (no_sysfs_text path cause)) (lost (no_sysfs_text path cause)) ends
         by (Some place) ends = step place ends
 
     sysfs_moves : (root : List ℕ) (one two : List ℕ → Plan) → ((sys : List ℕ) → Moves (one sys) (two sys)) → Moves (sysfs_of sight cause root one) (sysfs_of sight other root two)
@@ -142,12 +149,12 @@ module _ (w : Reads) (e : End) (is_done : IsDone e) where
       where
         by : (o u : Option (List ℕ)) → Moves (option_map_or next o (option_map_or (λ path. says (unread_text path cause)) u (says (missing_text sight root sys given cause))))
             (option_map_or next o (option_map_or (λ path. says (unread_text path other)) u (says (missing_text sight root sys given other))))
-        by None None ends = no_stop (Says (missing_text sight root sys given cause)) ends
-        by None (Some path) ends = no_stop (Says (unread_text path cause)) ends
-        by (Some place) u ends = ends
+        by None None ends = lost_at (Says (missing_text sight root sys given cause)) (lost (missing_text sight root sys given cause)) ends
+        by None (Some path) ends = lost_at (Says (unread_text path cause)) (lost (unread_text path cause)) ends
+        by (Some place) u ends = inl ends
 
     device_moves : (root : List ℕ) (form : DeviceForm) (given : Option (List ℕ)) → Moves (device_plan sight cause asked_names root form given) (device_plan sight other asked_names root form given)
-    device_moves root form None = let all = λ (sys : List ℕ). Done (Answers 0 [] (device_list sight asked_names sys)) in sysfs_moves root all all (λ sys ends. ends)
+    device_moves root form None = let all = λ (sys : List ℕ). Done (Answers 0 [] (device_list sight asked_names sys)) in sysfs_moves root all all (λ sys ends. inl ends)
     device_moves root form (Some given) =
         let meant = λ (sys place : List ℕ). asked root (device_answer form (device_at sight asked_names sys place)) in
         sysfs_moves root (λ sys. place_of sight cause root given sys (meant sys)) (λ sys. place_of sight other root given sys (meant sys)) (λ sys. place_moves root given sys (meant sys))
@@ -171,10 +178,15 @@ module _ (w : Reads) (e : End) (is_done : IsDone e) where
     where
       by : (Finds word rows p → Finds word others q → Moves p q) → (b : Bool) → option_map (λ (r : Text × Plan). r.1) (if b then Some row else find (λ (r : Text × Plan). bytes_eq r.0 word) rows) ≡ Some p
           → option_map (λ (r : Text × Plan). r.1) (if b then Some other else find (λ (r : Text × Plan). bytes_eq r.0 word) others) ≡ Some q → Moves p q
-      by rest true is is2 ends = subst (λ (x : Plan). Ends w x e) (one_some other.1 q is2) (move (subst (λ (x : Plan). Ends w x e) (sym (one_some row.1 p is)) ends))
+      by rest true is is2 ends =
+          subst (λ (x : Plan). Ends w x e ⊎ Lost) (one_some other.1 q is2) (move (subst (λ (x : Plan). Ends w x e) (sym (one_some row.1 p is)) ends))
       by rest false is is2 ends = rest is is2 ends
 
-  module _ (sight : Sight) (cause cause2 : List ℕ) (one other : Result (List ℕ) Unread) (serves : Serves one other) where
+  -- the words of a cause are the same, or an end in them is lost
+  abbrev AreServed : (cause cause2 : List ℕ) → Type 0
+  AreServed cause cause2 = (cause ≡ cause2) ⊎ ((text : List ℕ) → e ≡ Stops (Says text) → Lost)
+
+  module _ (sight : Sight) (cause cause2 : List ℕ) (one other : Result (List ℕ) Unread) (serves : Serves one other) (causes : AreServed cause cause2) where
     abbrev first : Around
     first = record { input = one; sight = sight; cause = cause }
 
@@ -182,14 +194,21 @@ module _ (w : Reads) (e : End) (is_done : IsDone e) where
     second = record { input = other; sight = sight; cause = cause2 }
 
     near_moves : (root : List ℕ) (given : List (List ℕ)) (form : List PatternAt → List ℕ) → Moves (near_plan one given root form) (near_plan other given root form)
-    near_moves root [] form ends = ends
+    near_moves root [] form ends = inl ends
     near_moves root (path ∷ more) form ends = files_move (path ∷ more) (path ∷ more) one other (λ sources. Done (Answers 0 [] (form (patterns_from 1 sources)))) serves ends
 
     check_moves : (given : List (List ℕ)) (root : List ℕ) (say : List Source → End) → Moves (check_plan one given root say) (check_plan other given root say)
-    check_moves [] root say ends = ends
+    check_moves [] root say ends = inl ends
     check_moves (path ∷ more) root say ends =
         paths_move (path ∷ more) [] (λ paths. given_files (path ∷ more) one paths (λ sources. Done (say sources))) (λ paths. given_files (path ∷ more) other paths (λ sources. Done (say sources)))
         (λ paths. files_move (path ∷ more) paths one other (λ sources. Done (say sources)) serves) ends
+
+    meant_moves : (root : List ℕ) (form : DeviceForm) (given : Option (List ℕ)) → Moves (device_plan sight cause asked_names root form given) (device_plan sight cause2 asked_names root form given)
+    meant_moves root form given = by causes
+      where
+        by : AreServed cause cause2 → Moves (device_plan sight cause asked_names root form given) (device_plan sight cause2 asked_names root form given)
+        by (inl same) ends = inl (subst (λ (c : List ℕ). Ends w (device_plan sight c asked_names root form given) e) same ends)
+        by (inr lost) ends = device_moves sight cause cause2 lost root form given ends
 
     rows_move : (root : List ℕ) (strict : Bool) (rows : List Row) → RowsMove (plans first root strict rows) (plans second root strict rows)
     rows_move root strict rows =
@@ -199,22 +218,22 @@ module _ (w : Reads) (e : End) (is_done : IsDone e) where
         let files = values_of (codes "FILE") rows in
         let database = first_of (codes "DATABASE") rows in ((
           refl,
-          λ ends. ends,
+          λ ends. inl ends,
           (
             refl,
-            λ ends. ends,
+            λ ends. inl ends,
             (
               refl,
               given_moves one other file (lone_answer file (value_of (codes "MODALIAS") rows)) serves,
               (
                 refl,
-                λ ends. ends,
+                λ ends. inl ends,
                 (
                   refl,
                   near_moves root (before_last words) (near_form json (last_after [] words) (near_limit (limit_of rows))),
                   (
                     refl,
-                    device_moves sight cause cause2 root (device_form (has_flag (codes "strings") rows) json (has_flag (codes "pattern") rows)) (first_of (codes "DEVICE") rows),
+                    meant_moves root (device_form (has_flag (codes "strings") rows) json (has_flag (codes "pattern") rows)) (first_of (codes "DEVICE") rows),
                     (
                       refl,
                       check_moves files root (said_of json strict (values_of (codes "allow") rows)),
@@ -249,13 +268,25 @@ module _ (w : Reads) (e : End) (is_done : IsDone e) where
         by false is is2 = found_moves (matches_of hwdb_app words) (subcommand_of hwdb_app words) p q is is2
 
 -- ---- two runs
--- of two that are told what standard input had, one serves the other
-one_serves : (input : Told) (n m k : ℕ) (told told2 : Result (List ℕ) Unread) → Tells input → IsInputTold input.bytes n m told → IsInputTold input.bytes n k told2 → Serves told told2 ⊎ Serves told2 told
-one_serves input n m k (Err why) told2 tells is is2 = inl (inr tt)
-one_serves input n m k (Ok x) (Err why) tells is is2 = inr (inr tt)
-one_serves input n m k (Ok x) (Ok y) (bytes, told) is is2 =
-    let had = λ (z : List ℕ) (so : IfSome input.bytes (λ t. z ≡ t)). subst (λ (o : Option (List ℕ)). IfSome o (λ t. z ≡ t)) told so in
-    inl (inl (ap Ok (had x is.0 ∙ sym (had y is2.0))))
+-- both tell what standard input had, or one of them did without it
+one_told : (input : Told) (n m k : ℕ) (x y : List ℕ) → Tells input → IsInputTold input.bytes n m (Ok x) → IsInputTold input.bytes n k (Ok y) → x ≡ y
+one_told input n m k x y (bytes, told) is is2 =
+    let had = λ (z : List ℕ) (so : IfSome input.bytes (λ t. z ≡ t)). subst (λ (o : Option (List ℕ)). IfSome o (λ t. z ≡ t)) told so in had x is.0 ∙ sym (had y is2.0)
+
+-- no end without an error is lost
+abbrev ServesDone : Reads → (one other : Result (List ℕ) Unread) → Type 0
+ServesDone w one other = (g : End) → IsDone g → Serves w g ⊥ one other
+
+one_serves : (w : Reads) (input : Told) (n m k : ℕ) (told told2 : Result (List ℕ) Unread) → Tells input → IsInputTold input.bytes n m told → IsInputTold input.bytes n k told2 → ServesDone w told told2 ⊎ ServesDone w told2 told
+one_serves w input n m k (Err why) told2 tells is is2 = inl (λ g done. inr (λ end. done (unread_stop (codes "standard input") why) end))
+one_serves w input n m k (Ok x) (Err why) tells is is2 = inr (λ g done. inr (λ end. done (unread_stop (codes "standard input") why) end))
+one_serves w input n m k (Ok x) (Ok y) tells is is2 = inl (λ g done. inl (ap Ok (one_told input n m k x y tells is is2)))
+
+done_moves : (w : Reads) (g : End) → IsDone g → (sight : Sight) (cause cause2 : List ℕ) (one other : Result (List ℕ) Unread) → Serves w g ⊥ one other → (words : List Text) (p q : Plan)
+    → program_plan (record { input = one; sight = sight; cause = cause }) words ≡ Some p → program_plan (record { input = other; sight = sight; cause = cause2 }) words ≡ Some q → Ends w p g → Ends w q g
+done_moves w g done sight cause cause2 one other serves words p q is is2 ends =
+    ⊎_elim (λ moved. moved) (λ none. absurd none)
+    (plan_moves w g ⊥ sight cause cause2 one other serves (inr (λ text end. done (Says text) end)) words p q is is2 ends)
 
 module _ (one_end : DoneIsOne) where
   done_is_one : (w : Reads) (p q : Plan) (e f : End) → IsDone e → IsDone f → ((g : End) → IsDone g → Ends w p g → Ends w q g) ⊎ ((g : End) → IsDone g → Ends w q g → Ends w p g)
@@ -283,7 +314,7 @@ shown_done (Streams text) input input_now before now n shows = λ s is. cc
 shown_done (Replaces folder bytes said status) input input_now before now n shows = λ s is. cc
 
 module _ (one_end : DoneIsOne) (words : List Text) (w : Reads) (sight : Sight) (input input_now input_now2 : Told) (before now now2 : Outs) (status status2 : ℕ) (have : HavePlan words)
-    (of_input : Tells input) (of_err : Tells before.err) (of_out : Tells before.out) where
+    (of_input : Tells input) where
   abbrev Shown : (now : Outs) (input_now : Told) (status : ℕ) → Plan → Type 0
   Shown after input_after n p = ShowsEnd w p input input_after before after (Ok n)
 
@@ -293,37 +324,154 @@ module _ (one_end : DoneIsOne) (words : List Text) (w : Reads) (sight : Sight) (
   abbrev AreOne : (p q : Plan) → Type 0
   AreOne p q = ((g : End) → IsDone g → Ends w p g → Ends w q g) ⊎ ((g : End) → IsDone g → Ends w q g → Ends w p g)
 
-  ends_one : (p q : Plan) → AreOne p q → Shown now input_now status p → Shown now2 input_now2 status2 q → IsOne
-  ends_one p q one (inr none) b = absurd none.0
-  ends_one p q one (inl a) (inr none) = absurd none.0
-  ends_one p q one (inl (e, ends, shows)) (inl (f, ends2, shows2)) =
+  ends_one : Tells before.err → Tells before.out → (p q : Plan) → AreOne p q → Shown now input_now status p → Shown now2 input_now2 status2 q → IsOne
+  ends_one of_err of_out p q one (inr none) b = absurd none.0
+  ends_one of_err of_out p q one (inl a) (inr none) = absurd none.0
+  ends_one of_err of_out p q one (inl (e, ends, shows)) (inl (f, ends2, shows2)) =
       let same = done_is_one one_end w p q e f (shown_done e input input_now before now status shows) (shown_done f input input_now2 before now2 status2 shows2) one ends ends2 in
       leaves_one e (over_files input before sight) (over_files input_now now sight) (over_files input_now2 now2 sight) status status2
       (record { input = of_input.0; err = of_err.0; out = of_out.0; of_input = of_input.1; of_err = of_err.1; of_out = of_out.1 })
       (leaves e sight input input_now before now status shows)
       (leaves e sight input input_now2 before now2 status2 (subst (λ (x : End). Shows x input input_now2 before now2 (Ok status2)) (sym same) shows2))
 
-  plans_are_one : (told told2 : Result (List ℕ) Unread) (cause cause2 : List ℕ) → Serves told told2 ⊎ Serves told2 told
+  plans_are_one : (told told2 : Result (List ℕ) Unread) (cause cause2 : List ℕ) → ServesDone w told told2 ⊎ ServesDone w told2 told
       → AreOne (have.plan (record { input = told; sight = sight; cause = cause })) (have.plan (record { input = told2; sight = sight; cause = cause2 }))
   plans_are_one told told2 cause cause2 serves =
       let first : Around = record { input = told; sight = sight; cause = cause } in
       let second : Around = record { input = told2; sight = sight; cause = cause2 } in
       ⊎_elim
-      (λ one. inl (λ g done. plan_moves w g done sight cause cause2 told told2 one words (have.plan first) (have.plan second) (have.is first) (have.is second)))
-      (λ other. inr (λ g done. plan_moves w g done sight cause2 cause told2 told other words (have.plan second) (have.plan first) (have.is second) (have.is first)))
+      (λ one. inl (λ g done. done_moves w g done sight cause cause2 told told2 (one g done) words (have.plan first) (have.plan second) (have.is first) (have.is second)))
+      (λ other. inr (λ g done. done_moves w g done sight cause2 cause told2 told (other g done) words (have.plan second) (have.plan first) (have.is second) (have.is first)))
       serves
 
   of_plan : (a : Around) (after : Outs) (input_after : Told) (n : ℕ) → IfSome (program_plan a words) (Shown after input_after n) → Shown after input_after n (have.plan a)
   of_plan a after input_after n shows = subst (λ (o : Option Plan). IfSome o (Shown after input_after n)) (have.is a) shows
 
-  runs_one : ShowsPlan (λ a. program_plan a words) w sight input input_now before now (Ok status) → ShowsPlan (λ a. program_plan a words) w sight input input_now2 before now2 (Ok status2) → IsOne
-  runs_one (told, so, (cause, line, shows)) (told2, so2, (cause2, line2, shows2)) =
+  runs_one : Tells before.err → Tells before.out → ShowsPlan (λ a. program_plan a words) w sight input input_now before now (Ok status) → ShowsPlan (λ a. program_plan a words) w sight input input_now2 before now2 (Ok status2) → IsOne
+  runs_one of_err of_out (told, so, (cause, line, shows)) (told2, so2, (cause2, line2, shows2)) =
       let first : Around = record { input = told; sight = sight; cause = cause } in
       let second : Around = record { input = told2; sight = sight; cause = cause2 } in
-      ends_one (have.plan first) (have.plan second)
-      (plans_are_one told told2 cause cause2 (one_serves input input.failures input_now.failures input_now2.failures told told2 of_input so so2))
+      ends_one of_err of_out (have.plan first) (have.plan second)
+      (plans_are_one told told2 cause cause2 (one_serves w input input.failures input_now.failures input_now2.failures told told2 of_input so so2))
       (of_plan first now input_now status shows) (of_plan second now2 input_now2 status2 shows2)
 
 pub planned_runs : DoneIsOne → PlannedRunsAreOne
 planned_runs one_end words w sight input input_now input_now2 before now now2 status status2 have of_input of_err of_out =
     runs_one one_end words w sight input input_now input_now2 before now now2 status status2 have of_input of_err of_out
+
+-- ---- a run that is done, and one that ends with an error
+too_long : (n most : ℕ) → n ≤ most → most < n → ⊥
+too_long n most few many = omega (arith, few, many)
+
+no_error : {X : Type 0} (x : X) {o : Option X} → o ≡ None → o ≡ Some x → ⊥
+no_error x none some = cc
+
+-- an error that says that memory was refused
+no_memory : (r : Refusal) → stop_of r ≡ Plain OutOfMemory → r ≡ refusal.Plain OutOfMemory
+no_memory (refusal.Plain error) is = ap refusal.Plain one
+  where
+    one : error ≡ OutOfMemory
+    one = cc
+no_memory (refusal.At error path cause) is = absurd cc
+no_memory refusal.NoDatabase is = absurd cc
+no_memory (refusal.InWords text) is = absurd cc
+
+module _ (one_end : DoneIsOne) (words : List Text) (w : Reads) (sight : Sight) (input input_now input_now2 : Told) (before now now2 : Outs) (status : ℕ) (r : Refusal) (have : HavePlan words)
+    (of_input : Tells input) (unfailed : HasFailed input.failures input_now2.failures → ⊥) where
+  abbrev Allowed : Type 0
+  Allowed = (r ≡ refusal.Plain OutOfMemory) ⊎ (r ≡ refusal.Plain Write)
+
+  abbrev plan_of : (told : Result (List ℕ) Unread) (cause : List ℕ) → Plan
+  plan_of told cause = have.plan (record { input = told; sight = sight; cause = cause })
+
+  -- the plan stops, so that the other run isn't done
+  moved : (e : End) → IsDone e → (one other : Result (List ℕ) Unread) (cause cause2 : List ℕ) → Serves w e ⊥ one other → Ends w (plan_of one cause) e → Ends w (plan_of other cause2) e
+  moved e done one other cause cause2 serves ends =
+      done_moves w e done sight cause cause2 one other serves words (plan_of one cause) (plan_of other cause2)
+      (have.is (record { input = one; sight = sight; cause = cause })) (have.is (record { input = other; sight = sight; cause = cause2 })) ends
+
+  stops : (e : End) (s : Stop) → IsDone e → (told told2 : Result (List ℕ) Unread) (cause cause2 : List ℕ) → IsInputTold input.bytes input.failures input_now.failures told
+      → IsInputTold input.bytes input.failures input_now2.failures told2 → Ends w (plan_of told cause) e → Ends w (plan_of told2 cause2) (Stops s) → stop_of r ≡ s → Allowed
+  stops e s done (Err why) told2 cause cause2 is is2 ends ends2 says =
+      absurd (done s (one_end w (plan_of told2 cause2) e (Stops s) done (moved e done (Err why) told2 cause cause2 (inr (λ end. done (unread_stop (codes "standard input") why) end)) ends) ends2))
+  stops e s done (Ok x) (Ok y) cause cause2 is is2 ends ends2 says =
+      let same = one_told input input.failures input_now.failures input_now2.failures x y of_input is is2 in
+      absurd (done s (one_end w (plan_of (Ok y) cause2) e (Stops s) done (moved e done (Ok x) (Ok y) cause cause2 (inl (ap Ok same)) ends) ends2))
+  stops e s done (Ok x) (Err unread.TooLong) cause cause2 is is2 ends ends2 says =
+      let had : x ≡ of_input.0 = subst (λ (o : Option (List ℕ)). IfSome o (λ t. x ≡ t)) of_input.1 is.0 in
+      let long : max_file < length of_input.0 = subst (λ (o : Option (List ℕ)). IfSome o (λ t. max_file < length t)) of_input.1 is2 in
+      let short : length of_input.0 ≤ max_file = subst (λ (xs : List ℕ). length xs ≤ max_file) had is.1 in
+      absurd (too_long (length of_input.0) max_file short long)
+  stops e s done (Ok x) (Err (unread.Failed why)) cause cause2 is is2 ends ends2 says = absurd (unfailed is2)
+  stops e s done (Ok x) (Err unread.Memory) cause cause2 is is2 ends ends2 says =
+      let first : Around = record { input = Err unread.Memory; sight = sight; cause = cause2 } in
+      let second : Around = record { input = Ok x; sight = sight; cause = cause2 } in
+      ⊎_elim
+      (λ ends3. absurd (done s (one_end w (plan_of (Ok x) cause2) e (Stops s) done (moved e done (Ok x) (Ok x) cause cause2 (inl refl) ends) ends3)))
+      (λ memory. inl (no_memory r (says ∙ memory)))
+      (plan_moves w (Stops s) (s ≡ Plain OutOfMemory) sight cause2 cause2 (Err unread.Memory) (Ok x) (inr (λ end. cc)) (inl refl) words (have.plan first) (have.plan second) (have.is first) (have.is second) ends2)
+
+  -- lines of standard input were answered, all of them in the one run
+  streams : (text : List (List ℕ) → List ℕ) → Streamed text input.bytes before.out now.out → (x : Refusal) → r ≡ x → StreamStops text input input_now2 before.out now2.out x → Allowed
+  streams text all (refusal.At Read at cause) is h = absurd (unfailed h.1)
+  streams text all (refusal.At TooLong at cause) is h =
+      absurd (no_error TooLong (subst (λ (o : Option (List ℕ)). OnLines o (λ lines. line_error lines ≡ None)) of_input.1 all.all) (subst (λ (o : Option (List ℕ)). OnLines o (λ lines. line_error lines ≡ Some TooLong)) of_input.1 h.1))
+  streams text all (refusal.Plain TooManyLines) is h =
+      absurd (no_error TooManyLines (subst (λ (o : Option (List ℕ)). OnLines o (λ lines. line_error lines ≡ None)) of_input.1 all.all) (subst (λ (o : Option (List ℕ)). OnLines o (λ lines. line_error lines ≡ Some TooManyLines)) of_input.1 h.0))
+  streams text all (refusal.Plain Write) is h = inr is
+  streams text all (refusal.Plain OutOfMemory) is h = inl is
+  streams text all (refusal.At Write at cause) is h = absurd h
+  streams text all (refusal.At TooManyFiles at cause) is h = absurd h
+  streams text all (refusal.At TooManyLines at cause) is h = absurd h
+  streams text all (refusal.At TooLarge at cause) is h = absurd h
+  streams text all (refusal.At BadPosition at cause) is h = absurd h
+  streams text all (refusal.At (BadDatabase f) at cause) is h = absurd h
+  streams text all (refusal.At (Replace u) at cause) is h = absurd h
+  streams text all (refusal.At OutOfMemory at cause) is h = absurd h
+  streams text all (refusal.Plain Read) is h = absurd h
+  streams text all (refusal.Plain TooLong) is h = absurd h
+  streams text all (refusal.Plain TooManyFiles) is h = absurd h
+  streams text all (refusal.Plain TooLarge) is h = absurd h
+  streams text all (refusal.Plain BadPosition) is h = absurd h
+  streams text all (refusal.Plain (BadDatabase f)) is h = absurd h
+  streams text all (refusal.Plain (Replace u)) is h = absurd h
+  streams text all refusal.NoDatabase is h = absurd h
+  streams text all (refusal.InWords text2) is h = absurd h
+
+  -- the end of the one run is shown by the other one with an error
+  shown_alike : (e : End) → Shows e input input_now before now (Ok status) → Shows e input input_now2 before now2 (Err r) → Allowed
+  shown_alike (Stops s) shows shows2 = absurd shows.0
+  shown_alike (Answers n err out) shows shows2 = inr shows2.0
+  shown_alike (Lines lines) shows shows2 = ⊎_elim (λ cut. inr cut.0) (λ memory. inl memory.0) shows2.0
+  shown_alike (Streams text) shows shows2 = streams text shows.0.1 r refl shows2.0
+  shown_alike (Replaces folder bytes said n) shows shows2 = absurd shows
+
+  ends_so : (e f : End) (told told2 : Result (List ℕ) Unread) (cause cause2 : List ℕ) → IsInputTold input.bytes input.failures input_now.failures told
+      → IsInputTold input.bytes input.failures input_now2.failures told2 → Ends w (plan_of told cause) e → Ends w (plan_of told2 cause2) f
+      → Shows e input input_now before now (Ok status) → Shows f input input_now2 before now2 (Err r) → Allowed
+  ends_so e (Stops s) told told2 cause cause2 is is2 ends ends2 shows shows2 = stops e s (shown_done e input input_now before now status shows) told told2 cause cause2 is is2 ends ends2 shows2.0
+  ends_so e (Answers n err out) told told2 cause cause2 is is2 ends ends2 shows shows2 = inr shows2.0
+  ends_so e (Lines lines) told told2 cause cause2 is is2 ends ends2 shows shows2 = ⊎_elim (λ cut. inr cut.0) (λ memory. inl memory.0) shows2.0
+  ends_so e (Streams text) told told2 cause cause2 is is2 ends ends2 shows shows2 =
+      let done = shown_done e input input_now before now status shows in
+      let same = done_is_one one_end w (plan_of told cause) (plan_of told2 cause2) e (Streams text) done (λ s is. cc)
+      (plans_are_one one_end words w sight input input_now input_now2 before now now2 status status have of_input told told2 cause cause2 (one_serves w input input.failures input_now.failures input_now2.failures told told2 of_input is is2)) ends ends2 in
+      shown_alike (Streams text) (subst (λ (x : End). Shows x input input_now before now (Ok status)) same shows) shows2
+  ends_so e (Replaces folder bytes said n) told told2 cause cause2 is is2 ends ends2 shows shows2 = absurd shows2
+
+  both : (told told2 : Result (List ℕ) Unread) (cause cause2 : List ℕ) → IsInputTold input.bytes input.failures input_now.failures told
+      → IsInputTold input.bytes input.failures input_now2.failures told2 → ShowsEnd w (plan_of told cause) input input_now before now (Ok status)
+      → ShowsEnd w (plan_of told2 cause2) input input_now2 before now2 (Err r) → Allowed
+  both told told2 cause cause2 is is2 (inr none) b = absurd none.0
+  both told told2 cause cause2 is is2 (inl a) (inr none) = inl none.0
+  both told told2 cause cause2 is is2 (inl (e, ends, shows)) (inl (f, ends2, shows2)) = ends_so e f told told2 cause cause2 is is2 ends ends2 shows shows2
+
+  no_error_then : ShowsPlan (λ a. program_plan a words) w sight input input_now before now (Ok status) → ShowsPlan (λ a. program_plan a words) w sight input input_now2 before now2 (Err r) → Allowed
+  no_error_then (told, so, (cause, line, shows)) (told2, so2, (cause2, line2, shows2)) =
+      both told told2 cause cause2 so so2
+      (subst (λ (o : Option Plan). IfSome o (λ p. ShowsEnd w p input input_now before now (Ok status))) (have.is (record { input = told; sight = sight; cause = cause })) shows)
+      (subst (λ (o : Option Plan). IfSome o (λ p. ShowsEnd w p input input_now2 before now2 (Err r))) (have.is (record { input = told2; sight = sight; cause = cause2 })) shows2)
+
+pub planned_done : DoneIsOne → PlannedDoneIsNoError
+planned_done one_end words w sight input input_now input_now2 before now now2 status r have of_input unfailed =
+    no_error_then one_end words w sight input input_now input_now2 before now now2 status r have of_input unfailed

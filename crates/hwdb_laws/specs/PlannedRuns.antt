@@ -1,9 +1,13 @@
 -- What two runs with the same words have in common, if the words have a plan. Our choice.
-use Rattle.std.specs.Prelude.{◌≡◌, ℕ, List, Some, Ok}
+use Rattle.std.specs.Prelude.{◌≡◌, ◌⊎◌, ℕ, List, Some, Ok, Err}
 use Rattle.clap.specs.Walk.{Text}
+use Rattle.hwdb_spec.specs.Failures.{HasFailed}
+use Rattle.hwdb_spec.specs.declared.errors.ToolError.TheVariants.{Memory, Write}
 use Rattle.hwdb_spec_commands.specs.DeviceTree.{Sight}
 use Rattle.hwdb_spec_commands.specs.Runs.{Told}
 use Rattle.hwdb_spec_commands.specs.Told.{Reads}
+use Rattle.hwdb_spec_commands.specs.declared.refusals.Refusal.{Refusal}
+use Rattle.hwdb_spec_commands.specs.declared.refusals.Refusal.TheVariants.{Plain}
 use Rattle.hwdb_plan.specs.Ended.{Outs}
 use Rattle.hwdb_plan.specs.Plans.{Plan}
 use Rattle.hwdb_spec_program.specs.ProgramPlan.{Around, ShowsPlan, program_plan}
@@ -25,3 +29,12 @@ PlannedRunsAreOne = (words : List Text) (w : Reads) (sight : Sight) (input input
     → ShowsPlan (λ a. program_plan a words) w sight input input_now before now (Ok status)
     → ShowsPlan (λ a. program_plan a words) w sight input input_now2 before now2 (Ok status2)
     → (status ≡ status2) × (now.err.bytes ≡ now2.err.bytes) × (now.out.bytes ≡ now2.out.bytes)
+
+-- One of two such runs ends with no error. Then the other one ends with one only for want of memory, or since an output failed. Or a
+-- call of standard input failed.
+abbrev pub PlannedDoneIsNoError : Type 0
+PlannedDoneIsNoError = (words : List Text) (w : Reads) (sight : Sight) (input input_now input_now2 : Told) (before now now2 : Outs) (status : ℕ) (r : Refusal)
+    → HavePlan words → Tells input → (HasFailed input.failures input_now2.failures → ⊥)
+    → ShowsPlan (λ a. program_plan a words) w sight input input_now before now (Ok status)
+    → ShowsPlan (λ a. program_plan a words) w sight input input_now2 before now2 (Err r)
+    → (r ≡ Plain Memory) ⊎ (r ≡ Plain Write)

@@ -1,11 +1,13 @@
 //! What two runs with the same words have in common, if the words have a plan. It follows from the laws of all plans.
-ghost use Rattle.hwdb_laws.specs.PlannedRuns.{PlannedRunsAreOne};
+ghost use Rattle.hwdb_laws.specs.PlannedRuns.{PlannedDoneIsNoError, PlannedRunsAreOne};
 
 use hwdb_plan::done_is_one;
 
-/// Over one input, what words with a plan leave on both outputs is one, and so is the status, if no run of them ends with an error.
+/// Over one input, what words with a plan leave on both outputs is one, and so is the status, if no run of them ends with an error. If one run
+/// of them ends with none, another one ends with an error only for want of memory, or since an output or standard input failed.
 pub fn planned_runs_are_one()
-    ensures { PlannedRunsAreOne }
+    ensures one { PlannedRunsAreOne }
+    ensures done { PlannedDoneIsNoError }
 {
     done_is_one();
 }
