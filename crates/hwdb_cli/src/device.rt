@@ -28,8 +28,7 @@ pub fn command<'a>(alloc: Global) -> Draft<'a>
     ensures { IsDraft device_app result }
 {
     let strings = "Print the strings alone, one a line";
-    let pattern =
-        "Print records to begin with, which fit the device; before --json and --strings";
+    let pattern = "Print records to begin with, which fit the device; before --json and --strings";
     let path = "A device: its name, as event3, its node below /dev, or its path below /sys";
     let command = shared(alloc, "device", ABOUT, AFTER);
     let with_text = with_argument(command, text_option(alloc));
