@@ -3,7 +3,7 @@ use Rattle.std.proofs.Common.{Bool, ◌≡◌, ℕ, zero, suc, ◌+◌, ◌<◌,
 use Rattle.std.proofs.lemmas.List.{append-nil}
 use Rattle.hwdb_spec.specs.Folders.{Source}
 use Rattle.hwdb_spec_commands.specs.Checks.{empty_tally, tally_from, tally_of, tally_of_both}
-use Rattle.hwdb_spec_commands.specs.Findings.{file_text}
+use Rattle.hwdb_spec_commands.specs.AllowedKinds.{file_text}
 use Rattle.hwdb_spec_commands.specs.declared.Tally.{Tally}
 use Rattle.hwdb_check.specs.declared.files.TextFile.{TextFile}
 use Rattle.hwdb_check.specs.Checks.{source_of, files_text}

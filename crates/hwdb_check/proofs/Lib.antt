@@ -1,3 +1,4 @@
+pub mod AllowedLemmas
 pub mod FileLemmas
 pub mod LineLemmas
 pub mod WarningLemmas
@@ -9,6 +10,7 @@ pub mod AscendLemmas
 pub mod RunLemmas
 pub mod SoughtLemmas
 pub mod LawLemmas
+pub mod CommentLaws
 pub mod BracketLemmas
 pub mod CalmLemmas
 pub mod RecordLemmas

@@ -1,7 +1,7 @@
 -- The errors of checking text files, and what its types mean. Our choice.
 use Rattle.std.specs.Prelude.{Bool, ℕ, List, flat_map}
 use Rattle.hwdb_spec.specs.Folders.{Source}
-use Rattle.hwdb_spec_commands.specs.Findings.{file_text}
+use Rattle.hwdb_spec_commands.specs.AllowedKinds.{file_text}
 use Rattle.hwdb_check.specs.declared.files.TextFile.{TextFile}
 
 -- a file with the path that is printed of it

@@ -14,7 +14,7 @@ use Rattle.hwdb_spec_commands.specs.declared.WarningKind.TheVariants.{ByteOrderM
 use Rattle.hwdb_spec_commands.specs.declared.WarningKind.{WarningKind}
 use Rattle.hwdb_spec_commands.specs.declared.vocabulary.Misuse.TheVariants.{NearName, OldName, ScanCode, SingularMatrix, TwoDefaults, UnfitValue, UnknownKey, ZeroRow}
 use Rattle.hwdb_spec_commands.specs.declared.vocabulary.Misuse.{Misuse}
-use Rattle.hwdb_check.specs.declared.kinds.TheConstants.{KINDS}
+use Rattle.hwdb_spec_commands.specs.declared.kinds.TheConstants.{KINDS}
 
 -- ---- patterns
 -- the bytes of a run, from its first one to its last

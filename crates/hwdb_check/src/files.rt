@@ -2,16 +2,17 @@
 ghost use Rattle.std.specs.Prelude.{◌≡◌, ◌≤◌, ◌++◌, flat_map, map, string_bytes, IfOk, IfErr, OnOk};
 ghost use Rattle.hwdb_spec.specs.Lines.{lines};
 ghost use Rattle.hwdb_spec_commands.specs.Reports.{text_of_line};
-ghost use Rattle.hwdb_spec_commands.specs.Findings.{file_text, told_fault};
+ghost use Rattle.hwdb_spec_commands.specs.AllowedKinds.{file_text};
+ghost use Rattle.hwdb_spec_commands.specs.Findings.{told_fault};
 ghost use Rattle.hwdb_spec_commands.specs.Checks.{tally_of, empty_tally, tally_from, check_text, check_status, end_text};
 ghost use Rattle.hwdb_check.specs.Checks.{source_of, files_text};
 ghost use Rattle.hwdb_spec_commands.specs.CheckErrors.{IsFileRefusal, IsCheckRefusal};
 
 use crate::kinds::Telling;
+use crate::left::left_of;
 use crate::line_texts::{find_line, first_start};
 use crate::reports::push_fault;
-use crate::tallies::{empty_tally, status_of, tally_line, together};
-use crate::warnings::warnings_of;
+use crate::tallies::{both, empty_tally, status_of, tally_line, together};
 use hwdb_spec::Fault;
 use hwdb_spec_commands::Tally;
 use hwdb_text::{ScanError, scan};
@@ -83,21 +84,14 @@ fn look_over(
     ensures errors { IfErr result (IsFileRefusal bytes.now) }
 {
     let scanned = scan(alloc, bytes)?;
-    let warned = warnings_of(
-        alloc,
-        telling,
-        path,
-        bytes,
-        &scanned.assignments,
-        &scanned.faults,
-    )?;
+    let left = left_of(alloc, telling, path, bytes, &scanned)?;
     let mut reports = reports_of(alloc, telling.json, path, bytes, &scanned.faults)?;
-    reports.extend_from_slice(&warned.text)?;
+    reports.extend_from_slice(&left.warned.text)?;
     let tally = Tally {
         files: 1,
         assignments: scanned.assignments.len() as u64,
         faults: scanned.faults.len() as u64,
-        warnings: warned.found.len() as u64,
+        warnings: both(left.warned.found.len() as u64, left.unknown.len() as u64),
     };
     Ok(Findings { reports, tally })
 }

@@ -1,38 +1,14 @@
 //! The names of faults and warnings, and which warnings are told.
-ghost use Rattle.std.specs.Prelude.{◌≡◌, map, string_bytes};
+ghost use Rattle.std.specs.Prelude.{◌≡◌, flat_map};
 ghost use Rattle.std.specs.List.{list_any};
 ghost use Rattle.hwdb_spec.specs.Folders;
 ghost use Rattle.hwdb_spec_commands.specs.Kinds;
+ghost use Rattle.hwdb_spec_commands.specs.AllowedKinds.{names_in};
+ghost use Rattle.hwdb_check.specs.Internal.{texts};
 
-use hwdb_properties::same;
+use crate::allowed::is_in;
 use hwdb_spec::{FaultKind, Judgement};
 use hwdb_spec_commands::{Misuse, WarningKind};
-
-/// The names of all kinds of warnings, a line each.
-pub const KINDS: &str = "byte-order-mark
-leading-tab
-carriage-return
-open-bracket
-empty-range
-spaced-equals
-cut-value
-repeated-match
-replaced
-near-name
-old-name
-scan-code
-unknown-key
-unfit-value
-zero-row
-singular-matrix
-two-defaults
-unread
-unknown-property
-unpaired
-unknown-prefix
-dead-pattern
-unlikely-pattern
-too-long-for-udev";
 
 /// How findings are told.
 #[derive(Clone, Copy)]
@@ -41,6 +17,15 @@ pub struct Telling<'a> {
     pub json: bool,
     /// The names of the kinds of warnings that aren't told.
     pub allowed: &'a [String],
+}
+
+/// How the findings of a line are told.
+#[derive(Clone, Copy)]
+pub struct Manner<'a> {
+    /// Whether as lines of JSON.
+    pub json: bool,
+    /// The names of the kinds of warnings that aren't told there, with commas between those of a text.
+    pub allowed: &'a [&'a [u8]],
 }
 
 /// The name of a kind of fault.
@@ -109,12 +94,13 @@ pub fn warning_name(kind: WarningKind) -> &'static str
     }
 }
 
-/// Whether a name is one of some.
-fn is_among(name: &[u8], names: &[String]) -> bool
-    ensures { result ≡ list_any (Folders.same name.now) (map string_bytes names.now) }
+/// Whether a name is one of those in some texts.
+fn is_among(name: &[u8], names: &[&[u8]]) -> bool
+    ensures { result
+        ≡ list_any (λ text. list_any (Folders.same name.now) (names_in text)) (texts names.now) }
 {
-    for own in names {
-        if same(name, own.as_bytes()) {
+    for text in names {
+        if is_in(name, text) {
             return true;
         }
     }
@@ -122,8 +108,8 @@ fn is_among(name: &[u8], names: &[String]) -> bool
 }
 
 /// Whether a warning is told.
-pub fn is_told(allowed: &[String], kind: WarningKind) -> bool
-    ensures { result ≡ Kinds.is_told (map string_bytes allowed.now) kind }
+pub fn is_told(allowed: &[&[u8]], kind: WarningKind) -> bool
+    ensures { result ≡ Kinds.is_told (flat_map names_in (texts allowed.now)) kind }
 {
     !is_among(warning_name(kind).as_bytes(), allowed)
 }

@@ -1,4 +1,6 @@
 //! Laws over the definitions alone. Each function does nothing: its contract is the law.
+ghost use Rattle.hwdb_check.specs.Annotations.{AnnotationRows};
+ghost use Rattle.hwdb_check.specs.Comments.{BareAreTold, CommentRows, FaultsStay, LeftAreTold, LinesAreMarked, RecordsAreApart};
 ghost use Rattle.hwdb_check.specs.Laws.{KindsAreNamed, LikelihoodIsJudged, MendRows, MendsAreLikely, PatternsAreJudged, RunsAreAll, TooDeepRows, TooLongRows, UnmatchedRows};
 
 use hwdb_forms::forms_are_tested;
@@ -45,4 +47,21 @@ pub fn deep_lines_are_told()
 #[tactic(auto, using(crate::proofs::LawLemmas::named_kinds))]
 pub fn kinds_are_named()
     ensures { KindsAreNamed }
+{}
+
+/// A comment lets kinds of warnings pass in its own record: what is on one side of a line that ends a record doesn't depend on the other
+/// side. Each line is looked at once. Its other warnings are left, and so are all faults.
+pub fn comments_are_told()
+    ensures lines { LinesAreMarked }
+    ensures apart { RecordsAreApart }
+    ensures left { LeftAreTold }
+    ensures bare { BareAreTold }
+    ensures faults { FaultsStay }
+    ensures rows { CommentRows }
+{}
+
+/// How a finding is shown beside its line by GitHub.
+#[tactic(auto, using(crate::proofs::CommentLaws::annotation_rows))]
+pub fn annotations_are_told()
+    ensures { AnnotationRows }
 {}

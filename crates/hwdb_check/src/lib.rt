@@ -18,6 +18,9 @@
 //! | `unread` | properties that aren't read below the patterns of their record |
 //! | `companions` | properties that are read with others alone, which their patterns aren't given |
 //! | `kinds` | the names of faults and warnings, and which warnings are told |
+//! | `allowed` | comments that let kinds of warnings pass in their record |
+//! | `left` | the warnings that comments leave, and names in comments that are no kinds |
+//! | `annotations` | a finding as GitHub shows it beside its line |
 //! | `json_lines` | a fault or a warning as a line of JSON |
 //! | `repeats` | match lines that their record has already |
 //! | `replacements` | assignments that a later line of the same file replaces |
@@ -30,6 +33,8 @@
 //! | `laws` | what is proved of the definitions alone |
 #![tactic(auto)]
 
+mod allowed;
+mod annotations;
 mod companions;
 mod files;
 mod json_lines;
@@ -37,6 +42,7 @@ mod judgements;
 mod kinds;
 mod known;
 mod laws;
+mod left;
 mod line_texts;
 mod line_warnings;
 mod mends;
@@ -52,12 +58,14 @@ mod too_long;
 mod unread;
 mod warnings;
 
+pub use annotations::{Annotation, push_annotation};
 pub use files::{Checked, TextFile, check_files, reports_of};
 pub use hwdb_show::push_shown;
-pub use kinds::{KINDS, Telling};
+pub use hwdb_spec_commands::KINDS;
+pub use kinds::Telling;
 pub use laws::{
-    deep_lines_are_told, kinds_are_named, likelihood_is_judged, mends_are_likely,
-    patterns_are_judged,
+    annotations_are_told, comments_are_told, deep_lines_are_told, kinds_are_named,
+    likelihood_is_judged, mends_are_likely, patterns_are_judged,
 };
 pub use line_texts::{LineStart, find_line, first_start};
 pub use tallies::push_count;

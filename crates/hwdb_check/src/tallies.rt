@@ -19,7 +19,7 @@ pub fn empty_tally() -> Tally
 }
 
 /// Two counts together, at most the greatest number.
-fn both(one: u64, other: u64) -> u64
+pub fn both(one: u64, other: u64) -> u64
     ensures { result ≡ both one other }
 {
     one.saturating_add(other)

@@ -1,5 +1,5 @@
 //! Warnings: lines that are read, but likely not as they were meant.
-ghost use Rattle.std.specs.Prelude.{◌≡◌, ◌++◌, ◌∷◌, [], filter, flat_map, map, string_bytes, take, IfOk, OnOk};
+ghost use Rattle.std.specs.Prelude.{◌≡◌, ◌++◌, ◌∷◌, [], filter, flat_map, map, take, IfOk, OnOk};
 ghost use Rattle.hwdb_spec.specs.Lines.{Line, clean_line};
 ghost use Rattle.hwdb_spec.specs.Records;
 ghost use Rattle.hwdb_spec_commands.specs.Findings.{column, finding_json, line_text, told_warning, warning_json_line, warnings_text};
@@ -8,14 +8,16 @@ ghost use Rattle.hwdb_spec_commands.specs.Kinds.{warning_name};
 ghost use Rattle.hwdb_spec_commands.specs.Reports.{hint_line};
 ghost use Rattle.hwdb_spec_commands.specs.Warnings.{all_warnings, gets, line_kinds, line_warnings, warnings, warning_text, warning_place, warning_hint, warning_line, warning_report};
 ghost use Rattle.hwdb_text.specs.Views.{given_in};
-ghost use Rattle.hwdb_check.specs.Internal.{IsKnown, IsPlain, IsRead, clean_of, line_of, number_text, own, read_line};
+ghost use Rattle.hwdb_check.specs.Internal.{IsKnown, IsPlain, IsRead, clean_of, line_of, number_text, own, read_line, texts};
+ghost use Rattle.hwdb_check.specs.Leaving.{names_of};
+ghost use Rattle.hwdb_spec_commands.specs.AllowedKinds.{names_in};
 ghost use Rattle.hwdb_check.specs.Plain.{IsPlainFile, IsQuiet, IsTame};
 
 use crate::json_lines::{Finding, finding_line};
 use crate::judgements::{
     judgement_place, judgement_text, push_judgement_hint, push_likelihood_hint, said_of,
 };
-use crate::kinds::{Telling, is_told, warning_name};
+use crate::kinds::{Manner, is_told, warning_name};
 use crate::known::{Known, known_of, nothing_known};
 use crate::line_warnings::{
     LONGEST_LINE, Read, closed, is_warned, is_warned_at_all, kinds_of, wild_place,
@@ -291,9 +293,9 @@ fn push_told(
 }
 
 /// Whether a line gets a warning that is told.
-fn gets(allowed: &[String], line: &Read<'_>, kind: WarningKind) -> bool
+fn gets(allowed: &[&[u8]], line: &Read<'_>, kind: WarningKind) -> bool
     requires { IsRead line.now }
-    ensures { result ≡ gets (map string_bytes allowed.now) line.now.bytes.now
+    ensures { result ≡ gets (flat_map names_in (texts allowed.now)) line.now.bytes.now
         (read_line line.now) (clean_of line.now) kind }
 {
     is_told(allowed, kind) && is_warned(kind, line)
@@ -313,7 +315,7 @@ impl Warned {
     fn put_if(
         &mut self,
         alloc: Global,
-        telling: &Telling<'_>,
+        telling: &Manner<'_>,
         path: &[u8],
         line: &Read<'_>,
         kind: WarningKind,
@@ -321,10 +323,10 @@ impl Warned {
         requires { IsRead line.now }
         ensures text { OnOk result (self.new.text.items ≡ self.old.text.items
             ++ flat_map (told_warning telling.now.json path.now (read_line line.now))
-            (filter (gets (map string_bytes telling.now.allowed.now) line.now.bytes.now
+            (filter (gets (names_of telling.now) line.now.bytes.now
             (read_line line.now) (clean_of line.now)) (kind ∷ []))) }
         ensures found { OnOk result (self.new.found.items ≡ self.old.found.items
-            ++ filter (gets (map string_bytes telling.now.allowed.now) line.now.bytes.now
+            ++ filter (gets (names_of telling.now) line.now.bytes.now
             (read_line line.now) (clean_of line.now)) (kind ∷ [])) }
     {
         if gets(telling.allowed, line, kind) {
@@ -338,17 +340,17 @@ impl Warned {
     fn put_all(
         &mut self,
         alloc: Global,
-        telling: &Telling<'_>,
+        telling: &Manner<'_>,
         path: &[u8],
         line: &Read<'_>,
     ) -> Result<(), AllocError>
         requires { IsRead line.now }
         ensures text { OnOk result (self.new.text.items ≡ self.old.text.items
             ++ flat_map (told_warning telling.now.json path.now (read_line line.now))
-            (all_warnings (map string_bytes telling.now.allowed.now) line.now.bytes.now
+            (all_warnings (names_of telling.now) line.now.bytes.now
             (read_line line.now) (clean_of line.now))) }
         ensures found { OnOk result (self.new.found.items ≡ self.old.found.items
-            ++ all_warnings (map string_bytes telling.now.allowed.now) line.now.bytes.now
+            ++ all_warnings (names_of telling.now) line.now.bytes.now
             (read_line line.now) (clean_of line.now)) }
     {
         if !is_warned_at_all(line) {
@@ -365,7 +367,7 @@ impl Warned {
     fn put_kept(
         &mut self,
         alloc: Global,
-        telling: &Telling<'_>,
+        telling: &Manner<'_>,
         path: &[u8],
         known: &Known<'_>,
         number: u64,
@@ -376,10 +378,10 @@ impl Warned {
         requires clean { clean.now ≡ (clean_line (line_of number text.now)).text }
         ensures text { OnOk result (self.new.text.items ≡ self.old.text.items
             ++ flat_map (told_warning telling.now.json path.now (line_of number text.now))
-            (all_warnings (map string_bytes telling.now.allowed.now) known.now.bytes.now
+            (all_warnings (names_of telling.now) known.now.bytes.now
             (line_of number text.now) (clean_line (line_of number text.now)))) }
         ensures found { OnOk result (self.new.found.items ≡ self.old.found.items
-            ++ all_warnings (map string_bytes telling.now.allowed.now) known.now.bytes.now
+            ++ all_warnings (names_of telling.now) known.now.bytes.now
             (line_of number text.now) (clean_line (line_of number text.now))) }
     {
         let said = said_of(alloc, clean)?;
@@ -401,10 +403,10 @@ impl Warned {
 
     /// Adds the warnings of a line of a file.
     #[tactic(auto, using(crate::proofs::RepeatLemmas::no_text))]
-    fn put_line(
+    pub fn put_line(
         &mut self,
         alloc: Global,
-        telling: &Telling<'_>,
+        telling: &Manner<'_>,
         path: &[u8],
         known: &Known<'_>,
         number: u64,
@@ -412,10 +414,10 @@ impl Warned {
     ) -> Result<(), AllocError>
         requires { IsKnown known.now }
         ensures text { OnOk result (self.new.text.items ≡ self.old.text.items
-            ++ line_text telling.now.json (map string_bytes telling.now.allowed.now) path.now
+            ++ line_text telling.now.json (names_of telling.now) path.now
             known.now.bytes.now (line_of number text.now)) }
         ensures found { OnOk result (self.new.found.items ≡ self.old.found.items
-            ++ line_warnings (map string_bytes telling.now.allowed.now) known.now.bytes.now
+            ++ line_warnings (names_of telling.now) known.now.bytes.now
             (line_of number text.now)) }
     {
         match content_of(text) {
@@ -432,7 +434,7 @@ impl Warned {
     fn put_tame(
         &mut self,
         alloc: Global,
-        telling: &Telling<'_>,
+        telling: &Manner<'_>,
         path: &[u8],
         known: &Known<'_>,
         number: u64,
@@ -443,10 +445,10 @@ impl Warned {
         requires quiet { IsQuiet known.now.bytes.now (line_of number text.now) }
         requires tame { IsTame 10 (take tame text.now) }
         ensures text { OnOk result (self.new.text.items ≡ self.old.text.items
-            ++ line_text telling.now.json (map string_bytes telling.now.allowed.now) path.now
+            ++ line_text telling.now.json (names_of telling.now) path.now
             known.now.bytes.now (line_of number text.now)) }
         ensures found { OnOk result (self.new.found.items ≡ self.old.found.items
-            ++ line_warnings (map string_bytes telling.now.allowed.now) known.now.bytes.now
+            ++ line_warnings (names_of telling.now) known.now.bytes.now
             (line_of number text.now)) }
     {
         if text.len() <= tame {
@@ -460,17 +462,17 @@ impl Warned {
 #[tactic(auto, unfolding(hwdb_spec::specs::Lines::numbered))]
 fn warnings_by_line(
     alloc: Global,
-    telling: &Telling<'_>,
+    telling: &Manner<'_>,
     path: &[u8],
     bytes: &[u8],
     assignments: &[Given<'_>],
 ) -> Result<Warned, AllocError>
     requires { map (given_in own) assignments.now ≡ Records.assignments own bytes.now }
     ensures text { IfOk result (λ w. w.text.items
-        ≡ warnings_text telling.now.json (map string_bytes telling.now.allowed.now)
+        ≡ warnings_text telling.now.json (names_of telling.now)
         path.now bytes.now) }
     ensures found { IfOk result (λ w. w.found.items
-        ≡ warnings (map string_bytes telling.now.allowed.now) bytes.now) }
+        ≡ warnings (names_of telling.now) bytes.now) }
 {
     let known = known_of(alloc, bytes, assignments)?;
     let mut warned = Warned {
@@ -489,16 +491,16 @@ fn warnings_by_line(
 /// these.
 fn cut_warnings(
     alloc: Global,
-    telling: &Telling<'_>,
+    telling: &Manner<'_>,
     path: &[u8],
     bytes: &[u8],
 ) -> Result<Warned, AllocError>
     requires { IsPlainFile bytes.now }
     ensures text { IfOk result (λ w. w.text.items
-        ≡ warnings_text telling.now.json (map string_bytes telling.now.allowed.now)
+        ≡ warnings_text telling.now.json (names_of telling.now)
         path.now bytes.now) }
     ensures found { IfOk result (λ w. w.found.items
-        ≡ warnings (map string_bytes telling.now.allowed.now) bytes.now) }
+        ≡ warnings (names_of telling.now) bytes.now) }
 {
     let known = nothing_known(alloc, bytes);
     let mut warned = Warned {
@@ -525,7 +527,7 @@ fn cut_warnings(
 /// The warnings of a file with these assignments and these faults that are told, and what is printed of them, by line.
 pub fn warnings_of(
     alloc: Global,
-    telling: &Telling<'_>,
+    telling: &Manner<'_>,
     path: &[u8],
     bytes: &[u8],
     assignments: &[Given<'_>],
@@ -534,10 +536,10 @@ pub fn warnings_of(
     requires assignments { map (given_in own) assignments.now ≡ Records.assignments own bytes.now }
     requires faults { faults.now ≡ Records.faults bytes.now }
     ensures text { IfOk result (λ w. w.text.items
-        ≡ warnings_text telling.now.json (map string_bytes telling.now.allowed.now)
+        ≡ warnings_text telling.now.json (names_of telling.now)
         path.now bytes.now) }
     ensures found { IfOk result (λ w. w.found.items
-        ≡ warnings (map string_bytes telling.now.allowed.now) bytes.now) }
+        ≡ warnings (names_of telling.now) bytes.now) }
 {
     if is_plain(alloc, bytes, assignments, faults)? {
         return cut_warnings(alloc, telling, path, bytes);

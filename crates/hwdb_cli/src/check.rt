@@ -38,7 +38,7 @@ pub fn command<'a>(alloc: Global) -> Draft<'a>
 fn allow_option<'a>(alloc: Global) -> Arg<'a>
     ensures { IsArgument allow_rule result }
 {
-    let help = "Leave out warnings of this kind; may come more than once";
+    let help = "Leave out warnings of these kinds, with commas between; may come more than once";
     option(alloc, "allow", "KIND", help).action(ArgAction::Append)
 }
 

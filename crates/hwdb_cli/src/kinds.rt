@@ -53,17 +53,28 @@ fn fault_of(alloc: Global, name: &str, kinds: &str) -> Result<String, AllocError
     Ok(text)
 }
 
-/// What is said of the first word after `--allow` that names no kind of warning. It says which kind the word is like, if there
-/// is one. None if each names one, or the task has no such words. `kinds` has a name a line.
+/// The first name in a word, with commas between, that is no kind's.
+fn unknown_in<'w>(word: &'w str, kinds: &str) -> Option<&'w str> {
+    for piece in word.split(",") {
+        let name = piece.trim();
+        if !is_kind(name, kinds) {
+            return Some(name);
+        }
+    }
+    None
+}
+
+/// What is said of the first name after `--allow` that is no kind of warning. It says which kind the name is like, if there
+/// is one. None if each is one, or the task has no such words. `kinds` has a name a line.
 ///
 /// The only error is want of memory.
 pub fn kind_fault(alloc: Global, task: &Task, kinds: &str) -> Result<Option<String>, AllocError> {
     let Task::Check { allowed, .. } = task else {
         return Ok(None);
     };
-    for name in allowed {
-        if !is_kind(name.as_str(), kinds) {
-            return Ok(Some(fault_of(alloc, name.as_str(), kinds)?));
+    for word in allowed {
+        if let Some(name) = unknown_in(word.as_str(), kinds) {
+            return Ok(Some(fault_of(alloc, name, kinds)?));
         }
     }
     Ok(None)

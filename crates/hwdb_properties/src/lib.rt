@@ -34,4 +34,5 @@ pub use laws::{
     numbers_are_told, pairs_are_told, prefixes_are_told, resolutions_are_told,
 };
 pub use remarks::{is_known, misuse_of, misuse_text, push_misuse_hint, push_unknown_hint};
+pub use rows::{Likeness, first_row};
 pub use surroundings::{companions_of, has_logged_code, is_read_below, push_elsewhere_hint};

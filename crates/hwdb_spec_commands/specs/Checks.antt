@@ -4,22 +4,21 @@ use Rattle.std.specs.Fmt.{decimal}
 use Rattle.hwdb_spec.specs.Lines.{byte}
 use Rattle.hwdb_spec.specs.Records.{assignments, faults}
 use Rattle.hwdb_spec.specs.Folders.{Source}
-use Rattle.hwdb_spec_commands.specs.Findings.{file_text}
-use Rattle.hwdb_spec_commands.specs.Warnings.{warnings}
+use Rattle.hwdb_spec_commands.specs.AllowedKinds.{file_text, unknown_left, warnings_left}
 use Rattle.hwdb_spec_commands.specs.declared.Tally.{Tally}
 
--- of one file how many assignments, faults and warnings it has; a warning of a kind that is allowed doesn't count
+-- two counts together; a count stops at the greatest number of 64 bits
+abbrev pub both : ℕ → ℕ → ℕ
+both m n = if nat_lt (m + n) (2 ^ 64) then m + n else 2 ^ 64 - 1
+
+-- Of one file how many assignments, faults and warnings it has. A warning that is let pass doesn't count, and a name that is no kind does.
 abbrev pub tally_of : (allowed : List (List ℕ)) → List ℕ → Tally
 tally_of allowed file = record {
   files = 1;
   assignments = length (assignments (record { path = []; priority = 1 }) file);
   faults = length (faults file);
-  warnings = length (warnings allowed file);
+  warnings = both (length (warnings_left allowed file)) (length (unknown_left file));
 }
-
--- two counts together; a count stops at the greatest number of 64 bits
-abbrev pub both : ℕ → ℕ → ℕ
-both m n = if nat_lt (m + n) (2 ^ 64) then m + n else 2 ^ 64 - 1
 
 -- what was found in some files, and in more
 abbrev pub tally_of_both : Tally → Tally → Tally

@@ -52,7 +52,3 @@ line_text json allowed path file l = flat_map (told_warning json path l) (line_w
 -- what is printed of the warnings of a file, by line
 abbrev pub warnings_text : (json : Bool) → (allowed : List (List ℕ)) → (path file : List ℕ) → List ℕ
 warnings_text json allowed path file = flat_map (line_text json allowed path file) (lines file)
-
--- what is printed of a file: its faults, then its warnings
-abbrev pub file_text : (json : Bool) → (allowed : List (List ℕ)) → (path file : List ℕ) → List ℕ
-file_text json allowed path file = faults_text json path file ++ warnings_text json allowed path file

@@ -14,6 +14,7 @@ pub mod Surroundings
 pub mod Kinds
 pub mod Warnings
 pub mod Findings
+pub mod AllowedKinds
 pub mod Checks
 pub mod Once
 pub mod Progress

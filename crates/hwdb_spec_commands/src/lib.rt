@@ -20,6 +20,7 @@
 //! | `Kinds` | the names of faults and warnings, and which warnings are told |
 //! | `Warnings` | the warnings of a file, and their reports |
 //! | `Findings` | what `check` prints of a file: reports, or lines of JSON |
+//! | `AllowedKinds` | comments that let kinds of warnings pass in their record, and what they leave |
 //! | `Checks` | what `check` prints, how much it finds, and its status |
 //! | `Once` | some assignments, each once |
 //! | `Progress` | what `update` says of its work |
@@ -86,6 +87,7 @@ mod colours;
 mod devices;
 mod form;
 mod job;
+mod kinds;
 mod refusals;
 mod unread;
 mod vocabulary;
@@ -96,6 +98,7 @@ pub use devices::DeviceForm;
 pub use form::Form;
 use hwdb_spec::Judgement;
 pub use job::{Job, Task, WordsFault};
+pub use kinds::KINDS;
 pub use refusals::Refusal;
 pub use unread::Unread;
 pub use vocabulary::{

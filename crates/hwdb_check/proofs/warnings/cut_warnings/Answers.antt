@@ -1,9 +1,9 @@
-use Rattle.std.proofs.Common.{◌-◌, ◌++◌, ◌∙◌, ap, arith, drop, length, map, refl, subst, sym, take, List, ℕ}
-use Rattle.std.specs.Prelude.{string_bytes}
+use Rattle.std.proofs.Common.{◌-◌, ◌++◌, ◌∙◌, ap, arith, drop, length, refl, subst, sym, take, List, ℕ}
 use Rattle.std.proofs.lemmas.List.{length-drop, take_rest}
 use Rattle.hwdb_spec_commands.specs.Findings.{line_text}
 use Rattle.hwdb_spec_commands.specs.Warnings.{line_warnings}
 use Rattle.hwdb_check.specs.Internal.{line_of}
+use Rattle.hwdb_check.specs.Leaving.{names_of}
 use Rattle.hwdb_check.specs.Plain.{IsQuiet, IsTame}
 use Rattle.hwdb_check.proofs.MarkLemmas.{found_tame, front_tame, quiet_on, tame_on, told_end, told_on, told_tame}
 use Rattle.hwdb_check.proofs.warnings.cut_warnings.Goals as goal
@@ -11,7 +11,7 @@ use Rattle.hwdb_check.proofs.warnings.cut_warnings.Goals as goal
 pub loop-at-preserved : goal.loop-at-preserved
 loop-at-preserved c =
     let file = c.args.bytes.now in
-    let allowed = map string_bytes c.args.telling.now.allowed.now in
+    let allowed = names_of c.args.telling.now in
     let at = c.loop-at.at in
     let n = c.loop-at.number in
     let end = c.end_of-end.result in
@@ -32,22 +32,22 @@ loop-at-preserved c =
 
 pub returns-then-rest-tame-clause-text : goal.returns-then-rest-tame-clause-text
 returns-then-rest-tame-clause-text c =
-    told_tame c.args.telling.now.json (map string_bytes c.args.telling.now.allowed.now) c.args.path.now c.args.bytes.now _ _ _ c.loop-at.number c.loop-at.at c.loop-at.tame
+    told_tame c.args.telling.now.json (names_of c.args.telling.now) c.args.path.now c.args.bytes.now _ _ _ c.loop-at.number c.loop-at.at c.loop-at.tame
     (take_rest c.args.bytes.now c.loop-at.at) c.if-rest-tame.true c.loop-at.invariant.tame c.loop-at.invariant.quiet c.loop-at.invariant.text
 
 pub returns-then-rest-tame-clause-found : goal.returns-then-rest-tame-clause-found
 returns-then-rest-tame-clause-found c =
-    found_tame (map string_bytes c.args.telling.now.allowed.now) c.args.bytes.now _ _ _ c.loop-at.number c.loop-at.at c.loop-at.tame
+    found_tame (names_of c.args.telling.now) c.args.bytes.now _ _ _ c.loop-at.number c.loop-at.at c.loop-at.tame
     (take_rest c.args.bytes.now c.loop-at.at) c.if-rest-tame.true c.loop-at.invariant.tame c.loop-at.invariant.quiet c.loop-at.invariant.found
 
 pub returns-clause-text : goal.returns-clause-text
 returns-clause-text c =
-    told_end (line_text c.args.telling.now.json (map string_bytes c.args.telling.now.allowed.now) c.args.path.now c.args.bytes.now) c.args.bytes.now _ _ c.loop-at.number c.loop-at.at
+    told_end (line_text c.args.telling.now.json (names_of c.args.telling.now) c.args.path.now c.args.bytes.now) c.args.bytes.now _ _ c.loop-at.number c.loop-at.at
     c.loop-at-test.false c.loop-at.invariant.text
 
 pub returns-clause-found : goal.returns-clause-found
 returns-clause-found c =
-    told_end (line_warnings (map string_bytes c.args.telling.now.allowed.now) c.args.bytes.now) c.args.bytes.now _ _ c.loop-at.number c.loop-at.at c.loop-at-test.false c.loop-at.invariant.found
+    told_end (line_warnings (names_of c.args.telling.now) c.args.bytes.now) c.args.bytes.now _ _ c.loop-at.number c.loop-at.at c.loop-at-test.false c.loop-at.invariant.found
 
 pub put_tame-requires-clause-quiet : goal.put_tame-requires-clause-quiet
 put_tame-requires-clause-quiet c =

@@ -1,8 +1,9 @@
-use Rattle.std.proofs.Common.{length, ◌+◌, ◌-◌, ◌≡◌, ◌≤◌, ◌++◌, drop, map, take}
-use Rattle.std.specs.Prelude.{flat_map, string_bytes}
+use Rattle.std.proofs.Common.{length, ◌+◌, ◌-◌, ◌≡◌, ◌≤◌, ◌++◌, drop, take}
+use Rattle.std.specs.Prelude.{flat_map}
 use Rattle.hwdb_spec_commands.specs.Findings.{line_text, warnings_text}
 use Rattle.hwdb_spec.specs.Lines.{is, numbered, pieces}
 use Rattle.hwdb_spec_commands.specs.Warnings.{line_warnings, warnings}
+use Rattle.hwdb_check.specs.Leaving.{names_of}
 use Rattle.hwdb_check.specs.Plain.{AreQuiet, IsTame}
 use Rattle.hwdb_check.proofs.warnings.cut_warnings.Given as goal
 
@@ -13,11 +14,11 @@ invariant-loop-at l = record {
   tame : IsTame 10 (take l.tame (drop l.at l.bytes));
   quiet : AreQuiet l.bytes (numbered l.number (pieces (is 10) (drop l.at l.bytes)));
   text : l.warned.text.items
-      ++ flat_map (line_text l.telling.json (map string_bytes l.telling.allowed.now) l.path l.bytes) (numbered l.number (pieces (is 10) (drop l.at l.bytes)))
-      ≡ warnings_text l.telling.json (map string_bytes l.telling.allowed.now) l.path l.bytes;
+      ++ flat_map (line_text l.telling.json (names_of l.telling) l.path l.bytes) (numbered l.number (pieces (is 10) (drop l.at l.bytes)))
+      ≡ warnings_text l.telling.json (names_of l.telling) l.path l.bytes;
   found : l.warned.found.items
-      ++ flat_map (line_warnings (map string_bytes l.telling.allowed.now) l.bytes) (numbered l.number (pieces (is 10) (drop l.at l.bytes)))
-      ≡ warnings (map string_bytes l.telling.allowed.now) l.bytes;
+      ++ flat_map (line_warnings (names_of l.telling) l.bytes) (numbered l.number (pieces (is 10) (drop l.at l.bytes)))
+      ≡ warnings (names_of l.telling) l.bytes;
 }
 
 abbrev pub decreases-loop-at : goal.decreases-loop-at

@@ -1,7 +1,6 @@
-use Rattle.std.proofs.Common.{map}
-use Rattle.std.specs.Prelude.{string_bytes}
 use Rattle.hwdb_spec_commands.specs.Findings.{told_warning}
 use Rattle.hwdb_check.specs.Internal.{line_of}
+use Rattle.hwdb_check.specs.Leaving.{names_of}
 use Rattle.hwdb_check.proofs.MarkLemmas.{line_tame}
 use Rattle.hwdb_check.proofs.PlainLemmas.{no_warnings, nothing_found, nothing_told}
 use Rattle.hwdb_check.proofs.warnings.Warned.put_tame.Goals as goal
@@ -10,10 +9,10 @@ pub returns-then-text-tame-clause-text : goal.returns-then-text-tame-clause-text
 returns-then-text-tame-clause-text c =
     let line = line_of c.args.number c.args.text.now in
     nothing_told (told_warning c.args.telling.now.json c.args.path.now line) _ _
-    (no_warnings c.args.known.now.bytes.now line c.requires.quiet (line_tame c.args.text.now c.args.tame c.if-text-tame.true c.requires.tame) (map string_bytes c.args.telling.now.allowed.now))
+    (no_warnings c.args.known.now.bytes.now line c.requires.quiet (line_tame c.args.text.now c.args.tame c.if-text-tame.true c.requires.tame) (names_of c.args.telling.now))
 
 pub returns-then-text-tame-clause-found : goal.returns-then-text-tame-clause-found
 returns-then-text-tame-clause-found c =
     let line = line_of c.args.number c.args.text.now in
     nothing_found _ _
-    (no_warnings c.args.known.now.bytes.now line c.requires.quiet (line_tame c.args.text.now c.args.tame c.if-text-tame.true c.requires.tame) (map string_bytes c.args.telling.now.allowed.now))
+    (no_warnings c.args.known.now.bytes.now line c.requires.quiet (line_tame c.args.text.now c.args.tame c.if-text-tame.true c.requires.tame) (names_of c.args.telling.now))

@@ -1,0 +1,152 @@
+//! Comments that let kinds of warnings pass in their record: `# hwdb: allow KIND[,KIND]`.
+ghost use Rattle.std.specs.Prelude.{◌≡◌, ◌++◌, List, ℕ, drop, if◌then◌else◌, not, IfOk, OnOk};
+ghost use Rattle.std.specs.List.{list_any};
+ghost use Rattle.hwdb_spec.specs.Folders;
+ghost use Rattle.hwdb_spec.specs.Lines.{is, is_none, pieces};
+ghost use Rattle.hwdb_text.specs.PiecesLeft.{lines_left};
+ghost use Rattle.hwdb_spec_commands.specs.AllowedKinds;
+ghost use Rattle.hwdb_spec_commands.specs.AllowedKinds.{names_in, names_to_end};
+ghost use Rattle.hwdb_check.specs.Leaving.{all_names};
+
+use hwdb_properties::{after, before, same};
+use hwdb_spec_commands::KINDS;
+use hwdb_text::{Content, Lines, Pieces, content_of, trim, unindented};
+use std::alloc::{AllocError, Global};
+
+/// A text without the blanks around it.
+pub fn stripped(text: &[u8]) -> &[u8]
+    ensures { result.now ≡ AllowedKinds.stripped text.now }
+{
+    trim(unindented(text))
+}
+
+/// Whether a name is one of those in a text, with commas between.
+pub fn is_in(name: &[u8], text: &[u8]) -> bool
+    ensures { result ≡ list_any (Folders.same name.now) (names_in text.now) }
+{
+    for piece in Pieces::new(b',', text) {
+        if same(name, stripped(piece)) {
+            return true;
+        }
+    }
+    false
+}
+
+/// A text without its first bytes.
+fn past(text: &[u8], size: usize) -> &[u8]
+    ensures { result.now ≡ drop size text.now }
+{
+    if size < text.len() {
+        &text[size..]
+    } else {
+        &[]
+    }
+}
+
+/// What comes after a word at the front of a text, without the blanks before it; nothing if the text begins otherwise.
+fn after_word<'b>(word: &[u8], text: &'b [u8]) -> &'b [u8]
+    ensures { result.now ≡ AllowedKinds.after_word word.now text.now }
+{
+    if !text.starts_with(word) {
+        return &[];
+    }
+    unindented(past(text, word.len()))
+}
+
+/// The names in a line's comment that lets kinds pass, as they are written.
+pub fn allowed_text(text: &[u8]) -> &[u8]
+    ensures { result.now ≡ AllowedKinds.allowed_text text.now }
+{
+    let comment = before(b'#', after(b'#', text));
+    after_word(b"allow ", after_word(b"hwdb:", unindented(comment)))
+}
+
+/// Whether a comment of a file lets kinds pass.
+pub fn any_allowed(bytes: &[u8]) -> bool
+    ensures { result ≡ list_any (λ text. not (is_none (AllowedKinds.allowed_text text)))
+        (pieces (is 10) bytes.now) }
+{
+    for text in Lines::new(bytes) {
+        if !allowed_text(text).is_empty() {
+            return true;
+        }
+    }
+    false
+}
+
+/// Whether a line ends a record.
+fn ends_record(text: &[u8]) -> bool
+    ensures { result ≡ AllowedKinds.ends_record text.now }
+{
+    match content_of(text) {
+        Content::Comment => false,
+        Content::ZeroByte => false,
+        Content::Empty => true,
+        Content::Property(_) => false,
+        Content::Match(_) => false,
+    }
+}
+
+/// Adds what a line's comment lets pass, if it does. The only error, here and below, is `AllocError`.
+fn put_allowed<'b>(allowed: &mut Vec<&'b [u8]>, text: &'b [u8]) -> Result<(), AllocError>
+    ensures { OnOk result (all_names allowed.new.items
+        ≡ all_names allowed.old.items ++ names_in (AllowedKinds.allowed_text text.now)) }
+{
+    let own = allowed_text(text);
+    if !own.is_empty() {
+        allowed.push(own)?;
+    }
+    Ok(())
+}
+
+/// These texts, and what comments let pass in some lines up to the first one that ends a record.
+pub fn to_end<'b>(
+    alloc: Global,
+    allowed: &[&'b [u8]],
+    lines: Lines<'b>,
+) -> Result<Vec<&'b [u8]>, AllocError>
+    ensures { IfOk result (λ own. all_names own.items
+        ≡ all_names allowed.now ++ names_to_end (lines_left lines.entry)) }
+{
+    let mut own = Vec::new(alloc);
+    own.extend_from_slice(allowed)?;
+    for text in lines {
+        put_allowed(&mut own, text)?;
+        if ends_record(text) {
+            return Ok(own);
+        }
+    }
+    Ok(own)
+}
+
+/// What is let pass after a line: in its record, or in the next one, whose first lines are left.
+pub fn after_line<'b>(
+    alloc: Global,
+    allowed: &[&'b [u8]],
+    own: Vec<&'b [u8]>,
+    text: &[u8],
+    lines: Lines<'b>,
+) -> Result<Vec<&'b [u8]>, AllocError>
+    ensures { IfOk result (λ next. (names : List (List ℕ))
+        → all_names own.entry.items ≡ all_names allowed.now ++ names
+        → all_names next.items ≡ all_names allowed.now
+        ++ (if AllowedKinds.ends_record text.now then names_to_end (lines_left lines.entry)
+        else names)) }
+{
+    if ends_record(text) {
+        return to_end(alloc, allowed, lines);
+    }
+    Ok(own)
+}
+
+/// Whether this is the name of a kind of warning.
+pub fn is_kind(name: &[u8]) -> bool
+    ensures { result ≡ AllowedKinds.is_kind name.now }
+{
+    for kind in Pieces::new(b'\n', KINDS.as_bytes()) {
+        if same(name, kind) {
+            return true;
+        }
+    }
+    false
+}
