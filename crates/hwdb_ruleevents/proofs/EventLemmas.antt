@@ -20,7 +20,7 @@ use Rattle.hwdb_rulerun.specs.Telling.{and_then, by_operator_told, line_told}
 use Rattle.std.proofs.lemmas.Slice.Eq.{bytes_eq-Decides}
 use Rattle.hwdb_rulerun.specs.Laws.{ParentsAreSo, ToldIsSo}
 use Rattle.hwdb_rulerun.specs.Telling.{all_of as all_of_told}
-use Rattle.hwdb_ruleevents.specs.Parents.{Chosen, Anyone, Nobody, One, IsChosen, by_reached, first_of, first_told, first_tokens, one_of, parent_after, parent_after_told, parent_in, parent_told}
+use Rattle.hwdb_ruleevents.specs.Parents.{Chosen, Anyone, Nobody, One, IsChosen, by_reached, first_of, first_told, first_tokens, is_for_all, one_of, parent_after, parent_after_told, parent_in, parent_told}
 use Rattle.hwdb_ruleevents.specs.Changes.{Properties, Change, Put, Open, Agrees, Becomes, said, said_in, value_in, by_sure, perhaps}
 use Rattle.hwdb_ruleevents.specs.Effects as known
 use Rattle.hwdb_ruleevents.specs.Effects.{Effect, Knowledge}
@@ -619,16 +619,36 @@ known_in_so so k e n cs p l h a =
 
 known_after_so : ToldIsSo → ParentsAreSo → (sure : Bool) (k : Knowledge) (e : Event) (n : Turn) (cs : List Change) (p : Properties) (l : RuleLine)
     → IsKnown k e → Agrees cs p → IsKnown (tell.known_after sure k cs l) (real.event_after e n p l)
-known_after_so so of sure k e n cs p l h a =
-    known_with k e _ _ h
-    (after_so so of sure (tell.sight_at k.sight cs l.tokens) (real.world_at e n p) l.tokens k.parent e.parent (sight_so k e n cs p l.tokens h a) h.parent)
+known_after_so so of sure k e n cs p l h a = known_with k e _ _ h (by (is_for_all l))
+  where
+    after : (c : Bool)
+        → IsChosen (parent_after_told c (tell.sight_at k.sight cs l.tokens) l.tokens k.parent) (parent_after (real.world_at e n p) l.tokens e.parent)
+    after c = after_so so of c (tell.sight_at k.sight cs l.tokens) (real.world_at e n p) l.tokens k.parent e.parent (sight_so k e n cs p l.tokens h a) h.parent
+
+    tried : (c : Bool)
+        → IsChosen (parent_after_told false (tell.sight_at k.sight cs l.tokens) l.tokens k.parent)
+        (if c then parent_after (real.world_at e n p) l.tokens e.parent else e.parent)
+    tried true = after false
+    tried false =
+        skipped_by false (has_parents l.tokens) (line_told (tell.sight_at k.sight cs l.tokens) (first_tokens l.tokens))
+        (parent_told (tell.sight_at k.sight cs l.tokens) l.tokens k.parent) k.parent e.parent refl h.parent
+
+    by : (c : Bool)
+        → IsChosen (parent_after_told (if c then sure else false) (tell.sight_at k.sight cs l.tokens) l.tokens k.parent)
+        (if (if c then true else e.tries (real.moment e n) l) then parent_after (real.world_at e n p) l.tokens e.parent else e.parent)
+    by true = after sure
+    by false = tried (e.tries (real.moment e n) l)
 
 known_skipped : (sure : Bool) (k : Knowledge) (e : Event) (cs : List Change) (l : RuleLine) → sure ≡ false → IsKnown k e
     → IsKnown (tell.known_after sure k cs l) e
 known_skipped sure k e cs l s h =
     known_with k e _ e.parent h
-    (skipped_by sure (has_parents l.tokens) (line_told (tell.sight_at k.sight cs l.tokens) (first_tokens l.tokens))
-    (parent_told (tell.sight_at k.sight cs l.tokens) l.tokens k.parent) k.parent e.parent s h.parent)
+    (skipped_by (if is_for_all l then sure else false) (has_parents l.tokens) (line_told (tell.sight_at k.sight cs l.tokens) (first_tokens l.tokens))
+    (parent_told (tell.sight_at k.sight cs l.tokens) l.tokens k.parent) k.parent e.parent (never (is_for_all l)) h.parent)
+  where
+    never : (c : Bool) → (if c then sure else false) ≡ false
+    never true = s
+    never false = refl
 
 line_so : ToldIsSo → ParentsAreSo → (k : Knowledge) (e : Event) (sure : Bool) (n : Turn) (cs : List Change) (p : Properties) (l : RuleLine) → IsKnown k e → Agrees cs p
     → Tells (tell.tell_line k sure n cs l) (real.run_line e n p l)

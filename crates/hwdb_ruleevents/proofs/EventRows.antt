@@ -118,4 +118,8 @@ parent_rows_hold = record {
   in_its_line = refl;
   unknown = refl;
   after_jump = refl;
+  of_a_node = refl;
+  of_an_interface = refl;
+  label_alone = refl;
+  jump = refl;
 }

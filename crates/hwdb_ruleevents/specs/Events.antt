@@ -8,7 +8,7 @@ use Rattle.hwdb_rulefiles.specs.RuleLines.{RuleLine}
 use Rattle.hwdb_rulerun.specs.Conditions.{by_operator, line_holds, text_of}
 use Rattle.hwdb_rulerun.specs.Asking.{runs, is_lookup}
 use Rattle.hwdb_rulerun.specs.Sights.{Device, World}
-use Rattle.hwdb_ruleevents.specs.Parents.{parent_after, parent_in}
+use Rattle.hwdb_ruleevents.specs.Parents.{is_for_all, parent_after, parent_in}
 use Rattle.hwdb_ruleevents.specs.Changes.{Properties}
 use Rattle.hwdb_ruleevents.specs.Effects.{assigned, is_env, is_value_as_is}
 use Rattle.hwdb_ruleevents.specs.Texts.{Meaning, attribute_text, names_other, number, other_text, value_text}
@@ -25,8 +25,8 @@ pub record Moment : Type 0 where
   pub parent : Option Device
 
 -- All that lines see but properties: the device, the parent that a line chose, and attributes of other devices, by the texts in braces that
--- name them. Four answers stand for what isn't followed here: whether a condition is passed, or what is run succeeds; what a token makes of
--- properties; its text; and whether that is too long. Each is asked at a moment.
+-- name them. Five answers stand for what isn't followed here: whether a condition is passed, or what is run succeeds; what a token makes of
+-- properties; its text; whether that is too long; and whether a line is tried that isn't for all devices. Each is asked at a moment.
 pub record Event : Type 0 where
   pub world : World
   pub parent : Option Device
@@ -35,6 +35,7 @@ pub record Event : Type 0 where
   pub sets : (now : Moment) → Properties → Token → Properties
   pub text : (now : Moment) → Properties → Token → List ℕ
   pub cuts : (now : Moment) → Properties → Token → Bool
+  pub tries : (now : Moment) → RuleLine → Bool
 
 abbrev pub moment : Event → (at : Turn) → Moment
 moment e n = record { at = n; parent = e.parent }
@@ -147,12 +148,15 @@ run_tokens e n p [] = stopped true p
 run_tokens e n p (t ∷ more) =
     asked_before (ask_in e n p t) (if goes_on e n p t then run_tokens e n (after e n p t) more else stopped false (after e n p t))
 
+abbrev pub is_tried : Event → (at : Turn) → RuleLine → Bool
+is_tried e n l = if is_for_all l then true else e.tries (moment e n) l
+
 -- what the tokens of a line see when they are run, and what the lines after it see
 abbrev pub event_in : Event → (at : Turn) → Properties → RuleLine → Event
 event_in e n p l = with_parent e (parent_in (world_at e n p) l.tokens e.parent)
 
 abbrev pub event_after : Event → (at : Turn) → Properties → RuleLine → Event
-event_after e n p l = with_parent e (parent_after (world_at e n p) l.tokens e.parent)
+event_after e n p l = with_parent e (if is_tried e n l then parent_after (world_at e n p) l.tokens e.parent else e.parent)
 
 abbrev pub run_line : Event → (at : Turn) → Properties → RuleLine → Done
 run_line e n p l = if line_holds (world_at e n p) l.tokens then run_tokens (event_in e n p l) n p l.tokens else stopped false p

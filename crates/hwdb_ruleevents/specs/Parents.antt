@@ -1,8 +1,11 @@
 -- The parent that a line chose, after `udev_rule_apply_parent_token_to_event` of udev-rules.c (systemd 257): the first of the device and its
 -- parents of which all conditions about parents hold. It stays for the lines after it. And what is known of it.
 use Rattle.std.specs.Prelude.{List, [], ◌∷◌, Bool, true, false, if◌then◌else◌, ℕ, ◌+◌, take, ◌≡◌, Option, Some, None}
-use Rattle.std.specs.List.{position_or_len}
+use Rattle.std.specs.List.{list_any, position_or_len}
 use Rattle.hwdb_rulefiles.specs.RuleTokens.{Token}
+use Rattle.hwdb_rulefiles.specs.RuleLines.{RuleLine, acts}
+use Rattle.hwdb_rulefiles.specs.declared.tokens.TokenKind.{TokenKind}
+use Rattle.hwdb_rulefiles.specs.declared.tokens.TokenKind.TheVariants as Kinds
 use Rattle.hwdb_rulerun.specs.Conditions.{all_of, has_parents, is_parents, line_holds}
 use Rattle.hwdb_rulerun.specs.Sights.{Device, Seen, Sight, World, IsSeen}
 use Rattle.hwdb_rulerun.specs.Telling as told
@@ -24,6 +27,25 @@ parent_in w tokens before = if has_parents tokens then first_of w tokens 0 (w.ow
 -- the parent after a line, which chooses none if a condition before those about parents fails
 abbrev pub parent_after : World → List Token → (before : Option Device) → Option Device
 parent_after w tokens before = if line_holds w (first_tokens tokens) then parent_in w tokens before else before
+
+-- What changes something of any device. The owner, the group, the mode and the links are a node's, and NAME is a network interface's:
+-- a line that changes these alone is tried on no other device, and chooses no parent there (`udev_rule_apply_line_to_event`).
+abbrev pub acts_always : TokenKind → Bool
+acts_always Kinds.Owner = false
+acts_always Kinds.Group = false
+acts_always Kinds.Mode = false
+acts_always Kinds.Devlink = false
+acts_always Kinds.Name = false
+acts_always Kinds.StaticNode = false
+acts_always kind = acts kind
+
+abbrev pub jumps : (goto : Option (List ℕ)) → Bool
+jumps None = false
+jumps (Some name) = true
+
+-- whether a line is tried on any device
+abbrev pub is_for_all : RuleLine → Bool
+is_for_all l = if jumps l.goto then true else list_any (λ t. acts_always t.kind) l.tokens
 
 -- what is known of the parent that a line chose: nothing, that it chose none, or which one
 pub data Chosen : Type 0 where

@@ -191,3 +191,7 @@ pub record ParentRows : Type 0 where
   pub in_its_line : AskedIn ("TAG==\"x\", KERNELS==\"0000:*\", IMPORT{builtin}=\"hwdb a$id\"" ∷ []) (Some (codes "hwdb a0000:00:1f.6"))
   pub unknown : AskedIn ("ATTRS{speed}==\"1\", ENV{A}=\"1\"\nIMPORT{builtin}=\"hwdb a$id\"" ∷ []) None
   pub after_jump : AskedIn ("TAG==\"x\", GOTO=\"b\"\nKERNELS==\"0000:*\", ENV{A}=\"1\"\nLABEL=\"b\", IMPORT{builtin}=\"hwdb a$id\"" ∷ []) None
+  pub of_a_node : AskedIn ("KERNELS==\"0000:*\", MODE=\"0600\"\nIMPORT{builtin}=\"hwdb a$id\"" ∷ []) None
+  pub of_an_interface : AskedIn ("KERNELS==\"0000:*\", NAME=\"a\"\nIMPORT{builtin}=\"hwdb a$id\"" ∷ []) None
+  pub label_alone : AskedIn ("KERNELS==\"0000:*\", LABEL=\"a\"\nIMPORT{builtin}=\"hwdb a$id\"" ∷ []) None
+  pub jump : AskedIn ("KERNELS==\"0000:*\", TEST==\"x\", GOTO=\"a\"\nIMPORT{builtin}=\"hwdb a$id\"\nLABEL=\"a\"" ∷ []) (Some (codes "hwdb a0000:00:1f.6"))

@@ -12,7 +12,7 @@ use Rattle.hwdb_rulerun.specs.Telling.{and_then, by_operator_told, line_told}
 use Rattle.hwdb_ruleevents.specs.Changes.{Change, Put, value_in, by_sure}
 use Rattle.hwdb_ruleevents.specs.Events.{Turn, turn}
 use Rattle.hwdb_ruleevents.specs.Effects.{Effect, Knowledge, assigned_told, effect_of, is_env, with_chosen}
-use Rattle.hwdb_ruleevents.specs.Parents.{Chosen, parent_after_told, parent_told}
+use Rattle.hwdb_ruleevents.specs.Parents.{Chosen, is_for_all, parent_after_told, parent_told}
 use Rattle.hwdb_ruleevents.specs.Texts.{text_told}
 
 abbrev pub entry_for : List Change → Token → Entry
@@ -111,7 +111,7 @@ abbrev pub known_in : Knowledge → List Change → RuleLine → Knowledge
 known_in k cs l = with_chosen k (parent_told (sight_at k.sight cs l.tokens) l.tokens k.parent)
 
 abbrev pub known_after : (sure : Bool) → Knowledge → List Change → RuleLine → Knowledge
-known_after sure k cs l = with_chosen k (parent_after_told sure (sight_at k.sight cs l.tokens) l.tokens k.parent)
+known_after sure k cs l = with_chosen k (parent_after_told (if is_for_all l then sure else false) (sight_at k.sight cs l.tokens) l.tokens k.parent)
 
 -- a line that is tried, or that may be tried
 abbrev pub tell_line : Knowledge → (sure : Bool) → (at : Turn) → List Change → RuleLine → Tale

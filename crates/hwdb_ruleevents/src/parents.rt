@@ -1,13 +1,14 @@
 //! The parent that a line chose, as far as it is known.
 ghost use Rattle.std.specs.Prelude.{◌≡◌, ◌≤◌, ◌∷◌, length, map, IfOk};
-ghost use Rattle.std.specs.List.{position_or_len};
+ghost use Rattle.std.specs.List.{list_any, position_or_len};
 ghost use Rattle.hwdb_rulefiles.specs.TokenViews.{token_of};
+ghost use Rattle.hwdb_rulefiles.specs.LineViews.{line_of};
 ghost use Rattle.hwdb_rulerun.specs.Conditions;
 ghost use Rattle.hwdb_rulerun.specs.Views.{seen_of, sight_of};
 ghost use Rattle.hwdb_ruleevents.specs.Parents;
 ghost use Rattle.hwdb_ruleevents.specs.ParentViews.{chosen_of};
 
-use hwdb_rulefiles::Token;
+use hwdb_rulefiles::{RuleLine, Token, TokenKind};
 use hwdb_rulerun::{Seen, Sight, all_of, has_parents, is_parents};
 use std::alloc::{AllocError, Global};
 
@@ -93,6 +94,56 @@ pub fn first_tokens(tokens: &[Token]) -> &[Token]
     ensures { map token_of result.now ≡ Parents.first_tokens (map token_of tokens.now) }
 {
     &tokens[..first_len(tokens)]
+}
+
+/// What changes something of any device.
+fn acts_always(kind: TokenKind) -> bool
+    ensures { result ≡ Parents.acts_always kind }
+{
+    match kind {
+        TokenKind::MatchProgram
+        | TokenKind::ImportFile
+        | TokenKind::ImportProgram
+        | TokenKind::ImportBuiltin
+        | TokenKind::ImportDb
+        | TokenKind::ImportCmdline
+        | TokenKind::ImportParent
+        | TokenKind::EscapeNone
+        | TokenKind::EscapeReplace
+        | TokenKind::DbPersist
+        | TokenKind::Watch
+        | TokenKind::LinkPriority
+        | TokenKind::LogLevel
+        | TokenKind::Tag
+        | TokenKind::Seclabel
+        | TokenKind::Env
+        | TokenKind::Attr
+        | TokenKind::Sysctl
+        | TokenKind::RunBuiltin
+        | TokenKind::RunProgram => true,
+        _ => false,
+    }
+}
+
+fn any_acts_always(tokens: &[Token]) -> bool
+    ensures { result ≡ list_any (λ t. Parents.acts_always t.kind) (map token_of tokens.now) }
+{
+    for token in tokens {
+        if acts_always(token.kind) {
+            return true;
+        }
+    }
+    false
+}
+
+/// Whether a line is tried on any device.
+pub fn is_for_all(line: &RuleLine) -> bool
+    ensures { result ≡ Parents.is_for_all (line_of line.now) }
+{
+    match &line.goto {
+        None => any_acts_always(&line.tokens),
+        Some(_) => true,
+    }
 }
 
 /// The parent after a line, by whether the conditions before those about parents hold.

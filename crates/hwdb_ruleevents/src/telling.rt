@@ -16,7 +16,7 @@ ghost use Rattle.hwdb_ruleevents.specs.TellViews.{turn_of, told_of, tale_of};
 
 use crate::changes::{Held, put_all, value_in};
 use crate::effects::{Effect, Knowledge, assigned_told, effect_of, is_env};
-use crate::parents::{Parent, by_reached, first_tokens, parent_told};
+use crate::parents::{Parent, by_reached, first_tokens, is_for_all, parent_told};
 use crate::texts::text_told;
 use hwdb_rulefiles::{Operator, RuleLine, Token, TokenKind};
 use hwdb_rulerun::{
@@ -201,6 +201,7 @@ pub fn known_after<'a>(
         ≡ Telling.known_after sure (knowledge_of knowledge.now) (map held_of changes.now)
         (line_of line.now)) }
 {
+    let sure = if is_for_all(line) { sure } else { false };
     let parent = parent_after(alloc, sure, knowledge, changes, &line.tokens)?;
     Ok(knowledge.with_parent(parent))
 }
