@@ -10,3 +10,5 @@ pub mod Put
 pub mod Readable
 pub mod Fronts
 pub mod Update
+pub mod Sides
+pub mod Diff

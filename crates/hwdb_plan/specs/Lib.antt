@@ -14,6 +14,8 @@ pub mod List
 pub mod Ask
 pub mod Test
 pub mod Near
+pub mod Sides
+pub mod Diff
 pub mod Check
 pub mod Device
 pub mod Put

@@ -31,7 +31,7 @@ use Rattle.hwdb_text.specs.Lemmas.Members.{held, holds_it}
 use Rattle.hwdb_tool.proofs.AsBeforeLemmas.{of_memory, of_plain, over_at}
 
 -- ---- a chosen file is in the folder that it is taken from
-contains_of : (n : List ℕ) (xs : List (List ℕ)) → lists n xs ≡ true → Contains xs n
+pub contains_of : (n : List ℕ) (xs : List (List ℕ)) → lists n xs ≡ true → Contains xs n
 contains_of n [] e = cc
 contains_of n (x ∷ xs) e = by (same x n) refl (contains_of n xs)
   where
@@ -42,7 +42,7 @@ contains_of n (x ∷ xs) e = by (same x n) refl (contains_of n xs)
         let lt = more.1 in
         (suc more.0, omega (arith, lt), more.2)
 
-lists_held : (n : List ℕ) (xs : List (List ℕ)) → Contains xs n → lists n xs ≡ true
+pub lists_held : (n : List ℕ) (xs : List (List ℕ)) → Contains xs n → lists n xs ≡ true
 lists_held n [] (k, lt, is) = absurd (omega (arith, lt))
 lists_held n (x ∷ xs) (zero, lt, is) = ap (λ (b : Bool). b || lists n xs) (ap (λ (m : List ℕ). same m n) is ∙ same_itself n)
 lists_held n (x ∷ xs) (suc k, lt, is) = or_right (same x n) (lists n xs) (lists_held n xs (k, omega (arith, lt), is))

@@ -38,7 +38,7 @@ module _ (Lists Reads : Refusal → Type 0) (contents : Contents) (r : Refusal) 
   any_given Told true path un = (un.0, tt)
   any_given Told false path un = any_side path un
 
-  any_pair : (Told : Refusal → Type 0) (input : Option (List ℕ)) (old_path new_path : List ℕ) → IsPairRefused Lists Reads Told old_path new_path input contents r
+  pub any_pair : (Told : Refusal → Type 0) (input : Option (List ℕ)) (old_path new_path : List ℕ) → IsPairRefused Lists Reads Told old_path new_path input contents r
       → IsPairRefused IsAny IsAny IsAny old_path new_path input contents r
   any_pair Told input old_path new_path (inl old) = inl (any_given Told (is_dash old_path) old_path old)
   any_pair Told input old_path new_path (inr (inl new)) = inr (inl (new.0, new.1, any_given Told (is_dash new_path) new_path new.2))

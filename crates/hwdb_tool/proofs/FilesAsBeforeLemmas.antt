@@ -55,7 +55,7 @@ module _ (w : Reads) (seen : Contents) (fails : List ℕ → Type 0) (agree : Ar
   IsHeld s = IsGiven s.name input seen s.bytes
 
   -- all of some paths were read, and the plan goes on
-  record AllRead (paths : List (List ℕ)) (read : List Source) (next : List Source → Plan) (e : End) : Type 0 where
+  pub record AllRead (paths : List (List ℕ)) (read : List Source) (next : List Source → Plan) (e : End) : Type 0 where
     pub more : List Source
     pub named : map (λ (s : Source). s.name) more ≡ paths
     pub held : All IsHeld more
@@ -63,7 +63,7 @@ module _ (w : Reads) (seen : Contents) (fails : List ℕ → Type 0) (agree : Ar
     pub ends : Ends w (next (read ++ more)) e
 
   -- the first of them that can't be read ends it
-  record OneUnread (paths : List (List ℕ)) (e : End) : Type 0 where
+  pub record OneUnread (paths : List (List ℕ)) (e : End) : Type 0 where
     pub before : List (List ℕ)
     pub path : List ℕ
     pub after : List (List ℕ)
@@ -74,7 +74,7 @@ module _ (w : Reads) (seen : Contents) (fails : List ℕ → Type 0) (agree : Ar
     pub is : e ≡ Stops said
     pub why : (r : Refusal) → stop_of r ≡ said → IsUnread path r × IsUnreadAt seen path r × HasReason (IsUnreadable fails seen) ⊥ seen r
 
-  abbrev ReadOr : (paths : List (List ℕ)) (read : List Source) (next : List Source → Plan) (e : End) → Type 0
+  abbrev pub ReadOr : (paths : List (List ℕ)) (read : List Source) (next : List Source → Plan) (e : End) → Type 0
   ReadOr paths read next e = AllRead paths read next e ⊎ OneUnread paths e
 
   held_of : (named : Bool) (path bytes : List ℕ) → file_told w named path ≡ Ok bytes → (bytes_at seen path ≡ Some bytes) × (length bytes ≤ max_file)
@@ -107,7 +107,7 @@ module _ (w : Reads) (seen : Contents) (fails : List ℕ → Type 0) (agree : Ar
   }
 
   module _ (text : List ℕ) (short : length text ≤ max_file) where
-    abbrev Rest : List (List ℕ) → Type 0
+    abbrev pub Rest : List (List ℕ) → Type 0
     Rest more = (read : List Source) (next : List Source → Plan) (e : End) → Ends w (read_files words text more read next) e → ReadOr more read next e
 
     abbrev Asked : (more : List (List ℕ)) (read : List Source) (next : List Source → Plan) → Next
@@ -147,7 +147,7 @@ module _ (w : Reads) (seen : Contents) (fails : List ℕ → Type 0) (agree : Ar
         one_more path text more read next e (subst (λ (b : Bool). IsContent b path input seen text) (sym dash) (same refl)) short (inl dash) (rest (read ++ source_at path text ∷ []) next e ends)
     path_leads path more rest false plain same read next e ends = file_leads path more rest plain (is_word words path) read next e ends
 
-    reads_lead : (paths : List (List ℕ)) → (any_dash paths ≡ true → IfSome input (λ told. text ≡ told)) → Rest paths
+    pub reads_lead : (paths : List (List ℕ)) → (any_dash paths ≡ true → IfSome input (λ told. text ≡ told)) → Rest paths
     unfolding read_files
     reads_lead [] same read next e ends =
         inl record { more = []; named = refl; held = All-nil IsHeld; short = All-nil IsShort; ends = subst (λ (l : List Source). Ends w (next l) e) (sym (append-nil read)) ends }

@@ -74,7 +74,7 @@ first_not folder seen name others (n ∷ listed) none =
 
 -- ---- what was read of a chosen file
 -- where it is taken from
-held_at : (root : List ℕ) (seen : Contents) (etc usr : List (List ℕ)) (from_etc : Bool) (name bytes : List ℕ)
+pub held_at : (root : List ℕ) (seen : Contents) (etc usr : List (List ℕ)) (from_etc : Bool) (name bytes : List ℕ)
     → Contains (if from_etc then etc else usr) name → from_etc ≡ lists name etc
     → Some bytes ≡ bytes_at seen (root ++ ((if from_etc then codes "/etc/udev/hwdb.d/" else codes "/usr/lib/udev/hwdb.d/") ++ name))
     → bytes ≡ first_of name (files_at (etc_files root) seen etc) (first_of name (files_at (usr_files root) seen usr) [])
@@ -85,7 +85,7 @@ held_at root seen etc usr false name bytes has from read =
     ∙ sym (first_at (usr_files root) seen name [] usr has) ∙ sym (first_not (etc_files root) seen name _ etc (sym from))
 
 -- the folder is the one that has the name
-abbrev IsFrom : (etc : List (List ℕ)) → Choice → Type 0
+abbrev pub IsFrom : (etc : List (List ℕ)) → Choice → Type 0
 IsFrom etc c = c.from_etc ≡ lists c.name etc
 
 all_held : (root : List ℕ) (seen : Contents) (etc usr : List (List ℕ)) (files : List ChosenFile)
@@ -101,7 +101,7 @@ all_held root seen etc usr (f ∷ files) read listed from =
     (all_held root seen etc usr files (ap (drop 1) read) (All-tail (IsListed etc usr) (choice_in f) (map choice_in files) listed)
     (All-tail (IsFrom etc) (choice_in f) (map choice_in files) from))
 
-all_from : (etc usr : List (List ℕ)) → All (IsFrom etc) (choice etc usr)
+pub all_from : (etc usr : List (List ℕ)) → All (IsFrom etc) (choice etc usr)
 all_from etc usr = All-map (IsFrom etc) _ (names etc usr) (λ k d lt. refl)
 
 -- the chosen files with what was read of them are those of the folders' files

@@ -23,8 +23,9 @@ use Rattle.hwdb_spec_program.specs.CheckedReasons.{HasCheckedReason}
 use Rattle.hwdb_spec_commands.specs.DeviceAsked.{IsDevicePrinted}
 use Rattle.hwdb_spec_commands.specs.DeviceTree.{Sight}
 use Rattle.hwdb_spec_commands.specs.declared.devices.DeviceForm.{DeviceForm}
+use Rattle.hwdb_spec_program.specs.ComparedDatabases.{HasDiffReason, IsDiffRefused, IsDiffed}
 use Rattle.hwdb_spec_program.specs.DeviceErrors.{IsDeviceRefused, asked_names}
-use Rattle.hwdb_spec_program.specs.GivenDatabases.{HasDatabaseReason, OfNamed}
+use Rattle.hwdb_spec_program.specs.GivenDatabases.{HasDatabaseReason, OfNamed, names_twice, twice_text}
 use Rattle.hwdb_spec_program.specs.NearErrors.{IsNearRefused}
 use Rattle.hwdb_spec_program.specs.TestErrors.{HasTestReason, IsTestRefused}
 use Rattle.hwdb_spec_program.specs.Tested.{IsTested}
@@ -38,6 +39,7 @@ use Rattle.hwdb_plan.specs.Answers.{explain_plan, query_plan}
 use Rattle.hwdb_plan.specs.Ask.{ask_plan}
 use Rattle.hwdb_plan.specs.Check.{check_plan, said_of}
 use Rattle.hwdb_plan.specs.Device.{OfCause, device_plan}
+use Rattle.hwdb_plan.specs.Diff.{change_of, diff_plan, once}
 use Rattle.hwdb_plan.specs.Dump.{dump_plan}
 use Rattle.hwdb_plan.specs.Ended.{Outs, ShowsEnd}
 use Rattle.hwdb_plan.specs.Input.{OverGiven, OverNamed}
@@ -151,3 +153,10 @@ UpdateAsBefore w before now err_before err_now = (root : List ℕ) (usr strict v
 abbrev pub UpdateCrashAsBefore : Reads → Files → Type 0
 UpdateCrashAsBefore w before = (root : List ℕ) (usr strict verbose skip : Bool) (words : List (List ℕ)) (path : List ℕ) (v : Option Stored)
     → OldOrPut w (update_plan root usr strict verbose skip words) before.seen before.left path v → OldOrUpdatedLess before.fails root usr skip before.seen before.left path v
+-- the text and the status are those of both sides, for the devices of the files that words name; an error is one of `diff`, and what it says
+-- is so
+abbrev pub DiffAsBefore : Reads → Contents → (MayFail : (path : List ℕ) → Type 0) → Type 0
+DiffAsBefore w seen MayFail = (input : Option (List ℕ)) (before now : ℕ) (stat json : Bool) (given : List (List ℕ)) (old_path new_path : List ℕ) (result : Result Answer Refusal)
+    → OfInput input before now (λ told. Follows end_of w (once (names_twice given old_path new_path) twice_text (diff_plan told given old_path new_path (change_of stat json))) result)
+    → IfOk result (λ a. OnOut (λ text. IsDiffed stat json given old_path new_path input seen text a.status) (texts_in a))
+    × IfErr result (IsDiffRefused given old_path new_path input seen) × IfErr result (HasDiffReason given old_path new_path MayFail seen input before now)

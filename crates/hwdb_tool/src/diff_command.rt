@@ -12,8 +12,12 @@ ghost use Rattle.hwdb_spec_commands.specs.Undone.{told_path};
 ghost use Rattle.hwdb_spec_commands.specs.Runs.{OnOut};
 ghost use Rattle.hwdb_spec_program.specs.ComparedDatabases.{HasDiffReason, IsCompared, IsDiffed, IsDiffRefused, IsOfDiff};
 ghost use Rattle.hwdb_spec.specs.Texts.{devices_of};
+ghost use Rattle.hwdb_spec_commands.specs.Told.{IsStop};
+ghost use Rattle.hwdb_plan.specs.Diff.{change_of, diff_plan, diff_stop, once, sides_compared};
+ghost use Rattle.hwdb_plan.specs.Files.{OfInput};
+ghost use Rattle.hwdb_plan.specs.Plans.{Follows};
 ghost use Rattle.hwdb_tool.specs.SideSteps.{IsOneDash, IsPairError};
-ghost use Rattle.hwdb_tool.specs.Views.{texts_in};
+ghost use Rattle.hwdb_tool.specs.Views.{end_of, texts_in};
 
 use crate::answer::Answer;
 use crate::check_command::{given_texts, with_paths};
@@ -23,6 +27,7 @@ use hwdb_answers::ToolError;
 use hwdb_check::TextFile;
 use hwdb_databases::{Changes, DiffError, diff_devices, stat, stat_devices};
 use hwdb_io::Source;
+use hwdb_reader::law_one_tree;
 use hwdb_system::{Refusal, TextsBelow};
 use hwdb_text::Lines;
 use std::alloc::{AllocError, Global};
@@ -47,6 +52,11 @@ pub fn diff<D: TextsBelow, I: Source>(
     system: &D,
     input: &mut I,
 ) -> Result<Answer, Refusal>
+    ensures follows { D.Store.tells → OfInput (I.left input.old) (I.failures input.old)
+        (I.failures input.new) (λ told. Follows end_of (D.System.reads system.now)
+        (once (names_twice (map string_bytes given.now) old_path.now new_path.now) twice_text
+        (diff_plan told (map string_bytes given.now) old_path.now new_path.now
+        (change_of stat json))) result) }
     ensures diffed { D.Store.tells → IfOk result (λ a. OnOut (λ text. IsDiffed stat json
         (map string_bytes given.now) old_path.now new_path.now (I.left input.old)
         (D.Store.seen system.now) text a.status) (texts_in a)) }
@@ -97,6 +107,11 @@ fn compared<D: TextsBelow, I: Source>(
     system: &D,
     input: &mut I,
 ) -> Result<Answer, Refusal>
+    ensures follows { D.Store.tells → IsOneDash old_path.now new_path.now
+        → OfInput (I.left input.old) (I.failures input.old) (I.failures input.new)
+        (λ told. Follows end_of (D.System.reads system.now)
+        (sides_compared told old_path.now new_path.now
+        (change_of stat json (map source_of files.now))) result) }
     ensures compared { D.Store.tells → IsOneDash old_path.now new_path.now
         → IfOk result (λ a. OnOut (λ text. IsCompared
         (comparison_form stat json (devices_named (map source_of files.now)))
@@ -109,6 +124,7 @@ fn compared<D: TextsBelow, I: Source>(
     ensures unread { is_dash old_path.now ≡ false → is_dash new_path.now ≡ false
         → input.new ≡ input.old }
 {
+    law_one_tree();
     let old = side(alloc, old_path, system, input)?;
     let new = side(alloc, new_path, system, input)?;
     match changes_of(alloc, stat, json, files, &old, &new) {
@@ -228,11 +244,12 @@ fn told_path(path: &str) -> &[u8]
 
 /// The error if the databases of these sides can't be compared.
 fn refusal_of(alloc: Global, error: DiffError, old_path: &str, new_path: &str) -> Refusal
-    ensures { IsOfDiff error old_path.now new_path.now result }
+    ensures refusal { IsOfDiff error old_path.now new_path.now result }
+    ensures stops { IsStop (diff_stop old_path.now new_path.now error) result }
 {
     match error {
         DiffError::Old(fault) => {
-            Refusal::at(
+            Refusal::of_cause(
                 alloc,
                 ToolError::BadDatabase(fault),
                 told_path(old_path),
@@ -240,7 +257,7 @@ fn refusal_of(alloc: Global, error: DiffError, old_path: &str, new_path: &str) -
             )
         }
         DiffError::New(fault) => {
-            Refusal::at(
+            Refusal::of_cause(
                 alloc,
                 ToolError::BadDatabase(fault),
                 told_path(new_path),

@@ -5,6 +5,10 @@ ghost use Rattle.hwdb_compile.specs.Views.{sources};
 ghost use Rattle.hwdb_check.specs.Checks.{source_of};
 ghost use Rattle.hwdb_spec_commands.specs.CheckedFiles.{StandFor, folder_of, is_file};
 ghost use Rattle.hwdb_spec_program.specs.ComparedDatabases.{IsSideGiven};
+ghost use Rattle.hwdb_plan.specs.Files.{OfInput};
+ghost use Rattle.hwdb_plan.specs.GivenFolders.{if_few};
+ghost use Rattle.hwdb_plan.specs.Plans.{ReachesValue};
+ghost use Rattle.hwdb_plan.specs.Sides.{file_bytes, folder_bytes, made_at, made_of, own_made, plain_side, side, taken_from};
 ghost use Rattle.hwdb_spec.specs.Folders as folders;
 ghost use Rattle.hwdb_spec_commands.specs.Given.{is_dash};
 ghost use Rattle.hwdb_spec.specs.Lines.{has};
@@ -13,6 +17,7 @@ ghost use Rattle.hwdb_spec_commands.specs.Sides;
 ghost use Rattle.hwdb_spec_commands.specs.Sides.{AreMadeAt, HasOwn, HasTexts, IsSide, as_etc, names_text, no_texts_text};
 ghost use Rattle.hwdb_spec_commands.specs.Status.{IsMade};
 ghost use Rattle.hwdb_spec_commands.specs.StatusErrors.{AreNotMade, IsNotCompiled};
+ghost use Rattle.hwdb_spec_commands.specs.Told.{IsReadTo, Reads};
 ghost use Rattle.hwdb_spec.specs.Store.{Contents};
 ghost use Rattle.hwdb_spec.specs.System.{bytes_at};
 ghost use Rattle.hwdb_spec.specs.Texts.{max_file};
@@ -131,6 +136,8 @@ fn texts_at<D: System>(
     own: &[String],
     system: &D,
 ) -> Result<Vec<u8>, Refusal>
+    ensures told { D.Store.tells → ReachesValue (λ v. v.items) (D.System.reads system.now)
+        (made_at path.now (map string_bytes own.now)) result }
     ensures made { D.Store.tells → StandFor (D.Store.seen system.now) (path.now ∷ [])
         (map string_bytes own.now)
         → IfOk result (λ bytes. AreMadeAt path.now (D.Store.seen system.now) bytes.items) }
@@ -151,6 +158,9 @@ fn named_texts<D: System>(
     names: &[String],
     system: &D,
 ) -> Result<Vec<u8>, Refusal>
+    ensures told { D.Store.tells → ReachesValue (λ v. v.items) (D.System.reads system.now)
+        (λ next. if_few path.now (map string_bytes names.now)
+        (λ own. made_at path.now own next)) result }
     ensures side { D.Store.tells
         → IsFolderOf path.now (D.Store.seen system.now) (map string_bytes names.now)
         → HasTexts (folder_of path.now) (D.Store.seen system.now) false
@@ -201,6 +211,8 @@ fn own_texts<D: System>(
     names: &[String],
     system: &D,
 ) -> Result<Vec<u8>, Refusal>
+    ensures told { D.Store.tells → ReachesValue (λ v. v.items) (D.System.reads system.now)
+        (own_made path.now (map string_bytes names.now)) result }
     ensures side { D.Store.tells
         → IsFolderOf path.now (D.Store.seen system.now) (map string_bytes names.now)
         → HasTexts (folder_of path.now) (D.Store.seen system.now) false
@@ -220,6 +232,8 @@ fn own_texts<D: System>(
 
 /// The bytes of a text file.
 fn text_file_at<D: System>(alloc: Global, path: &str, system: &D) -> Result<Vec<u8>, Refusal>
+    ensures told { D.Store.tells → ReachesValue (λ v. v.items) (D.System.reads system.now)
+        (made_at path.now (path.now ∷ [])) result }
     ensures side { D.Store.tells → is_file (D.Store.seen system.now) path.now ≡ true
         → names_text path.now ≡ true
         → IfOk result (λ bytes. IsSide path.now (D.Store.seen system.now) bytes.items) }
@@ -234,6 +248,8 @@ fn text_file_at<D: System>(alloc: Global, path: &str, system: &D) -> Result<Vec<
 
 /// The bytes of a database.
 fn database_at<D: System>(alloc: Global, path: &str, system: &D) -> Result<Vec<u8>, Refusal>
+    ensures told { D.Store.tells → IsReadTo (λ v. v.items)
+        ((D.System.reads system.now).input path.now) path.now result }
     ensures held { D.Store.tells → IfOk result
         (λ bytes. bytes_at (D.Store.seen system.now) path.now ≡ Some bytes.items) }
     ensures within { IfOk result (λ bytes. length bytes.items ≤ max_file) }
@@ -243,12 +259,13 @@ fn database_at<D: System>(alloc: Global, path: &str, system: &D) -> Result<Vec<u
         (IsUnreadable (D.System.may_fail system.now) (D.Store.seen system.now)) ⊥
         (D.Store.seen system.now)) }
 {
-    let bytes = system.input(alloc, path)?;
-    Ok(bytes)
+    system.input(alloc, path)
 }
 
 /// The bytes of a file: a text file if it has the name of one, else a database.
 fn file_at<D: System>(alloc: Global, path: &str, system: &D) -> Result<Vec<u8>, Refusal>
+    ensures told { D.Store.tells → ReachesValue (λ v. v.items) (D.System.reads system.now)
+        (file_bytes path.now) result }
     ensures side { D.Store.tells → is_file (D.Store.seen system.now) path.now ≡ true
         → IfOk result (λ bytes. IsSide path.now (D.Store.seen system.now) bytes.items) }
     ensures refused { D.Store.tells → is_file (D.Store.seen system.now) path.now ≡ true
@@ -266,6 +283,11 @@ fn file_at<D: System>(alloc: Global, path: &str, system: &D) -> Result<Vec<u8>, 
 fn root_bytes(alloc: Global, selection: &Selection) -> Result<Vec<u8>, Refusal>
     requires count { length selection.now.texts.items ≡ length selection.now.chosen.items }
     requires storable { All IsStorableChoice (map choice_of selection.now.chosen.items) }
+    ensures told { (w : Reads) (root : List ℕ) (contents : Contents)
+        → IsOfSelection root contents selection.now
+        → let chosen = map choice_of selection.now.chosen.items in
+        let texts = map (λ t. t.items) selection.now.texts.items in ReachesValue (λ v. v.items)
+        w (made_of (taken_from true chosen texts) (taken_from false chosen texts)) result }
     ensures made { (root : List ℕ) (contents : Contents)
         → IsOfSelection root contents selection.now
         → IfOk result (λ bytes. (of_etc of_usr : List folders.Source)
@@ -293,6 +315,8 @@ fn folder_at<D: TextsBelow>(
     names: &[String],
     system: &D,
 ) -> Result<Vec<u8>, Refusal>
+    ensures told { D.Store.tells → ReachesValue (λ v. v.items) (D.System.reads system.now)
+        (folder_bytes path.now (map string_bytes names.now)) result }
     ensures side { D.Store.tells
         → IsFolderOf path.now (D.Store.seen system.now) (map string_bytes names.now)
         → IfOk result (λ bytes. IsSide path.now (D.Store.seen system.now) bytes.items) }
@@ -311,6 +335,8 @@ fn folder_at<D: TextsBelow>(
 
 /// The bytes of a side that is no `-`.
 fn plain_side<D: TextsBelow>(alloc: Global, path: &str, system: &D) -> Result<Vec<u8>, Refusal>
+    ensures told { D.Store.tells → ReachesValue (λ v. v.items) (D.System.reads system.now)
+        (plain_side path.now) result }
     ensures side { D.Store.tells → is_dash path.now ≡ false
         → IfOk result (λ bytes. IsSide path.now (D.Store.seen system.now) bytes.items) }
     ensures refused { D.Store.tells → is_dash path.now ≡ false → IfErr result
@@ -333,6 +359,9 @@ pub fn side<D: TextsBelow, I: Source>(
     system: &D,
     input: &mut I,
 ) -> Result<Vec<u8>, Refusal>
+    ensures told { D.Store.tells → OfInput (I.left input.old) (I.failures input.old)
+        (I.failures input.new) (λ told. ReachesValue (λ v. v.items)
+        (D.System.reads system.now) (side told path.now) result) }
     ensures side { D.Store.tells → IfOk result (λ bytes. IsSideGiven path.now
         (I.left input.old) (D.Store.seen system.now) bytes.items) }
     ensures refused { D.Store.tells → IfErr result (IsGivenSideError

@@ -1,11 +1,21 @@
-use Rattle.std.proofs.Common.{List, inl, inr, map, subst, sym, ⊎_elim, ◌∙◌, ℕ}
+use Rattle.std.proofs.Common.{List, inl, inr, map, subst, sym, ⊎_elim, ◌∙◌, ℕ, Err, Ok, Result, ap}
 use Rattle.hwdb_check.specs.Checks.{source_of}
 use Rattle.hwdb_spec_program.specs.ComparedDatabases.{IsSideGiven}
-use Rattle.hwdb_spec_commands.specs.Comparisons.{comparison_form, devices_named}
-use Rattle.hwdb_spec_commands.specs.Databases.{IsDiffText}
+use Rattle.hwdb_spec_commands.specs.Comparisons.{comparison_form, devices_named, has_changed}
+use Rattle.hwdb_spec_commands.specs.Databases.{IsDiffText, IsDifferent}
 use Rattle.hwdb_spec.specs.Lemmas.Calls.{given_error}
 use Rattle.hwdb_tool.specs.SideSteps.{IsGivenSideError, IsPairError}
 use Rattle.hwdb_tool.proofs.InputSideLemmas.{error_any, side_any}
+use Rattle.hwdb_plan.specs.Diff.{change_of, compared}
+use Rattle.hwdb_plan.specs.Lemmas.Diff.{compared_end, pair_told, uncompared_end}
+use Rattle.hwdb_plan.specs.Lemmas.Folders.{value_ends, value_ends_in}
+use Rattle.hwdb_plan.specs.Plans.{End, Plan}
+use Rattle.hwdb_plan.specs.Sides.{side}
+use Rattle.hwdb_spec_commands.specs.declared.unread.Unread.{Unread}
+use Rattle.hwdb_spec.specs.Tree.{Tree}
+use Rattle.hwdb_tool.specs.Views.{end_of}
+use Rattle.hwdb_tool.proofs.SidePlanLemmas.{items}
+use Rattle.hwdb_spec_commands.specs.DiffErrors.{IsDiffRefusal}
 use Rattle.hwdb_tool.proofs.diff_command.compared.Goals as goal
 
 pub returns-in_err-old-clause-refused : goal.returns-in_err-old-clause-refused
@@ -39,7 +49,7 @@ returns-clause-refused g c = λ tells one.
     let of_new = subst (IsSideGiven new_path input seen) (sym c.deref-2.ensures.value)
     (⊎_elim (λ plain. subst (λ i. IsSideGiven new_path (g.I.Source.left i) seen c.in_ok-new.new.items) (c.in_ok-old.ensures.unread plain) (c.in_ok-new.ensures.side tells))
     (λ plain. side_any new_path (g.I.Source.left c.side.new.input) input seen c.in_ok-new.new.items plain (c.in_ok-new.ensures.side tells)) one) in
-    inr (inr record { old = c.deref.result.now; new = c.deref-2.result.now; held = record { of_old = of_old; of_new = of_new }; error = c.in-Err.error; is = c.refusal_of.ensures; refused = c.in-Err.ensures.errors })
+    inr (inr record { old = c.deref.result.now; new = c.deref-2.result.now; held = record { of_old = of_old; of_new = of_new }; error = c.in-Err.error; is = c.refusal_of.ensures.refusal; refused = c.in-Err.ensures.errors })
 
 pub returns-in-Ok-clause-compared : goal.returns-in-Ok-clause-compared
 returns-in-Ok-clause-compared g c = λ tells one.
@@ -61,4 +71,85 @@ returns-in-Ok-clause-compared g c = λ tells one.
         differs = c.in-Ok.ensures.differ;
         says = c.new.ensures.status ∙ c.status_of.ensures.is;
       },
+    )
+
+-- what follows one side, and what follows both
+abbrev after_old : (told : Result (List ℕ) Unread) (old_path new_path : List ℕ) (say : Tree → Tree → End) → List ℕ → Plan
+after_old told old_path new_path say old = side told new_path (λ new. compared old_path new_path old new say)
+
+pub returns-in_err-old-clause-follows : goal.returns-in_err-old-clause-follows
+returns-in_err-old-clause-follows g c = λ tells one.
+    let w = g.D.System.reads c.args.system.now in
+    let old_path = c.args.old_path.now in
+    let say = change_of c.args.stat c.args.json (map source_of c.args.files.now) in
+    let told = c.in_err-old.ensures.told tells in (
+      told.0,
+      told.1,
+      value_ends_in w items end_of (side told.0 old_path) (after_old told.0 old_path c.args.new_path.now say) c.in_err-old.field-0.0 c.from_residual.result told.2 c.from_residual.ensures.1,
+    )
+
+pub returns-in_err-new-clause-follows : goal.returns-in_err-new-clause-follows
+returns-in_err-new-clause-follows g c = λ tells one.
+    let w = g.D.System.reads c.args.system.now in
+    let left = g.I.Source.left in
+    let failures = g.I.Source.failures in
+    let old_path = c.args.old_path.now in
+    let new_path = c.args.new_path.now in
+    let say = change_of c.args.stat c.args.json (map source_of c.args.files.now) in
+    let r = c.in_err-new.field-0.0 in
+    let told = pair_told w items items old_path new_path (left c.args.input.now) (left c.side.new.input) (failures c.args.input.now) (failures c.side.new.input) (failures c.side-2.new.input)
+    (Ok c.in_ok-old.old) (Err r) one (λ plain. (ap left (c.in_ok-old.ensures.unread plain), ap failures (c.in_ok-old.ensures.unread plain))) (λ plain. ap failures (c.in_err-new.ensures.unread plain))
+    (c.in_ok-old.ensures.told tells) (c.in_err-new.ensures.told tells) in (
+      told.0,
+      told.1,
+      value_ends w items end_of (side told.0 old_path) (after_old told.0 old_path new_path say) c.in_ok-old.old c.from_residual-in_err-new.result told.2.0
+          (value_ends_in w items end_of (side told.0 new_path) (λ new. compared old_path new_path c.in_ok-old.old.items new say) r c.from_residual-in_err-new.result told.2.1 c.from_residual-in_err-new.ensures.1),
+    )
+
+pub returns-clause-follows : goal.returns-clause-follows
+returns-clause-follows g c = λ tells one.
+    let w = g.D.System.reads c.args.system.now in
+    let left = g.I.Source.left in
+    let failures = g.I.Source.failures in
+    let old_path = c.args.old_path.now in
+    let new_path = c.args.new_path.now in
+    let sources = map source_of c.args.files.now in
+    let say = change_of c.args.stat c.args.json sources in
+    let told = pair_told w items items old_path new_path (left c.args.input.now) (left c.side.new.input) (failures c.args.input.now) (failures c.side.new.input) (failures c.side-2.new.input)
+    (Ok c.in_ok-old.old) (Ok c.in_ok-new.new) one (λ plain. (ap left (c.in_ok-old.ensures.unread plain), ap failures (c.in_ok-old.ensures.unread plain))) (λ plain. ap failures (c.in_ok-new.ensures.unread plain))
+    (c.in_ok-old.ensures.told tells) (c.in_ok-new.ensures.told tells) in (
+      told.0,
+      told.1,
+      value_ends w items end_of (side told.0 old_path) (after_old told.0 old_path new_path say) c.in_ok-old.old (Err c.refusal_of.result) told.2.0
+          (value_ends w items end_of (side told.0 new_path) (λ new. compared old_path new_path c.in_ok-old.old.items new say) c.in_ok-new.new (Err c.refusal_of.result) told.2.1
+          (uncompared_end w c.law_one_tree.ensures c.args.stat c.args.json sources old_path new_path c.in_ok-old.old.items c.in_ok-new.new.items c.in-Err.error c.refusal_of.result
+          (subst (λ (o : List ℕ). IsDiffRefusal o c.in_ok-new.new.items c.in-Err.error) c.deref.ensures.value
+          (subst (λ (n : List ℕ). IsDiffRefusal c.deref.result.now n c.in-Err.error) c.deref-2.ensures.value c.in-Err.ensures.errors)) c.refusal_of.ensures.stops)),
+    )
+
+pub returns-in-Ok-clause-follows : goal.returns-in-Ok-clause-follows
+returns-in-Ok-clause-follows g c = λ tells one.
+    let w = g.D.System.reads c.args.system.now in
+    let left = g.I.Source.left in
+    let failures = g.I.Source.failures in
+    let old_path = c.args.old_path.now in
+    let new_path = c.args.new_path.now in
+    let sources = map source_of c.args.files.now in
+    let say = change_of c.args.stat c.args.json sources in
+    let of = comparison_form c.args.stat c.args.json (devices_named sources) in
+    let differ = has_changed (devices_named sources) in
+    let changes = c.in-Ok.changes in
+    let text = subst (λ (o : List ℕ). IsDiffText of o c.in_ok-new.new.items changes.text.items) c.deref.ensures.value
+    (subst (λ (n : List ℕ). IsDiffText of c.deref.result.now n changes.text.items) c.deref-2.ensures.value c.in-Ok.ensures.text) in
+    let differs = subst (λ (o : List ℕ). IsDifferent differ o c.in_ok-new.new.items changes.differ) c.deref.ensures.value
+    (subst (λ (n : List ℕ). IsDifferent differ c.deref.result.now n changes.differ) c.deref-2.ensures.value c.in-Ok.ensures.differ) in
+    let told = pair_told w items items old_path new_path (left c.args.input.now) (left c.side.new.input) (failures c.args.input.now) (failures c.side.new.input) (failures c.side-2.new.input)
+    (Ok c.in_ok-old.old) (Ok c.in_ok-new.new) one (λ plain. (ap left (c.in_ok-old.ensures.unread plain), ap failures (c.in_ok-old.ensures.unread plain))) (λ plain. ap failures (c.in_ok-new.ensures.unread plain))
+    (c.in_ok-old.ensures.told tells) (c.in_ok-new.ensures.told tells) in (
+      told.0,
+      told.1,
+      value_ends w items end_of (side told.0 old_path) (after_old told.0 old_path new_path say) c.in_ok-old.old (Ok c.new.result) told.2.0
+          (value_ends w items end_of (side told.0 new_path) (λ new. compared old_path new_path c.in_ok-old.old.items new say) c.in_ok-new.new (Ok c.new.result) told.2.1
+          (compared_end w c.law_one_tree.ensures c.args.stat c.args.json sources old_path new_path c.in_ok-old.old.items c.in_ok-new.new.items changes.differ c.new.result.status c.new.result.err.items
+          c.new.result.out.items (subst (IsDiffText of c.in_ok-old.old.items c.in_ok-new.new.items) (sym c.new.ensures.out) text) differs (c.new.ensures.status ∙ c.status_of.ensures.is) c.new.ensures.err)),
     )
