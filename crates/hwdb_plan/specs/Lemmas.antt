@@ -12,3 +12,4 @@ pub mod Fronts
 pub mod Update
 pub mod Sides
 pub mod Diff
+pub mod Status

@@ -21,5 +21,6 @@ pub mod Device
 pub mod Put
 pub mod Readable
 pub mod Update
+pub mod Status
 pub mod Putting
 pub mod Lemmas

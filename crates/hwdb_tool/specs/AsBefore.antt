@@ -15,6 +15,8 @@ use Rattle.hwdb_spec_commands.specs.Queries.{AreDone, AreUnanswered}
 use Rattle.hwdb_spec_commands.specs.Reasons.{HasAskedReason, HasGivenReason, HasFilesReason}
 use Rattle.hwdb_spec_commands.specs.Refusals.{HasReason}
 use Rattle.hwdb_spec_commands.specs.Undone.{AreUncheckable, IsAskRefused, IsCheckRefused, IsListRefused, IsUnwritable}
+use Rattle.hwdb_spec_commands.specs.Status.{IsStatus}
+use Rattle.hwdb_spec_commands.specs.StatusErrors.{IsStatusRefused}
 use Rattle.hwdb_spec_commands.specs.declared.form.Form.{Form}
 use Rattle.hwdb_spec_commands.specs.declared.form.Form.TheVariants.{Explain, Query}
 use Rattle.hwdb_spec_commands.specs.Near.{PatternAt}
@@ -48,6 +50,7 @@ use Rattle.hwdb_plan.specs.Plans.{Follows, Plan, over}
 use Rattle.hwdb_system.specs.Reads.{with_read}
 use Rattle.hwdb_plan.specs.Files.{OfInput}
 use Rattle.hwdb_plan.specs.Near.{near_plan}
+use Rattle.hwdb_plan.specs.Status.{status_plan}
 use Rattle.hwdb_plan.specs.Test.{test_plan}
 use Rattle.hwdb_plan.specs.Verify.{verify_plan}
 use Rattle.hwdb_tool.specs.Views.{end_of, texts_in}
@@ -160,3 +163,9 @@ DiffAsBefore w seen MayFail = (input : Option (List ℕ)) (before now : ℕ) (st
     → OfInput input before now (λ told. Follows end_of w (once (names_twice given old_path new_path) twice_text (diff_plan told given old_path new_path (change_of stat json))) result)
     → IfOk result (λ a. OnOut (λ text. IsDiffed stat json given old_path new_path input seen text a.status) (texts_in a))
     × IfErr result (IsDiffRefused given old_path new_path input seen) × IfErr result (HasDiffReason given old_path new_path MayFail seen input before now)
+
+-- the text and the status are those of the asked database; an error is one of `status`, and what it says of a path is so
+abbrev pub StatusAsBefore : Reads → Contents → (MayFail : (path : List ℕ) → Type 0) → Type 0
+StatusAsBefore w seen MayFail = (root : List ℕ) (json quiet : Bool) (result : Result Answer Refusal) → Follows end_of w (status_plan root json quiet) result
+    → IfOk result (λ a. OnOut (λ text. IsStatus root json quiet seen text a.status) (texts_in a))
+    × IfErr result (IsStatusRefused root seen) × IfErr result (HasReason MayFail ⊥ seen)

@@ -15,6 +15,7 @@ use Rattle.hwdb_spec.specs.Texts.{max_file}
 use Rattle.hwdb_spec.specs.Tree.{Map, map_of_files}
 use Rattle.hwdb_spec.specs.Written.{IsDatabaseOf, IsWritten}
 use Rattle.hwdb_spec_commands.specs.declared.refusals.Refusal.{Refusal}
+use Rattle.hwdb_plan.specs.Status.{InPlaces, Now}
 use Rattle.hwdb_tool.specs.Internal.{AreReadOf}
 use Rattle.hwdb_tool.specs.declared.answer.Answer.{Answer}
 
@@ -71,3 +72,16 @@ pub record IsMadeNow (root : List ℕ) (contents : Contents) (made : List ℕ) (
 -- the text files of both folders can't be read, or not compiled
 abbrev pub IsNotMadeNow : (root : List ℕ) → Contents → Refusal → Type 0
 IsNotMadeNow root contents refusal = AreUnread root contents refusal ⊎ AreNotMade root contents refusal
+
+-- ---- as plans go on with them
+-- of which folders there is a database, the one that is asked, and the one that it hides
+abbrev pub places : (etc usr : Bool) (asked hidden : Option (List ℕ)) → InPlaces
+places etc usr asked hidden = record { etc = etc; usr = usr; asked = asked; hidden = hidden }
+
+-- what the text files make now, if they assign this
+abbrev pub now_with : Map → (bytes : List ℕ) (bare : Bool) (masked ignored : List (List ℕ)) → Now
+now_with m bytes bare masked ignored = record { assigned = m; bytes = bytes; bare = bare; masked = masked; ignored = ignored }
+
+-- they make these bytes, whatever they assign
+abbrev pub IsNow : (bytes : List ℕ) (bare : Bool) (masked ignored : List (List ℕ)) → Now → Type 0
+IsNow bytes bare masked ignored now = (now ≡ now_with now.assigned bytes bare masked ignored) × IsDatabaseOf now.assigned bytes

@@ -1,5 +1,5 @@
 //! What follows a plan keeps the older promises of its command. Each function does nothing: its contract is the law.
-ghost use Rattle.hwdb_tool.specs.AsBefore.{AskAsBefore, CheckAsBefore, DeviceAsBefore, DumpAsBefore, ExplainAsBefore, ListAsBefore, QueryAsBefore, TextShowsOver, VerifyAsBefore, NearAsBefore, TestAsBefore, UpdateAsBefore, UpdateCrashAsBefore, DiffAsBefore};
+ghost use Rattle.hwdb_tool.specs.AsBefore.{AskAsBefore, CheckAsBefore, DeviceAsBefore, DumpAsBefore, ExplainAsBefore, ListAsBefore, QueryAsBefore, TextShowsOver, VerifyAsBefore, NearAsBefore, TestAsBefore, UpdateAsBefore, UpdateCrashAsBefore, DiffAsBefore, StatusAsBefore};
 ghost use Rattle.hwdb_spec_commands.specs.Runs.{files_by, told_by};
 ghost use Rattle.hwdb_spec_commands.specs.SysfsAnswers.{sight_by};
 
@@ -97,5 +97,11 @@ pub fn update_crash_as_before<D: System>(before: &D)
 /// What follows the plan of `diff` keeps those of `diff`.
 pub fn diff_as_before<D: System>(system: &D)
     ensures { D.Store.tells → DiffAsBefore (D.System.reads system.now)
+        (D.Store.seen system.now) (D.System.may_fail system.now) }
+{}
+
+/// What follows the plan of `status` keeps those of `status`.
+pub fn status_as_before<D: System>(system: &D)
+    ensures { D.Store.tells → StatusAsBefore (D.System.reads system.now)
         (D.Store.seen system.now) (D.System.may_fail system.now) }
 {}

@@ -20,8 +20,12 @@ ghost use Rattle.hwdb_spec.specs.Tree.{Map, Tree};
 ghost use Rattle.hwdb_spec.specs.Written.{IsDatabaseOf};
 ghost use Rattle.hwdb_text.specs.Views.{IsStorableChoice, choice_of};
 ghost use Rattle.hwdb_spec_commands.specs.StatusErrors.{IsNotCompiled, IsStatusRefused};
-ghost use Rattle.hwdb_tool.specs.Statuses.{AreIgnored, AreMadeOf, IsMadeNow, IsNotMadeNow, IsOneUnread, IsReported, ignored_path};
-ghost use Rattle.hwdb_tool.specs.Views.{texts_in};
+ghost use Rattle.hwdb_spec_commands.specs.Told.{IsReadTo};
+ghost use Rattle.hwdb_plan.specs.Plans.{Follows, ReachesValue};
+ghost use Rattle.hwdb_plan.specs.Readable.{ReachesOf};
+ghost use Rattle.hwdb_plan.specs.Status.{databases_of, ignored_below, in_places, made_now, report_plan, seen_at, status_plan};
+ghost use Rattle.hwdb_tool.specs.Statuses.{AreIgnored, AreMadeOf, IsMadeNow, IsNotMadeNow, IsNow, IsOneUnread, IsReported, ignored_path, now_with, places};
+ghost use Rattle.hwdb_tool.specs.Views.{end_of, texts_in};
 ghost use Rattle.hwdb_spec.specs.declared.errors.ToolError.{ToolError};
 ghost use Rattle.hwdb_spec_commands.specs.declared.refusals.Refusal.TheVariants.{Plain};
 
@@ -36,6 +40,7 @@ use hwdb_databases::{
     Amount, Report, Standing, State, amount_of, in_order, is_well, report_in, standing_of,
 };
 use hwdb_io::MAX_BYTES;
+use hwdb_reader::law_one_tree;
 use hwdb_system::{Refusal, System, TextFolders, name_set, selected, with_texts};
 use hwdb_text::{Chosen, ChosenFile};
 use std::alloc::{AllocError, Global};
@@ -148,6 +153,8 @@ fn ignored_paths<D: TextFolders>(
     root: &str,
     system: &D,
 ) -> Result<Vec<Vec<u8>>, Refusal>
+    ensures told { D.Store.tells → ReachesValue (λ paths. map (λ p. p.items) paths.items)
+        (D.System.reads system.now) (ignored_below root.now) result }
     ensures paths { D.Store.tells → IfOk result (λ paths. AreIgnored
         root.now (D.Store.seen system.now) (map (λ p. p.items) paths.items)) }
     ensures refused { D.Store.tells
@@ -185,6 +192,9 @@ fn usr_database<D: System>(
     root: &str,
     system: &D,
 ) -> Result<Option<Vec<u8>>, Refusal>
+    ensures told { D.Store.tells → IsReadTo (λ found. option_map (λ b. b.items) found)
+        ((D.System.reads system.now).database (Asked.database_path true root.now))
+        (Asked.database_path true root.now) result }
     ensures bytes { D.Store.tells → IfOk result (λ found. option_map (λ b. b.items) found
         ≡ bytes_at (D.Store.seen system.now) (Asked.database_path true root.now)) }
     ensures within { IfOk result (λ found. IfSome (option_map (λ b. b.items) found)
@@ -202,6 +212,10 @@ fn usr_database<D: System>(
 
 /// The database of /usr/lib, if there is none of /etc.
 fn asked_in_usr<D: System>(alloc: Global, root: &str, system: &D) -> Result<AskedDatabase, Refusal>
+    ensures told { D.Store.tells → ReachesValue (λ a. places a.etc a.usr
+        (option_map (λ b. b.items) a.bytes) (option_map (λ b. b.items) a.hidden))
+        (D.System.reads system.now) (λ next. seen_at (Asked.database_path true root.now)
+        (λ usr. next (in_places None usr))) result }
     ensures etc { IfOk result (λ a. a.etc ≡ false) }
     ensures usr { D.Store.tells → IfOk result
         (λ a. a.usr ≡ has_database true root.now (D.Store.seen system.now)) }
@@ -231,6 +245,10 @@ fn asked_in_etc<D: System>(
     bytes: Vec<u8>,
     system: &D,
 ) -> Result<AskedDatabase, Refusal>
+    ensures told { D.Store.tells → ReachesValue (λ a. places a.etc a.usr
+        (option_map (λ b. b.items) a.bytes) (option_map (λ b. b.items) a.hidden))
+        (D.System.reads system.now) (λ next. seen_at (Asked.database_path true root.now)
+        (λ usr. next (in_places (Some bytes.items) usr))) result }
     ensures etc { IfOk result (λ a. a.etc ≡ true) }
     ensures usr { D.Store.tells → IfOk result
         (λ a. a.usr ≡ has_database true root.now (D.Store.seen system.now)) }
@@ -259,6 +277,9 @@ fn asked_database<D: System>(
     root: &str,
     system: &D,
 ) -> Result<AskedDatabase, Refusal>
+    ensures told { D.Store.tells → ReachesValue (λ a. places a.etc a.usr
+        (option_map (λ b. b.items) a.bytes) (option_map (λ b. b.items) a.hidden))
+        (D.System.reads system.now) (databases_of root.now) result }
     ensures etc { D.Store.tells → IfOk result
         (λ a. a.etc ≡ has_database false root.now (D.Store.seen system.now)) }
     ensures usr { D.Store.tells → IfOk result
@@ -500,6 +521,10 @@ fn reported<D: System>(
     system: &D,
 ) -> Result<Answer, Refusal>
     requires { (t : Tree) × IsDatabase made.now t }
+    ensures follows { D.Store.tells → (m : Map) → IsDatabaseOf m made.now
+        → Follows end_of (D.System.reads system.now) (report_plan root.now json quiet
+        (now_with m made.now bare (map (λ p. p.items) unread.masked.items)
+        (map (λ p. p.items) unread.ignored.items))) result }
     ensures reported { D.Store.tells → IfOk result (λ a. (m : Map) → IsDatabaseOf m made.now
         → IsReported root.now json quiet (D.Store.seen system.now) made.now m
         (map (λ p. p.items) unread.masked.items) (map (λ p. p.items) unread.ignored.items) bare a) }
@@ -508,6 +533,7 @@ fn reported<D: System>(
     ensures reason { IfErr result
         (HasReason (D.System.may_fail system.now) ⊥ (D.Store.seen system.now)) }
 {
+    law_one_tree();
     let asked = asked_database(alloc, root, system)?;
     let standing = standing_of(alloc, bytes_of(&asked.bytes), made)?;
     let hidden = amount_if(alloc, &asked.hidden)?;
@@ -518,6 +544,10 @@ fn reported<D: System>(
 
 /// What the text files of both folders make now. Their texts are let go of, so that their memory is there for what is read next.
 fn made_now<D: TextFolders>(alloc: Global, root: &str, system: &D) -> Result<MadeNow, Refusal>
+    ensures told { D.Store.tells → ReachesOf (λ now. IsNow now.database.items now.bare
+        (map (λ p. p.items) now.unread.masked.items)
+        (map (λ p. p.items) now.unread.ignored.items))
+        (D.System.reads system.now) (made_now root.now) result }
     ensures made { D.Store.tells → IfOk result (λ now. IsMadeNow
         root.now (D.Store.seen system.now) now.database.items
         (map (λ p. p.items) now.unread.masked.items)
@@ -553,6 +583,8 @@ pub fn status<D: TextFolders>(
     quiet: bool,
     system: &D,
 ) -> Result<Answer, Refusal>
+    ensures follows { D.Store.tells → Follows end_of (D.System.reads system.now)
+        (status_plan root.now json quiet) result }
     ensures status { D.Store.tells → IfOk result (λ a. OnOut (λ text. IsStatus
         root.now json quiet (D.Store.seen system.now) text a.status) (texts_in a)) }
     ensures refused { D.Store.tells
