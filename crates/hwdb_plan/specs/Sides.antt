@@ -11,7 +11,7 @@ use Rattle.hwdb_spec_commands.specs.Told.Stop.{Plain, Says}
 use Rattle.hwdb_spec_commands.specs.declared.unread.Unread.{Unread}
 use Rattle.hwdb_plan.specs.Asking.{if_read}
 use Rattle.hwdb_plan.specs.Files.{read_files, source_at}
-use Rattle.hwdb_plan.specs.Folders.{Texts, if_listed, texts_of_folders}
+use Rattle.hwdb_plan.specs.Folders.{if_listed, texts_of_folders}
 use Rattle.hwdb_plan.specs.GivenFolders.{if_few}
 use Rattle.hwdb_plan.specs.Plans.{Plan}
 use Rattle.hwdb_plan.specs.Plans.End.{Stops}

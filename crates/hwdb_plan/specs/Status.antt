@@ -2,7 +2,7 @@
 -- `update --check` follows it, and is told the status alone. Our choice, but for what `update` makes.
 use Rattle.std.specs.FinMap as finite
 use Rattle.std.specs.Option.{option_or}
-use Rattle.std.specs.Prelude.{◌==◌, ◌∷◌, ℕ, Bool, true, false, List, [], None, Option, Some, Result, Ok, Err, if◌then◌else◌, is_some, length, map, option_map}
+use Rattle.std.specs.Prelude.{◌==◌, ◌∷◌, ℕ, Bool, true, false, List, [], None, Option, Some, Result, Ok, Err, if◌then◌else◌, is_some, length, option_map}
 use Rattle.hwdb_spec.specs.Assignment.{Assignment}
 use Rattle.hwdb_spec.specs.Folders.{Source, same}
 use Rattle.hwdb_spec.specs.System.{etc_files, usr_files}

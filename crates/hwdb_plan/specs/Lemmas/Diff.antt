@@ -13,7 +13,6 @@ use Rattle.hwdb_spec_commands.specs.Comparisons.{comparison_form, devices_named,
 use Rattle.hwdb_spec_commands.specs.Databases.{IsDiffText, IsDifferent}
 use Rattle.hwdb_spec_commands.specs.DiffErrors.{IsDiffRefusal}
 use Rattle.hwdb_spec_commands.specs.Given.{any_dash, is_dash}
-use Rattle.hwdb_spec_commands.specs.Refusals.{IsInWords}
 use Rattle.hwdb_spec_commands.specs.Told.{IsStop, Reads, stop_of}
 use Rattle.hwdb_spec_commands.specs.Told.Stop.{Says}
 use Rattle.hwdb_spec_commands.specs.declared.refusals.Refusal.{Refusal}
@@ -26,7 +25,6 @@ use Rattle.hwdb_plan.specs.Input.{IsInputTold}
 use Rattle.hwdb_plan.specs.Lemmas.Steps.{plainly}
 use Rattle.hwdb_plan.specs.Plans.{End, Ends, Follows, Plan, ReachesValue}
 use Rattle.hwdb_plan.specs.Plans.End.{Answers, Stops}
-use Rattle.hwdb_plan.specs.Plans.Plan.{Done}
 use Rattle.hwdb_plan.specs.Sides.{plain_side, side}
 
 -- ---- what standard input is told

@@ -20,7 +20,7 @@ use Rattle.hwdb_spec_commands.specs.declared.unread.Unread.{Unread}
 use Rattle.hwdb_plan.specs.Asking.{if_read}
 use Rattle.hwdb_plan.specs.Files.{AreFiles, ReachesFiles}
 use Rattle.hwdb_plan.specs.GivenFolders.{if_few}
-use Rattle.hwdb_plan.specs.Plans.{AreMadeOf, End, Ends, Plan, ReachesValue}
+use Rattle.hwdb_plan.specs.Plans.{AreMadeOf, Ends, Plan, ReachesValue}
 use Rattle.hwdb_plan.specs.Plans.End.{Stops}
 use Rattle.hwdb_plan.specs.Plans.Plan.{Input}
 use Rattle.hwdb_plan.specs.Sides.{file_bytes, made_at, made_of, own_made, plain_side, root_made, side, taken_from}

@@ -1,5 +1,5 @@
 -- Steps of functions that tell how the asked database is.
-use Rattle.std.proofs.Common.{◌≡◌, ◌≢◌, ◌∙◌, ◌⊎◌, ◌∷◌, ◌==◌, inl, inr, ap, sym, subst, refl, eq-eqb, eqb-true, true≢false, Bool, true, false, List, [], None, Option, Some, Result, Ok, Err, ℕ, length, option_map}
+use Rattle.std.proofs.Common.{◌≡◌, ◌≢◌, ◌∙◌, ◌∷◌, ◌==◌, inl, inr, ap, sym, subst, refl, eq-eqb, eqb-true, true≢false, Bool, true, false, List, [], None, Option, Some, Result, Ok, Err, ℕ, option_map}
 use Rattle.std.specs.FinMap as finite
 use Rattle.std.specs.Prelude.{if◌then◌else◌}
 use Rattle.hwdb_spec.specs.Assignment.{Assignment}
@@ -8,10 +8,9 @@ use Rattle.hwdb_spec.specs.Format.{IsDatabase}
 use Rattle.hwdb_spec.specs.Lemmas.Orders.{same_itself, same_text}
 use Rattle.hwdb_spec.specs.Tree.{Map, Tree, map_of}
 use Rattle.hwdb_spec_commands.specs.Differences.{differences}
-use Rattle.hwdb_spec_commands.specs.Status.{Amount, IsAmount, IsAmountOf, IsState, IsStateOf, Report, State, amount_of, report_form, report_of, stale_by, status_of}
+use Rattle.hwdb_spec_commands.specs.Status.{Amount, IsAmount, IsAmountOf, IsState, IsStateOf, Report, State, report_form, report_of, stale_by, status_of}
 use Rattle.hwdb_spec_commands.specs.Status.Amount.{Counted, Uncounted}
 use Rattle.hwdb_spec_commands.specs.Status.State.{Alike, Broken, Fresh, Missing, Stale}
-use Rattle.hwdb_spec_commands.specs.Summary.{summary_of}
 use Rattle.hwdb_spec_commands.specs.Told.{IsReadTo, Reads, stop_of}
 use Rattle.hwdb_spec_commands.specs.declared.refusals.Refusal.{Refusal}
 use Rattle.hwdb_plan.specs.Plans.{End, Ends, IsOfNone, Plan, ReachesValue}
