@@ -156,6 +156,7 @@ UpdateAsBefore w before now err_before err_now = (root : List ℕ) (usr strict v
 abbrev pub UpdateCrashAsBefore : Reads → Files → Type 0
 UpdateCrashAsBefore w before = (root : List ℕ) (usr strict verbose skip : Bool) (words : List (List ℕ)) (path : List ℕ) (v : Option Stored)
     → OldOrPut w (update_plan root usr strict verbose skip words) before.seen before.left path v → OldOrUpdatedLess before.fails root usr skip before.seen before.left path v
+
 -- the text and the status are those of both sides, for the devices of the files that words name; an error is one of `diff`, and what it says
 -- is so
 abbrev pub DiffAsBefore : Reads → Contents → (MayFail : (path : List ℕ) → Type 0) → Type 0

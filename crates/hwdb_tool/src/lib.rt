@@ -76,7 +76,9 @@ mod verify_command;
 pub use answer::Answer;
 pub use answers::{ask_file, explain, list};
 pub use as_before::{
-    ask_as_before, check_as_before, device_as_before, diff_as_before, dump_as_before, explain_as_before, list_as_before, near_as_before, query_as_before, status_as_before, test_as_before, text_shows_over, update_as_before, update_crash_as_before, verify_as_before,
+    ask_as_before, check_as_before, device_as_before, diff_as_before, dump_as_before,
+    explain_as_before, list_as_before, near_as_before, query_as_before, status_as_before,
+    test_as_before, text_shows_over, update_as_before, update_crash_as_before, verify_as_before,
 };
 pub use check_command::check;
 pub use coloured::{Coloured, kind_of, terminals_get_no_control, write_shown};
