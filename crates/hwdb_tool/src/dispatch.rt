@@ -1,5 +1,6 @@
 //! The program: its words, its files, its status and its error lines.
-ghost use Rattle.std.specs.Prelude.{◌≡◌, ◌<◌, ◌≤◌, ◌⊎◌, false, map, option_map, string_bytes, IfOk, IfErr, OnOk};
+ghost use Rattle.std.specs.Prelude.{◌≡◌, ◌<◌, ◌≤◌, ◌⊎◌, false, map, option_map, string_bytes, IfOk, IfErr, List, OnOk, ℕ};
+ghost use Rattle.hwdb_plan.specs.Ended.{outs};
 ghost use Rattle.hwdb_spec.specs.Flushing.{HandsOn, HasHandedOn};
 ghost use Rattle.hwdb_spec.specs.Store as spec;
 ghost use Rattle.hwdb_spec_commands.specs.SysfsAnswers.{sight_by};
@@ -8,6 +9,7 @@ ghost use Rattle.hwdb_spec_commands.specs.WordFaults.{AreWrong};
 ghost use Rattle.hwdb_spec_program.specs.Words.{AskFor};
 ghost use Rattle.hwdb_spec_commands.specs.declared.job.Job.{Job};
 ghost use Rattle.hwdb_spec_program.specs.Program.{IsDone, IsTaskDone, IsUpdate, OldOrAskedFor, OldOrDone, looks_below_root, reads_input, root_of};
+ghost use Rattle.hwdb_spec_program.specs.ProgramPlan.{ShowsPlan, files_plan, program_plan};
 ghost use Rattle.hwdb_spec_program.specs.TaskRefusals.{HasFailedWith, HasSucceeded, IsJobNotDone, IsNotDone, IsRootUnread, IsSaid, refused_status};
 ghost use Rattle.hwdb_spec_commands.specs.Refusals.{HasReason};
 ghost use Rattle.hwdb_spec_commands.specs.declared.refusals.Refusal.TheVariants.{Plain};
@@ -179,6 +181,12 @@ fn run_job<D: Machine, I: Source, O: Sink, E: Sink>(
     err: &mut E,
 ) -> Result<u8, Refusal>
     ensures status { IfOk result (λ status. status ≤ 1) }
+    ensures follows { D.Store.tells → (words : List (List ℕ)) → AskFor words job.now
+        → ShowsPlan (λ a. program_plan a words) (D.System.reads system.old)
+        (sight_by D.answers system.old)
+        (told_by I.left I.failures input.old) (told_by I.left I.failures input.new)
+        (outs (told_by E.taken E.failures err.old) (told_by O.taken O.failures out.old))
+        (outs (told_by E.taken E.failures err.new) (told_by O.taken O.failures out.new)) result }
     ensures any_moment { D.Store.tells
         → spec.LeavesOnly D.Store.moment D.Store.left_since system.old system.new
         (OldOrDone (D.System.may_fail system.old) job.now
@@ -219,6 +227,12 @@ pub fn run<D: Machine, I: Source, O: Sink, E: Sink>(
     err: &mut E,
 ) -> Result<u8, Refusal>
     ensures status { IfOk result (λ status. status ≤ 1) }
+    ensures follows { D.Store.tells → (words : List (List ℕ)) → AskFor words job.now
+        → ShowsPlan (λ a. files_plan a words) (D.System.reads system.old)
+        (sight_by D.answers system.old)
+        (told_by I.left I.failures input.old) (told_by I.left I.failures input.new)
+        (outs (told_by E.taken E.failures err.old) (told_by O.taken O.failures out.old))
+        (outs (told_by E.taken E.failures err.new) (told_by O.taken O.failures out.new)) result }
     ensures any_moment { D.Store.tells
         → spec.LeavesOnly D.Store.moment D.Store.left_since system.old system.new
         (OldOrDone (D.System.may_fail system.old) job.now

@@ -1,5 +1,5 @@
-use Rattle.std.proofs.Common.{◌∷◌, ◌≡◌, ◌⊎◌, false, ap, inl, inr, ⊎_elim, refl, string_bytes, subst, sym, ◌==◌, length, map, not, IfOk, IfErr}
-use Rattle.std.specs.Prelude.{option_map}
+use Rattle.std.proofs.Common.{◌∷◌, ◌≡◌, ◌⊎◌, false, ap, inl, inr, ⊎_elim, refl, string_bytes, subst, sym, ◌==◌, length, map, not, Global, IfOk, IfErr, List, Option, String, ℕ}
+use Rattle.std.specs.Prelude.{codes, option_map}
 use Rattle.hwdb_spec_commands.specs.declared.job.Task.TheVariants.{Ask, Check, Device, Diff, Dump, Near, Status, Test, Update, Verify}
 use Rattle.hwdb_spec_commands.specs.Asked.{IsAnswered, IsDumped, IsListFrom, IsPrinted}
 use Rattle.hwdb_spec_commands.specs.Databases.{IsSummary}
@@ -25,12 +25,28 @@ use Rattle.hwdb_spec_program.specs.CheckedReasons.{HasCheckedReason}
 use Rattle.hwdb_spec_commands.specs.Reasons.{HasFilesReason, HasGivenReason}
 use Rattle.hwdb_spec_commands.specs.Undone.{AreUncheckable, IsAskRefused, IsCheckRefused}
 use Rattle.hwdb_spec_program.specs.TaskRefusals.{IsNotDone, IsTaskReason, Refuses}
-use Rattle.hwdb_tool.specs.Views.{texts_in}
+use Rattle.hwdb_tool.specs.Views.{end_of, texts_in}
 use Rattle.hwdb_tool.proofs.MomentLemmas.{leaves_more}
 use Rattle.hwdb_tool.proofs.ErrorLemmas.{both_errors, both_values}
 use Rattle.hwdb_tool.proofs.GivenLemmas.{checked_write, write_reason}
 use Rattle.hwdb_tool.proofs.NamedInputLemmas.{write_named}
 use Rattle.hwdb_tool.proofs.PrintingLemmas.{any_reason, listed_done, printed_done, printed_refused, refused_or_printed}
+use Rattle.hwdb_plan.specs.Answers.{explain_plan, query_plan}
+use Rattle.hwdb_plan.specs.Ask.{ask_plan}
+use Rattle.hwdb_plan.specs.Check.{check_plan, said_of}
+use Rattle.hwdb_plan.specs.Device.{OfCause, device_plan}
+use Rattle.hwdb_plan.specs.Dump.{dump_plan}
+use Rattle.hwdb_plan.specs.Ended.{ShowsEnd, outs}
+use Rattle.hwdb_plan.specs.Files.{OfInput}
+use Rattle.hwdb_plan.specs.Input.{OverGiven, OverNamed}
+use Rattle.hwdb_plan.specs.List.{list_plan}
+use Rattle.hwdb_plan.specs.Near.{near_plan}
+use Rattle.hwdb_plan.specs.Plans.{Follows}
+use Rattle.hwdb_plan.specs.Test.{test_plan}
+use Rattle.hwdb_plan.specs.Verify.{verify_plan}
+use Rattle.hwdb_spec_commands.specs.Jobs.{IsTask}
+use Rattle.hwdb_spec_commands.specs.declared.devices.DeviceForm.{DeviceForm}
+use Rattle.hwdb_tool.proofs.ProgramPlanLemmas.{ask_planned, check_planned, device_planned, dump_planned, explain_planned, list_planned, near_planned, of_words, query_planned, status_unplanned, test_planned, unplanned, verify_planned}
 use Rattle.hwdb_tool.proofs.dispatch.run.Goals as goal
 use Rattle.hwdb_spec.specs.Lemmas.Calls.{each_error, each_value}
 
@@ -521,3 +537,260 @@ returns-in-Status-clause-refused g c = λ tells.
     (subst (λ r. IfOk c.status.result (λ a. OnOut (λ text. IsStatus r c.in-Status.json c.in-Status.quiet seen text a.status) (texts_in a))) c.root_of-root.ensures (c.status.ensures.status tells))
     (each_error _ (IsTaskReason task (root_of job) job.usr before now) c.status.result (λ r has. any_reason _ _ seen r has) (c.status.ensures.reason tells))
     tt c.printed-in-Status.ensures.refused))
+
+pub returns-in-Update-clause-follows : goal.returns-in-Update-clause-follows
+returns-in-Update-clause-follows g c = λ tells words asked.
+    let w = g.D.System.reads c.args.system.now in
+    let sight = sight_by g.D.DeviceFiles.answers c.args.system.now in
+    let I = told_by g.I.Source.left g.I.Source.failures in
+    let O = told_by g.O.Sink.taken g.O.Sink.failures in
+    let E = told_by g.E.Sink.taken g.E.Sink.failures in
+    let input = I c.args.input.now in
+    let before = outs (E c.args.err.now) (O c.args.out.now) in
+    let now = outs (E c.update_telling.new.err) (O c.args.out.now) in
+    let result = c.update_telling.result in
+    of_words w sight input input before now result words c.args.job.now asked
+    (λ word rows is. unplanned w sight input input before now result (root_of c.args.job.now) c.args.job.now.strict word rows (codes "update") (subst (λ t. IsTask word rows t) c.in-Update.is is).0 (λ a. refl))
+
+pub returns-in-Query-clause-follows : goal.returns-in-Query-clause-follows
+returns-in-Query-clause-follows g c = λ tells words asked.
+    let w = g.D.System.reads c.args.system.now in
+    let sight = sight_by g.D.DeviceFiles.answers c.args.system.now in
+    let I = told_by g.I.Source.left g.I.Source.failures in
+    let O = told_by g.O.Sink.taken g.O.Sink.failures in
+    let E = told_by g.E.Sink.taken g.E.Sink.failures in
+    let input = I c.args.input.now in
+    let left = I c.query.new.input in
+    let before = outs (E c.args.err.now) (O c.args.out.now) in
+    let now = outs (E c.query.new.err) (O c.query.new.out) in
+    let result = c.query.result in
+    let root = root_of c.args.job.now in
+    let devices = c.in-Query.devices in
+    let json = c.in-Query.json in
+    of_words w sight input left before now result words c.args.job.now asked
+    (λ word rows is. query_planned w sight input left before now result root c.args.job.now.strict word rows devices json (subst (λ t. IsTask word rows t) c.in-Query.is is)
+    (subst (λ (ds : List (String Global)). ShowsEnd w (query_plan root json (map string_bytes ds)) input left before now result) c.deref.ensures.value
+    (subst (λ (r : List ℕ). ShowsEnd w (query_plan r json (map string_bytes c.deref.result.now)) input left before now result) c.root_of-root.ensures (c.query.ensures.follows tells))))
+
+pub returns-in-Explain-clause-follows : goal.returns-in-Explain-clause-follows
+returns-in-Explain-clause-follows g c = λ tells words asked.
+    let w = g.D.System.reads c.args.system.now in
+    let sight = sight_by g.D.DeviceFiles.answers c.args.system.now in
+    let I = told_by g.I.Source.left g.I.Source.failures in
+    let O = told_by g.O.Sink.taken g.O.Sink.failures in
+    let E = told_by g.E.Sink.taken g.E.Sink.failures in
+    let input = I c.args.input.now in
+    let left = I c.explain.new.input in
+    let before = outs (E c.args.err.now) (O c.args.out.now) in
+    let now = outs (E c.explain.new.err) (O c.explain.new.out) in
+    let result = c.explain.result in
+    let root = root_of c.args.job.now in
+    let json = c.in-Explain.json in
+    of_words w sight input left before now result words c.args.job.now asked
+    (λ word rows is. explain_planned w sight input left before now result root c.args.job.now.strict word rows c.in-Explain.device json (subst (λ t. IsTask word rows t) c.in-Explain.is is)
+    (subst (λ (d : List ℕ). ShowsEnd w (explain_plan root json d) input left before now result) c.as_str.ensures.value
+    (subst (λ (r : List ℕ). ShowsEnd w (explain_plan r json c.as_str.result.now) input left before now result) c.root_of-root.ensures (c.explain.ensures.follows tells))))
+
+pub returns-in-List-clause-follows : goal.returns-in-List-clause-follows
+returns-in-List-clause-follows g c = λ tells words asked.
+    let w = g.D.System.reads c.args.system.now in
+    let sight = sight_by g.D.DeviceFiles.answers c.args.system.now in
+    let I = told_by g.I.Source.left g.I.Source.failures in
+    let O = told_by g.O.Sink.taken g.O.Sink.failures in
+    let E = told_by g.E.Sink.taken g.E.Sink.failures in
+    let input = I c.args.input.now in
+    let before = outs (E c.args.err.now) (O c.args.out.now) in
+    let now = outs (E c.args.err.now) (O c.list.new.out) in
+    let result = c.list.result in
+    let root = root_of c.args.job.now in
+    let json = c.in-List.json in
+    let limit = c.in-List.limit in
+    let after = option_map (λ t. t.now) c.text_of-after.result in
+    let device = c.as_bytes-device.result.now in
+    of_words w sight input input before now result words c.args.job.now asked
+    (λ word rows is. list_planned w sight input input before now result root c.args.job.now.strict word rows c.in-List.after limit c.in-List.device json (subst (λ t. IsTask word rows t) c.in-List.is is)
+    (subst (λ (f : Option (List ℕ)). ShowsEnd w (list_plan root json (string_bytes c.in-List.device) f limit) input input before now result) c.text_of-after.ensures
+    (subst (λ (d : List ℕ). ShowsEnd w (list_plan root json d after limit) input input before now result) c.as_bytes-device.ensures.value
+    (subst (λ (r : List ℕ). ShowsEnd w (list_plan r json device after limit) input input before now result) c.root_of-root.ensures (c.list.ensures.follows tells input (E c.args.err.now))))))
+
+pub returns-in-Ask-clause-follows : goal.returns-in-Ask-clause-follows
+returns-in-Ask-clause-follows g c = λ tells words asked.
+    let w = g.D.System.reads c.args.system.now in
+    let sight = sight_by g.D.DeviceFiles.answers c.args.system.now in
+    let I = told_by g.I.Source.left g.I.Source.failures in
+    let O = told_by g.O.Sink.taken g.O.Sink.failures in
+    let E = told_by g.E.Sink.taken g.E.Sink.failures in
+    let input = I c.args.input.now in
+    let left = I c.ask_file-answer.new.input in
+    let before = outs (E c.args.err.now) (O c.args.out.now) in
+    let now = outs (E c.printed.new.err) (O c.printed.new.out) in
+    let result = c.printed.result in
+    let root = root_of c.args.job.now in
+    let file = c.as_str-in-Ask.result.now in
+    let answer = c.ask_file-answer.result in
+    of_words w sight input left before now result words c.args.job.now asked
+    (λ word rows is. ask_planned w sight input left before now result root c.args.job.now.strict word rows answer c.printed.ensures.prints c.in-Ask.file c.in-Ask.device (subst (λ t. IsTask word rows t) c.in-Ask.is is)
+    (subst (λ (f : List ℕ). OverGiven (is_dash f) f input.bytes input.failures left.failures w (λ path reads. Follows end_of reads (ask_plan f (string_bytes c.in-Ask.device) path) answer)) c.as_str-in-Ask.ensures.value
+    (subst (λ (d : List ℕ). OverGiven (is_dash file) file input.bytes input.failures left.failures w (λ path reads. Follows end_of reads (ask_plan file d path) answer)) c.as_bytes.ensures.value (c.ask_file-answer.ensures.follows tells))))
+
+pub returns-in-Check-clause-follows : goal.returns-in-Check-clause-follows
+returns-in-Check-clause-follows g c = λ tells words asked.
+    let w = g.D.System.reads c.args.system.now in
+    let sight = sight_by g.D.DeviceFiles.answers c.args.system.now in
+    let I = told_by g.I.Source.left g.I.Source.failures in
+    let O = told_by g.O.Sink.taken g.O.Sink.failures in
+    let E = told_by g.E.Sink.taken g.E.Sink.failures in
+    let input = I c.args.input.now in
+    let left = I c.check-answer.new.input in
+    let before = outs (E c.args.err.now) (O c.args.out.now) in
+    let now = outs (E c.printed-in-Check.new.err) (O c.printed-in-Check.new.out) in
+    let result = c.printed-in-Check.result in
+    let root = root_of c.args.job.now in
+    let strict = c.args.job.now.strict in
+    let json = c.in-Check.json in
+    let files = c.deref-in-Check.result.now in
+    let kinds = map string_bytes c.in-Check.allowed.items in
+    let answer = c.check-answer.result in
+    of_words w sight input left before now result words c.args.job.now asked
+    (λ word rows is. check_planned w sight input left before now result root strict word rows answer c.printed-in-Check.ensures.prints c.in-Check.files c.in-Check.allowed json (subst (λ t. IsTask word rows t) c.in-Check.is is)
+    (subst (λ (fs : List (String Global)). OfInput input.bytes input.failures left.failures (λ told. Follows end_of w (check_plan told (map string_bytes fs) root (said_of json strict kinds)) answer)) c.deref-in-Check.ensures.value
+    (subst (λ (ks : List (String Global)). OfInput input.bytes input.failures left.failures (λ told. Follows end_of w (check_plan told (map string_bytes files) root (said_of json strict (map string_bytes ks))) answer)) c.deref-in-Check-2.ensures.value
+    (subst (λ (r : List ℕ). OfInput input.bytes input.failures left.failures (λ told. Follows end_of w (check_plan told (map string_bytes files) r (said_of json strict (map string_bytes c.deref-in-Check-2.result.now))) answer)) c.root_of-root.ensures (c.check-answer.ensures.follows tells)))))
+
+pub returns-in-Near-clause-follows : goal.returns-in-Near-clause-follows
+returns-in-Near-clause-follows g c = λ tells words asked.
+    let w = g.D.System.reads c.args.system.now in
+    let sight = sight_by g.D.DeviceFiles.answers c.args.system.now in
+    let I = told_by g.I.Source.left g.I.Source.failures in
+    let O = told_by g.O.Sink.taken g.O.Sink.failures in
+    let E = told_by g.E.Sink.taken g.E.Sink.failures in
+    let input = I c.args.input.now in
+    let left = I c.near-answer.new.input in
+    let before = outs (E c.args.err.now) (O c.args.out.now) in
+    let now = outs (E c.printed-in-Near.new.err) (O c.printed-in-Near.new.out) in
+    let result = c.printed-in-Near.result in
+    let root = root_of c.args.job.now in
+    let json = c.in-Near.json in
+    let limit = c.in-Near.limit in
+    let files = c.deref-in-Near.result.now in
+    let device = c.as_bytes-device-in-Near.result.now in
+    let answer = c.near-answer.result in
+    let form = near_form json (string_bytes c.in-Near.device) (near_limit limit) in
+    of_words w sight input left before now result words c.args.job.now asked
+    (λ word rows is. near_planned w sight input left before now result root c.args.job.now.strict word rows answer c.printed-in-Near.ensures.prints c.in-Near.files c.in-Near.device limit json (subst (λ t. IsTask word rows t) c.in-Near.is is)
+    (subst (λ (fs : List (String Global)). OfInput input.bytes input.failures left.failures (λ told. Follows end_of w (near_plan told (map string_bytes fs) root form) answer)) c.deref-in-Near.ensures.value
+    (subst (λ (d : List ℕ). OfInput input.bytes input.failures left.failures (λ told. Follows end_of w (near_plan told (map string_bytes files) root (near_form json d (near_limit limit))) answer)) c.as_bytes-device-in-Near.ensures.value
+    (subst (λ (r : List ℕ). OfInput input.bytes input.failures left.failures (λ told. Follows end_of w (near_plan told (map string_bytes files) r (near_form json device (near_limit limit))) answer)) c.root_of-root.ensures (c.near-answer.ensures.follows tells)))))
+
+pub returns-in-Test-clause-follows : goal.returns-in-Test-clause-follows
+returns-in-Test-clause-follows g c = λ tells words asked.
+    let w = g.D.System.reads c.args.system.now in
+    let sight = sight_by g.D.DeviceFiles.answers c.args.system.now in
+    let I = told_by g.I.Source.left g.I.Source.failures in
+    let O = told_by g.O.Sink.taken g.O.Sink.failures in
+    let E = told_by g.E.Sink.taken g.E.Sink.failures in
+    let input = I c.args.input.now in
+    let left = I c.test-answer.new.input in
+    let before = outs (E c.args.err.now) (O c.args.out.now) in
+    let now = outs (E c.printed-in-Test.new.err) (O c.printed-in-Test.new.out) in
+    let result = c.printed-in-Test.result in
+    let root = root_of c.args.job.now in
+    let json = c.in-Test.json in
+    let files = c.deref-in-Test.result.now in
+    let database = option_map (λ t. t.now) c.text_of-database.result in
+    let answer = c.test-answer.result in
+    of_words w sight input left before now result words c.args.job.now asked
+    (λ word rows is. test_planned w sight input left before now result root c.args.job.now.strict word rows answer c.printed-in-Test.ensures.prints c.in-Test.files c.in-Test.database json (subst (λ t. IsTask word rows t) c.in-Test.is is)
+    (subst (λ (fs : List (String Global)). OfInput input.bytes input.failures left.failures (λ told. Follows end_of w (test_plan told (map string_bytes fs) (option_map string_bytes c.in-Test.database) root json) answer)) c.deref-in-Test.ensures.value
+    (subst (λ (d : Option (List ℕ)). OfInput input.bytes input.failures left.failures (λ told. Follows end_of w (test_plan told (map string_bytes files) d root json) answer)) c.text_of-database.ensures
+    (subst (λ (r : List ℕ). OfInput input.bytes input.failures left.failures (λ told. Follows end_of w (test_plan told (map string_bytes files) database r json) answer)) c.root_of-root.ensures (c.test-answer.ensures.follows tells)))))
+
+pub returns-in-Device-clause-follows : goal.returns-in-Device-clause-follows
+returns-in-Device-clause-follows g c = λ tells words asked.
+    let w = g.D.System.reads c.args.system.now in
+    let sight = sight_by g.D.DeviceFiles.answers c.args.system.now in
+    let I = told_by g.I.Source.left g.I.Source.failures in
+    let O = told_by g.O.Sink.taken g.O.Sink.failures in
+    let E = told_by g.E.Sink.taken g.E.Sink.failures in
+    let input = I c.args.input.now in
+    let before = outs (E c.args.err.now) (O c.args.out.now) in
+    let now = outs (E c.printed-in-Device.new.err) (O c.printed-in-Device.new.out) in
+    let result = c.printed-in-Device.result in
+    let root = root_of c.args.job.now in
+    let path = option_map (λ t. t.now) c.text_of-given.result in
+    let form = device_form c.in-Device.strings c.in-Device.json c.in-Device.pattern in
+    let answer = c.device-answer.result in
+    of_words w sight input input before now result words c.args.job.now asked
+    (λ word rows is. device_planned w sight input input before now result root c.args.job.now.strict word rows answer c.printed-in-Device.ensures.prints c.in-Device.path c.in-Device.strings c.in-Device.json c.in-Device.pattern (subst (λ t. IsTask word rows t) c.in-Device.is is)
+    (subst (λ (p : Option (List ℕ)). OfCause (λ cause. Follows end_of w (device_plan sight cause asked_names root form p) answer)) c.text_of-given.ensures
+    (subst (λ (k : DeviceForm). OfCause (λ cause. Follows end_of w (device_plan sight cause asked_names root k path) answer)) c.device_form-form.ensures
+    (subst (λ (r : List ℕ). OfCause (λ cause. Follows end_of w (device_plan sight cause asked_names r c.device_form-form.result path) answer)) c.root_of-root.ensures (c.device-answer.ensures.follows tells)))))
+
+pub returns-in-Diff-clause-follows : goal.returns-in-Diff-clause-follows
+returns-in-Diff-clause-follows g c = λ tells words asked.
+    let w = g.D.System.reads c.args.system.now in
+    let sight = sight_by g.D.DeviceFiles.answers c.args.system.now in
+    let I = told_by g.I.Source.left g.I.Source.failures in
+    let O = told_by g.O.Sink.taken g.O.Sink.failures in
+    let E = told_by g.E.Sink.taken g.E.Sink.failures in
+    let input = I c.args.input.now in
+    let left = I c.diff-answer.new.input in
+    let before = outs (E c.args.err.now) (O c.args.out.now) in
+    let now = outs (E c.printed-in-Diff.new.err) (O c.printed-in-Diff.new.out) in
+    let result = c.printed-in-Diff.result in
+    of_words w sight input left before now result words c.args.job.now asked
+    (λ word rows is. unplanned w sight input left before now result (root_of c.args.job.now) c.args.job.now.strict word rows (codes "diff") (subst (λ t. IsTask word rows t) c.in-Diff.is is).0 (λ a. refl))
+
+pub returns-in-Status-clause-follows : goal.returns-in-Status-clause-follows
+returns-in-Status-clause-follows g c = λ tells words asked.
+    let w = g.D.System.reads c.args.system.now in
+    let sight = sight_by g.D.DeviceFiles.answers c.args.system.now in
+    let I = told_by g.I.Source.left g.I.Source.failures in
+    let O = told_by g.O.Sink.taken g.O.Sink.failures in
+    let E = told_by g.E.Sink.taken g.E.Sink.failures in
+    let input = I c.args.input.now in
+    let before = outs (E c.args.err.now) (O c.args.out.now) in
+    let now = outs (E c.printed-in-Status.new.err) (O c.printed-in-Status.new.out) in
+    let result = c.printed-in-Status.result in
+    of_words w sight input input before now result words c.args.job.now asked
+    (λ word rows is. status_unplanned w sight input input before now result (root_of c.args.job.now) c.args.job.now.strict word rows c.in-Status.json c.in-Status.quiet (subst (λ t. IsTask word rows t) c.in-Status.is is))
+
+pub returns-in-Verify-clause-follows : goal.returns-in-Verify-clause-follows
+returns-in-Verify-clause-follows g c = λ tells words asked.
+    let w = g.D.System.reads c.args.system.now in
+    let sight = sight_by g.D.DeviceFiles.answers c.args.system.now in
+    let I = told_by g.I.Source.left g.I.Source.failures in
+    let O = told_by g.O.Sink.taken g.O.Sink.failures in
+    let E = told_by g.E.Sink.taken g.E.Sink.failures in
+    let input = I c.args.input.now in
+    let left = I c.verify-answer.new.input in
+    let before = outs (E c.args.err.now) (O c.args.out.now) in
+    let now = outs (E c.printed-in-Verify.new.err) (O c.printed-in-Verify.new.out) in
+    let result = c.printed-in-Verify.result in
+    let root = root_of c.args.job.now in
+    let database = option_map (λ t. t.now) c.text_of-given-in-Verify.result in
+    let answer = c.verify-answer.result in
+    of_words w sight input left before now result words c.args.job.now asked
+    (λ word rows is. verify_planned w sight input left before now result root c.args.job.now.strict word rows answer c.printed-in-Verify.ensures.prints c.in-Verify.database (subst (λ t. IsTask word rows t) c.in-Verify.is is)
+    (subst (λ (d : Option (List ℕ)). OverNamed d input.bytes input.failures left.failures w (λ given reads. Follows end_of reads (verify_plan given root) answer)) c.text_of-given-in-Verify.ensures
+    (subst (λ (r : List ℕ). OverNamed database input.bytes input.failures left.failures w (λ given reads. Follows end_of reads (verify_plan given r) answer)) c.root_of-root.ensures (c.verify-answer.ensures.follows tells))))
+
+pub returns-in-Dump-clause-follows : goal.returns-in-Dump-clause-follows
+returns-in-Dump-clause-follows g c = λ tells words asked.
+    let w = g.D.System.reads c.args.system.now in
+    let sight = sight_by g.D.DeviceFiles.answers c.args.system.now in
+    let I = told_by g.I.Source.left g.I.Source.failures in
+    let O = told_by g.O.Sink.taken g.O.Sink.failures in
+    let E = told_by g.E.Sink.taken g.E.Sink.failures in
+    let input = I c.args.input.now in
+    let left = I c.dump-answer.new.input in
+    let before = outs (E c.args.err.now) (O c.args.out.now) in
+    let now = outs (E c.printed-in-Dump.new.err) (O c.printed-in-Dump.new.out) in
+    let result = c.printed-in-Dump.result in
+    let root = root_of c.args.job.now in
+    let database = option_map (λ t. t.now) c.text_of-given-in-Dump.result in
+    let answer = c.dump-answer.result in
+    of_words w sight input left before now result words c.args.job.now asked
+    (λ word rows is. dump_planned w sight input left before now result root c.args.job.now.strict word rows answer c.printed-in-Dump.ensures.prints c.in-Dump.database (subst (λ t. IsTask word rows t) c.in-Dump.is is)
+    (subst (λ (d : Option (List ℕ)). OverNamed d input.bytes input.failures left.failures w (λ given reads. Follows end_of reads (dump_plan given root) answer)) c.text_of-given-in-Dump.ensures
+    (subst (λ (r : List ℕ). OverNamed database input.bytes input.failures left.failures w (λ given reads. Follows end_of reads (dump_plan given r) answer)) c.root_of-root.ensures (c.dump-answer.ensures.follows tells))))
