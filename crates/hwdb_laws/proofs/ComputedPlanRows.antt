@@ -5,7 +5,7 @@ use Rattle.hex.specs.Hex.{encode_with}
 use Rattle.hwdb_spec.specs.Lines.{pieces}
 use Rattle.hwdb_spec.specs.Visible.{visible_after}
 use Rattle.hwdb_spec_commands.specs.DeviceTree.{last_after}
-use Rattle.hwdb_laws.specs.PlanRows.{CheckRows, DeviceRows, InputRows, ListRows, NamedRows, NearRows, NoneRows, QueryRows, SysfsRows}
+use Rattle.hwdb_laws.specs.PlanRows.{CheckRows, DeviceRows, InputRows, ListRows, NamedRows, NearRows, NoneRows, QueryRows, StatusRows, SysfsRows}
 use Rattle.std.specs.Char.{encode_utf8}
 use Rattle.std.specs.Fmt.{digits}
 use Rattle.std.specs.Str.{chars, is_utf8}
@@ -38,6 +38,10 @@ check_rows = λ a. refl
 pub none_rows : NoneRows
 unfolding pieces visible_after is_utf8 chars encode_utf8 encode_with digits bundle_met walked flags_fault walk_fault defaults_fault last_after
 none_rows = λ a. refl
+
+pub status_rows : StatusRows
+unfolding pieces visible_after is_utf8 chars encode_utf8 encode_with digits bundle_met walked flags_fault walk_fault defaults_fault last_after
+status_rows = refl
 
 pub input_rows : InputRows
 unfolding pieces visible_after is_utf8 chars encode_utf8 encode_with digits bundle_met walked flags_fault walk_fault defaults_fault last_after

@@ -1,8 +1,11 @@
--- Worked rows of plans: which plan words ask for, as SYNOPSIS of hwdb(8) has the words; and what `device` ends in without sysfs, by DIAGNOSTICS.
+-- Worked rows of plans: which plan words ask for, as SYNOPSIS of hwdb(8) has the words; the status of an error, by EXIT STATUS; and what `device`
+-- ends in without sysfs, by DIAGNOSTICS.
 use Rattle.std.specs.Prelude.{◌∷◌, ◌≡◌, Err, List, None, Option, Some, [], codes, false, if◌then◌else◌, true, ℕ}
 use Rattle.std.specs.Str.{bytes_eq}
+use Rattle.clap.specs.Simple.{subcommand_of}
 use Rattle.clap.specs.Walk.{Text}
 use Rattle.hwdb_spec.specs.declared.errors.ToolError.TheVariants.{TooLong}
+use Rattle.hwdb_spec_commands.specs.CommandLine.{hwdb_app}
 use Rattle.hwdb_spec_commands.specs.DeviceTree.{Sight}
 use Rattle.hwdb_spec_commands.specs.NearAsked.{near_form}
 use Rattle.hwdb_spec_commands.specs.SysfsAnswers.{nothing_there, seen}
@@ -10,7 +13,7 @@ use Rattle.hwdb_spec_commands.specs.Told.Stop.{Over, Says}
 use Rattle.hwdb_spec_commands.specs.declared.devices.DeviceForm.TheVariants.{Json, Lookups, Pattern}
 use Rattle.hwdb_spec_commands.specs.declared.unread.Unread.TheVariants as unread
 use Rattle.hwdb_spec_program.specs.DeviceErrors.{asked_names}
-use Rattle.hwdb_spec_program.specs.ProgramPlan.{Around, program_plan}
+use Rattle.hwdb_spec_program.specs.ProgramPlan.{Around, error_status, program_plan}
 use Rattle.hwdb_plan.specs.Answers.{explain_plan, query_plan}
 use Rattle.hwdb_plan.specs.Ask.{ask_plan}
 use Rattle.hwdb_plan.specs.Check.{check_plan, said_of}
@@ -75,6 +78,12 @@ CheckRows =
 abbrev pub NoneRows : Type 0
 NoneRows =
     (a : Around) → asked a [] ∷ asked a (codes "frob" ∷ []) ∷ asked a (codes "update" ∷ []) ∷ asked a (codes "status" ∷ []) ∷ asked a (codes "verify" ∷ codes "--text" ∷ []) ∷ [] ≡ None ∷ None ∷ None ∷ None ∷ None ∷ []
+
+-- The status of an error, as EXIT STATUS of hwdb(8) has it: 2 of `diff`, whose 1 says that something changed.
+abbrev pub StatusRows : Type 0
+StatusRows =
+    let status = λ (words : List Text). error_status (subcommand_of hwdb_app (codes "hwdb" ∷ words)) in
+    status (codes "diff" ∷ codes "a" ∷ codes "b" ∷ []) ∷ status (codes "-r/r" ∷ codes "query" ∷ codes "diff" ∷ []) ∷ status [] ∷ [] ≡ 2 ∷ 1 ∷ 1 ∷ []
 
 -- ---- what a plan ends in
 -- `-` is standard input: that is too long, and nothing else is asked.

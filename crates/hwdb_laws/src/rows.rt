@@ -291,7 +291,7 @@ pub fn place_rows()
     ensures outcome { PlaceRows.OutcomeRows }
 {}
 
-/// Which plans words ask for.
+/// Which plans words ask for, and the status of an error.
 pub fn plan_rows()
     ensures query { PlanRows.QueryRows }
     ensures list { PlanRows.ListRows }
@@ -300,6 +300,7 @@ pub fn plan_rows()
     ensures check { PlanRows.CheckRows }
     ensures named { PlanRows.NamedRows }
     ensures none { PlanRows.NoneRows }
+    ensures status { PlanRows.StatusRows }
     ensures input { PlanRows.InputRows }
     ensures sysfs { PlanRows.SysfsRows }
 {}

@@ -1,9 +1,10 @@
 -- The plan of a run, as its words compute it. Which words each command has is in `Jobs`. `update`, `status` and `diff` have no plan here
 -- yet, and no command has its own with `--text`. `query` is systemd-hwdb(8)'s; the rest is our choice.
+use Rattle.clap.specs.Faults.{fault_of}
 use Rattle.clap.specs.Simple.{matches_of, subcommand_of}
 use Rattle.clap.specs.Walk.{Row, Text, all_of, first_of, one_of}
 use Rattle.std.specs.Option.{option_or, unwrap_or}
-use Rattle.std.specs.Prelude.{◌-◌, ◌||◌, ◌∷◌, ℕ, Bool, false, List, [], None, Option, Some, Result, IfSome, codes, find, if◌then◌else◌, length, option_map, take}
+use Rattle.std.specs.Prelude.{◌-◌, ◌≡◌, ◌⊎◌, ◌||◌, ◌∷◌, ℕ, Bool, false, List, [], None, Option, Some, Result, Ok, Err, IfSome, codes, find, if◌then◌else◌, length, option_map, take}
 use Rattle.std.specs.Str.{bytes_eq}
 use Rattle.std.specs.Str.Parse.{digits_value, without_leading_plus}
 use Rattle.hwdb_spec_commands.specs.CommandLine.{hwdb_app}
@@ -11,17 +12,20 @@ use Rattle.hwdb_spec_commands.specs.DeviceAsked.{device_form}
 use Rattle.hwdb_spec_commands.specs.DeviceTree.{Sight, last_after}
 use Rattle.hwdb_spec_commands.specs.Jobs.{has_flag}
 use Rattle.hwdb_spec_commands.specs.NearAsked.{near_form, near_limit}
-use Rattle.hwdb_spec_commands.specs.Runs.{Told}
+use Rattle.hwdb_spec.specs.declared.errors.ToolError.TheVariants.{Memory, Write}
+use Rattle.hwdb_spec_commands.specs.Runs.{Told, World}
 use Rattle.hwdb_spec_commands.specs.Told.{Reads}
 use Rattle.hwdb_spec_commands.specs.declared.refusals.Refusal.{Refusal}
+use Rattle.hwdb_spec_commands.specs.declared.refusals.Refusal.TheVariants.{Plain}
 use Rattle.hwdb_spec_commands.specs.declared.unread.Unread.{Unread}
 use Rattle.hwdb_spec_program.specs.DeviceErrors.{asked_names}
+use Rattle.hwdb_spec_program.specs.TaskRefusals.{IsRootRefused, IsSaid}
 use Rattle.hwdb_plan.specs.Answers.{explain_plan, query_plan}
 use Rattle.hwdb_plan.specs.Ask.{lone_answer}
 use Rattle.hwdb_plan.specs.Check.{check_plan, said_of}
 use Rattle.hwdb_plan.specs.Device.{OfCause, device_plan}
 use Rattle.hwdb_plan.specs.Dump.{text_form}
-use Rattle.hwdb_plan.specs.Ended.{Outs, ShowsEnd}
+use Rattle.hwdb_plan.specs.Ended.{Outs, ShowsEnd, outs, outs_of}
 use Rattle.hwdb_plan.specs.Files.{OfInput}
 use Rattle.hwdb_plan.specs.Given.{given_at, given_or_asked}
 use Rattle.hwdb_plan.specs.List.{list_plan}
@@ -133,3 +137,34 @@ OfAround sight input before now Is = OfInput input before now (λ told. OfCause 
 abbrev pub ShowsPlan : (plan : Around → Option Plan) → Reads → Sight → (input_before input_now : Told) (before now : Outs) → Result ℕ Refusal → Type 0
 ShowsPlan plan w sight input_before input_now before now result =
     OfAround sight input_before.bytes input_before.failures input_now.failures (λ a. IfSome (plan a) (λ p. ShowsEnd w p input_before input_now before now result))
+
+-- ---- the program
+-- the status of an error, by the word of its command: 2 of `diff`, whose 1 says that something changed, else 1
+abbrev pub error_status : Option (Text × List Row) → ℕ
+error_status None = 1
+error_status (Some found) = if bytes_eq found.0 (codes "diff") then 2 else 1
+
+-- The program's status after a command. Standard error takes the line of an error then. If the reader of standard output went away, nothing
+-- is said, and the status is 0.
+abbrev pub IsReported : (gone : Type 0) (failed : ℕ) → Result ℕ Refusal → (status : ℕ) (err_then err_now : Told) → Type 0
+IsReported gone failed (Ok n) status err_then err_now = (status ≡ n) × (err_now ≡ err_then)
+IsReported gone failed (Err r) status err_then err_now =
+    ((status ≡ failed) × IsSaid r err_then err_now) ⊎ ((status ≡ 0) × (r ≡ Plain Write) × gone × (err_now ≡ err_then))
+
+-- a run shows what the plan of its words ends in, if they have one, and reports it
+pub record ReportsPlan (gone : Type 0) (words : List Text) (w : Reads) (before now : World) (status : ℕ) : Type 0 where
+  pub result : Result ℕ Refusal
+  pub err_then : Told
+  pub shows : ShowsPlan (λ a. program_plan a words) w before.devices before.input now.input (outs_of before) (outs err_then now.out) result
+  pub reported : IsReported gone (error_status (subcommand_of hwdb_app words)) result status err_then now.err
+
+-- there was no memory to read the words: the status is 1, and standard error took that line
+pub record AreWordsUnread (before now : World) (status : ℕ) : Type 0 where
+  pub said : IsSaid (Plain Memory) before.err now.err
+  pub out : now.out ≡ before.out
+  pub says : status ≡ 1
+
+-- If the words have no fault, the program follows their plan. Before that there may be no memory to read them, or their root can't be read.
+abbrev pub RunsPlan : (gone : Type 0) (words : List Text) → Reads → (before now : World) (status : ℕ) → Type 0
+RunsPlan gone words w before now status = fault_of hwdb_app words ≡ []
+    → ReportsPlan gone words w before now status ⊎ (AreWordsUnread before now status ⊎ IsRootRefused words status before now)

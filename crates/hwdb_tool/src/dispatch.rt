@@ -9,7 +9,7 @@ ghost use Rattle.hwdb_spec_commands.specs.WordFaults.{AreWrong};
 ghost use Rattle.hwdb_spec_program.specs.Words.{AskFor};
 ghost use Rattle.hwdb_spec_commands.specs.declared.job.Job.{Job};
 ghost use Rattle.hwdb_spec_program.specs.Program.{IsDone, IsTaskDone, IsUpdate, OldOrAskedFor, OldOrDone, looks_below_root, reads_input, root_of};
-ghost use Rattle.hwdb_spec_program.specs.ProgramPlan.{ShowsPlan, files_plan, program_plan};
+ghost use Rattle.hwdb_spec_program.specs.ProgramPlan.{RunsPlan, ShowsPlan, files_plan, program_plan};
 ghost use Rattle.hwdb_spec_program.specs.TaskRefusals.{HasFailedWith, HasSucceeded, IsJobNotDone, IsNotDone, IsRootUnread, IsSaid, refused_status};
 ghost use Rattle.hwdb_spec_commands.specs.Refusals.{HasReason};
 ghost use Rattle.hwdb_spec_commands.specs.declared.refusals.Refusal.TheVariants.{Plain};
@@ -51,6 +51,12 @@ pub fn program<D: Machine, I: Source, O: Outlet, E: Sink>(
 ) -> u8
     ensures status { result ≤ 2 }
     ensures wrong_words { AreWrong (map string_bytes words.now) → result ≡ 1 }
+    ensures follows { D.Store.tells → let world = world_by (sight_by D.answers)
+        (files_by D.Store.seen D.System.may_fail D.Store.may_leave D.Store.failures)
+        (told_by I.left I.failures) (told_by O.Sink.taken O.Sink.failures) (told_by E.taken
+        E.failures) in RunsPlan (O.reader_gone out.new) (map string_bytes words.now)
+        (D.System.reads system.old) (world system.old input.old out.old err.old)
+        (world system.new input.new out.new err.new) result }
     ensures any_moment { D.Store.tells
         → spec.LeavesOnly D.Store.moment D.Store.left_since system.old system.new
         (OldOrAskedFor (D.System.may_fail system.old) (map string_bytes words.now)

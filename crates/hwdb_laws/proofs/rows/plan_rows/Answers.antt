@@ -1,4 +1,4 @@
-use Rattle.hwdb_laws.proofs.ComputedPlanRows.{check_rows, device_rows, input_rows, list_rows, named_rows, near_rows, none_rows, query_rows, sysfs_rows}
+use Rattle.hwdb_laws.proofs.ComputedPlanRows.{check_rows, device_rows, input_rows, list_rows, named_rows, near_rows, none_rows, query_rows, status_rows, sysfs_rows}
 use Rattle.hwdb_laws.proofs.rows.plan_rows.Goals as goal
 
 pub returns : goal.returns
@@ -10,6 +10,7 @@ returns c = record {
   check = check_rows;
   named = named_rows;
   none = none_rows;
+  status = status_rows;
   input = input_rows;
   sysfs = sysfs_rows;
 }

@@ -1,4 +1,4 @@
-use Rattle.std.proofs.Common.{inl, inr, ⊎_elim, ◌∙◌, arith, refl, [], subst, sym, map, string_bytes}
+use Rattle.std.proofs.Common.{inl, inr, ⊎_elim, ◌∙◌, ap, arith, refl, Err, Ok, [], subst, sym, map, string_bytes}
 use Rattle.hwdb_spec_commands.specs.declared.job.WordsFault.TheVariants as words_fault
 use Rattle.hwdb_spec_commands.specs.Runs.{AreKept, World, files_by, told_by}
 use Rattle.hwdb_spec.specs.Store.{LeavesOnly}
@@ -13,6 +13,11 @@ use Rattle.hwdb_tool.proofs.MomentLemmas.{leaves_more, leaves_old}
 use Rattle.hwdb_tool.proofs.CutLemmas.{cut_keeps_from}
 use Rattle.hwdb_tool.proofs.FlushLemmas.{handed_on, handed_on_twice}
 use Rattle.hwdb_tool.proofs.UsageLemmas.{usage_line}
+use Rattle.hwdb_tool.proofs.ReportLemmas.{help_is_told, refused_reported, status_is, usage_is_told}
+use Rattle.hwdb_plan.specs.Ended.{outs}
+use Rattle.hwdb_spec_program.specs.ProgramPlan.{ShowsPlan, error_status, program_plan}
+use Rattle.clap.specs.Simple.{subcommand_of}
+use Rattle.hwdb_spec_commands.specs.CommandLine.{hwdb_app}
 use Rattle.hwdb_tool.proofs.dispatch.program.Goals as goal
 
 pub returns-in-Ok-enter_root-clause-refused : goal.returns-in-Ok-enter_root-clause-refused
@@ -142,3 +147,73 @@ returns-in-Err-Usage-clause-err_handed_on g c = handed_on _ _ _ _ c.write_text-i
 
 pub returns-clause-err_handed_on : goal.returns-clause-err_handed_on
 returns-clause-err_handed_on g c = handed_on _ _ _ _ c.refuse_memory.ensures.hands_on
+
+pub returns-in-Ok-run_job-clause-follows : goal.returns-in-Ok-run_job-clause-follows
+returns-in-Ok-run_job-clause-follows g c = λ tells faultless.
+    let words = map string_bytes c.args.words.now in
+    let I = told_by g.I.Source.left g.I.Source.failures in
+    let O = told_by g.O.Sink.taken g.O.Sink.failures in
+    let E = told_by g.E.Sink.taken g.E.Sink.failures in
+    let before = outs (E c.args.err.now) (O c.args.out.now) in
+    let now = outs (E c.run_job.new.err) (O c.run_job.new.out) in
+    inl record {
+      result = Ok c.in-Ok-run_job.status;
+      err_then = E c.run_job.new.err;
+      shows = subst (λ (s : g.row.D.Denot). ShowsPlan (λ a. program_plan a words) (g.D.System.reads s) (sight_by g.D.DeviceFiles.answers s) (I c.args.input.now) (I c.run_job.new.input) before now (Ok c.in-Ok-run_job.status))
+          (c.enter_root.ensures.same tells) (c.in-Ok-run_job.ensures.follows tells words c.in-Ok.ensures.job);
+      reported = (refl, refl);
+    }
+
+pub returns-in-Ok-enter_root-clause-follows : goal.returns-in-Ok-enter_root-clause-follows
+returns-in-Ok-enter_root-clause-follows g c = λ tells faultless.
+    let words = map string_bytes c.args.words.now in
+    let I = told_by g.I.Source.left g.I.Source.failures in
+    let O = told_by g.O.Sink.taken g.O.Sink.failures in
+    let E = told_by g.E.Sink.taken g.E.Sink.failures in
+    let before = outs (E c.args.err.now) (O c.args.out.now) in
+    let now = outs (E c.run_job.new.err) (O c.run_job.new.out) in
+    let r = c.in-Err-run_job.refusal in
+    inl record {
+      result = Err r;
+      err_then = E c.run_job.new.err;
+      shows = subst (λ (s : g.row.D.Denot). ShowsPlan (λ a. program_plan a words) (g.D.System.reads s) (sight_by g.D.DeviceFiles.answers s) (I c.args.input.now) (I c.run_job.new.input) before now (Err r))
+          (c.enter_root.ensures.same tells) (c.in-Err-run_job.ensures.follows tells words c.in-Ok.ensures.job);
+      reported = refused_reported (g.O.Outlet.reader_gone c.run_job.new.out) (error_status (subcommand_of hwdb_app words)) c.refused_status.result r c.refuse_job.result (E c.run_job.new.err) (E c.refuse_job.new.err)
+          (c.refused_status.ensures.is ∙ status_is words c.in-Ok.job c.in-Ok.ensures.job) c.refused_status.ensures.some c.refuse_job.ensures.status c.refuse_job.ensures.said c.refuse_job.ensures.gone
+          (λ none. ap E (c.refuse_job.ensures.quiet none)) c.refuse_job.ensures.line;
+    }
+
+pub returns-in-Ok-clause-follows : goal.returns-in-Ok-clause-follows
+returns-in-Ok-clause-follows g c = λ tells faultless.
+    let F = files_by g.D.Store.seen g.D.System.may_fail g.D.Store.may_leave g.D.Store.failures in
+    inr (inr record {
+      job = c.in-Ok.job;
+      asked = c.in-Ok.ensures.job;
+      faultless = c.in-Ok.ensures.whole;
+      refusal = c.in-Err.refusal;
+      unread = c.in-Err.ensures.refused;
+      reason = c.in-Err.ensures.reason;
+      kept = subst (λ (s : g.row.D.Denot). AreKept (F c.args.system.now) (F s)) (sym (c.enter_root.ensures.same tells)) (record { same = λ p. refl; no_more = λ p v l. l });
+      said = record { said = c.in-Err.refusal; of = inl refl; words = c.refuse_for.ensures.line.0; one_line = c.refuse_for.ensures.line.1; line = c.refuse_for.ensures.line.2 };
+      out = refl;
+      says = refl;
+    })
+
+pub returns-clause-follows : goal.returns-clause-follows
+returns-clause-follows g c = λ tells faultless. inr (inl record {
+  said = record { said = Plain Memory; of = inl refl; words = []; one_line = refl; line = c.refuse_memory.ensures.line };
+  out = refl;
+  says = refl;
+})
+
+pub returns-in-Err-Usage-clause-follows : goal.returns-in-Err-Usage-clause-follows
+returns-in-Err-Usage-clause-follows g c = λ tells faultless.
+    absurd (usage_is_told (map string_bytes c.args.words.now) c.in-Err-Usage.text faultless (rw c.in-Err-Usage.field-0-is at c.in-Err-Usage.ensures.told))
+
+pub returns-in-Err-Help-clause-follows : goal.returns-in-Err-Help-clause-follows
+returns-in-Err-Help-clause-follows g c = λ tells faultless.
+    absurd (help_is_told (map string_bytes c.args.words.now) c.in-Err-Help.text faultless (rw c.in-Err-Help.field-0-is at c.in-Err-Help.ensures.told))
+
+pub returns-in-Ok-write_text-clause-follows : goal.returns-in-Ok-write_text-clause-follows
+returns-in-Ok-write_text-clause-follows g c = λ tells faultless.
+    absurd (help_is_told (map string_bytes c.args.words.now) c.in-Err-Help.text faultless (rw c.in-Err-Help.field-0-is at c.in-Err-Help.ensures.told))
