@@ -34,6 +34,7 @@ use Rattle.hwdb_ruleevents.specs.Events.{Event, Turn, turn, Ask, Done}
 use Rattle.hwdb_ruleevents.specs.Telling as tell
 use Rattle.hwdb_ruleevents.specs.Telling.{Told, Tale, Ways}
 use Rattle.hwdb_ruleevents.proofs.ChangeLemmas.{both_said, no_other}
+use Rattle.hwdb_ruleevents.proofs.JumpLemmas.{IsAt, IsLater, Later, some_wait, arrived_so, later_so, jumped_so, waits_on, at_label}
 use Rattle.hwdb_ruleevents.specs.Laws.{IsEffect, IsKnown, IsText, Covers, EventsAreCovered, AreAll, AreCertain, EventsAreExact}
 
 -- properties after changes
@@ -669,92 +670,6 @@ skip_by k sure n cs p tokens holds e a = by (tell.is_no holds) (skip_tokens k (t
 skip_line : (k : Knowledge) (sure : Bool) (n : Turn) (cs : List Change) (p : Properties) (l : RuleLine) → sure ≡ false → Agrees cs p
     → Skips (tell.tell_line k sure n cs l) p
 skip_line k sure n cs p l e a = skip_by (tell.known_in k cs l) sure n cs p l.tokens (line_told (tell.sight_at k.sight cs l.tokens) l.tokens) e a
-
--- jumps
-
--- a way waits for a label
-abbrev Waits : (name : List ℕ) → List (List ℕ) → Type 0
-Waits name [] = ⊥
-Waits name (own ∷ more) = (own ≡ name) ⊎ Waits name more
-
--- where udev is
-abbrev IsAt : Ways → Option (List ℕ) → Type 0
-IsAt w None = w.here ≡ true
-IsAt w (Some name) = Waits name w.waiting
-
-any_waits : (name : List ℕ) (label : Option (List ℕ)) (names : List (List ℕ)) → Waits name names → is_word label name ≡ true
-    → list_any (is_word label) names ≡ true
-any_waits name label [] h e = absurd h
-any_waits name label (own ∷ more) h e =
-    elim h
-    [ inl i ↦ first (is_word label own) (ap (is_word label) i ∙ e) | inr i ↦ second (is_word label own) (any_waits name label more i e) ]
-  where
-    first : (c : Bool) → c ≡ true → (c || list_any (is_word label) more) ≡ true
-    first true i = refl
-    first false i = absurd (cc)
-
-    second : (c : Bool) → list_any (is_word label) more ≡ true → (c || list_any (is_word label) more) ≡ true
-    second true i = refl
-    second false i = i
-
-still_waits : (name : List ℕ) (label : Option (List ℕ)) (names : List (List ℕ)) → Waits name names → is_word label name ≡ false
-    → Waits name (filter (λ own. not (is_word label own)) names)
-still_waits name label [] h e = absurd h
-still_waits name label (own ∷ more) h e = by (is_word label own) refl h (λ j. still_waits name label more j e)
-  where
-    by : (c : Bool) → is_word label own ≡ c → (own ≡ name) ⊎ Waits name more
-        → (Waits name more → Waits name (filter (λ x. not (is_word label x)) more))
-        → Waits name (if not c then own ∷ filter (λ x. not (is_word label x)) more else filter (λ x. not (is_word label x)) more)
-    by true i h ih = elim h [ inl j ↦ absurd (cc) | inr j ↦ ih j ]
-    by false i h ih = elim h [ inl j ↦ inl j | inr j ↦ inr (ih j) ]
-
-some_wait : (name : List ℕ) (names : List (List ℕ)) → Waits name names → is_none names ≡ false
-some_wait name [] h = absurd h
-some_wait name (own ∷ more) h = refl
-
-is_here : (c d : Bool) → (c ≡ true) ⊎ (d ≡ true) → (if c then true else d) ≡ true
-is_here true d h = refl
-is_here false d h = elim h [ inl e ↦ absurd (cc) | inr e ↦ e ]
-
-arrived_so : (w : Ways) (until label : Option (List ℕ)) → IsAt w until → real.is_reached until label ≡ true → (tell.arrived label w).here ≡ true
-arrived_so w None label h e = is_here w.here (list_any (is_word label) w.waiting) (inl h)
-arrived_so w (Some name) label h e = is_here w.here (list_any (is_word label) w.waiting) (inr (any_waits name label w.waiting h e))
-
--- udev waits for a later line
-data IsLater (until : Option (List ℕ)) (w : Ways) : Type 0 where
-  Later : (name : List ℕ) → until ≡ Some name → Waits name w.waiting → IsLater until w
-
-later_so : (w : Ways) (until label : Option (List ℕ)) → IsAt w until → real.is_reached until label ≡ false → IsLater until (tell.arrived label w)
-later_so w None label h e = absurd (cc)
-later_so w (Some name) label h e = Later name refl (still_waits name label w.waiting h e)
-
-last_waits : (name : List ℕ) (names : List (List ℕ)) → Waits name (names ++ (name ∷ []))
-last_waits name [] = inl refl
-last_waits name (own ∷ more) = inr (last_waits name more)
-
-waits_too : (name other : List ℕ) (names : List (List ℕ)) → Waits name names → Waits name (names ++ (other ∷ []))
-waits_too name other [] h = absurd h
-waits_too name other (own ∷ more) h = elim h [ inl e ↦ inl e | inr e ↦ inr (waits_too name other more e) ]
-
-jumped_so : (w : Ways) (told : Option Bool) (passed : Bool) (goto : Option (List ℕ)) → w.here ≡ true → Says told passed
-    → IsAt (tell.jumped told goto w) (real.jump passed goto)
-jumped_so w told true None h s = h
-jumped_so w told false None h s = h
-jumped_so w None true (Some name) h s = last_waits name w.waiting
-jumped_so w None false (Some name) h s = h
-jumped_so w (Some true) true (Some name) h s = last_waits name w.waiting
-jumped_so w (Some true) false (Some name) h s = absurd (cc)
-jumped_so w (Some false) true (Some name) h s = absurd (cc)
-jumped_so w (Some false) false (Some name) h s = h
-
-waits_on : (w : Ways) (told : Option Bool) (goto : Option (List ℕ)) (name : List ℕ) → Waits name w.waiting → Waits name (tell.jumped told goto w).waiting
-waits_on w told None name h = h
-waits_on w None (Some other) name h = waits_too name other w.waiting h
-waits_on w (Some true) (Some other) name h = waits_too name other w.waiting h
-waits_on w (Some false) (Some other) name h = h
-
-at_label : (w : Ways) (until : Option (List ℕ)) (name : List ℕ) → until ≡ Some name → Waits name w.waiting → IsAt w until
-at_label w until name e h = subst (IsAt w) (sym e) h
 
 -- what is told of lines is so
 record Follows (s : tell.Story) (r : real.Ran) : Type 0 where

@@ -1,6 +1,7 @@
 pub mod ChangeLemmas
 pub mod TellLemmas
 pub mod EventLemmas
+pub mod JumpLemmas
 pub mod EventRows
 pub mod PieceLemmas
 pub mod TextLemmas
