@@ -25,7 +25,7 @@ items v = v.items
 pub side_made : (w : Reads) (etc usr : List Source) (result : Result (Vec ℕ Global) Refusal) → IfOk result (λ b. AreMadeOf etc usr b.items) → IfErr result (IsNotCompiled etc usr)
     → ReachesValue items w (made_of etc usr) result
 side_made w etc usr (Ok b) made not =
-    made_reached w items etc usr (Ok b) (record { accepted = made.accepted; written = made.written; sound = (made.database.0, made.database.1); within = made.within }) not
+    made_reached w items etc usr (Ok b) (record { accepted = made.accepted; written = made.written; sound = made.database; within = made.within }) not
 side_made w etc usr (Err r) made not = made_reached w items etc usr (Err r) made not
 
 -- ---- chosen files of both folders

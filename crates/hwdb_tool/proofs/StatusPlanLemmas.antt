@@ -118,7 +118,7 @@ module _ (w : Reads) where
           now_of (texts s) (paths i) TakenEtc TakenUsr bytes,
           is,
           λ next e ends. read (λ t. ignored_below root (λ l. made_if t l next)) e (ignored (λ l. made_if (texts s) l next) e
-              (inl (bytes, record { accepted = made.accepted; written = made.written; sound = (made.database.0, made.database.1); within = made.within }, ends))),
+              (inl (bytes, record { accepted = made.accepted; written = made.written; sound = made.database; within = made.within }, ends))),
         )
 
     -- there was no memory
