@@ -27,6 +27,10 @@ pub struct Finding<'a> {
     pub text: &'a [u8],
     /// What to do about it.
     pub hint: &'a [u8],
+    /// `error` or `warning`.
+    pub severity: &'static str,
+    /// The line.
+    pub source: &'a [u8],
 }
 
 /// The column after so many bytes of a line, from 1.
@@ -41,7 +45,8 @@ fn put_finding(json: &mut Writer, found: &Finding<'_>) -> Result<(), AllocError>
     ensures before { json.new.before ≡ json.old.before }
     ensures tokens { OnOk result (json.new.tokens ≡ json.old.tokens ++ json_tokens
         (finding_json found.now.path.now found.now.line (column found.now.place)
-        found.now.kind.now found.now.text.now found.now.hint.now)) }
+        found.now.kind.now found.now.text.now found.now.hint.now
+        found.now.severity.now found.now.source.now)) }
 {
     json.begin_object()?;
     put_member(json, "path", found.path)?;
@@ -50,6 +55,8 @@ fn put_finding(json: &mut Writer, found: &Finding<'_>) -> Result<(), AllocError>
     put_member(json, "kind", found.kind.as_bytes())?;
     put_member(json, "text", found.text)?;
     put_member(json, "hint", found.hint)?;
+    put_member(json, "severity", found.severity.as_bytes())?;
+    put_member(json, "source", found.source)?;
     json.end_object()
 }
 
@@ -57,7 +64,8 @@ fn put_finding(json: &mut Writer, found: &Finding<'_>) -> Result<(), AllocError>
 pub fn finding_line(alloc: Global, found: &Finding<'_>) -> Result<Vec<u8>, AllocError>
     ensures { IfOk result (λ line. line.items ≡ json_line
         (finding_json found.now.path.now found.now.line (column found.now.place)
-        found.now.kind.now found.now.text.now found.now.hint.now)) }
+        found.now.kind.now found.now.text.now found.now.hint.now
+        found.now.severity.now found.now.source.now)) }
 {
     let mut json = Writer::new(Vec::new(alloc));
     put_finding(&mut json, found)?;
@@ -82,6 +90,8 @@ pub fn push_fault_json(
         kind: fault_name(fault.kind),
         text: fault.kind.text().as_bytes(),
         hint: hint_of(fault.kind).as_bytes(),
+        severity: "error",
+        source: line,
     };
     text.extend_from_slice(&finding_line(alloc, &found)?)?;
     Ok(())

@@ -148,7 +148,8 @@ fn json_of(
     ensures { IfOk result (λ json. json.items ≡ json_line
         (finding_json line.now.path.now line.now.number
         (column (comment_place line.now.text.now))
-        (codes "unknown-kind") text.now hint.now)) }
+        (codes "unknown-kind") text.now hint.now
+        (codes "warning") line.now.text.now)) }
 {
     let found = Finding {
         path: line.path,
@@ -157,6 +158,8 @@ fn json_of(
         kind: "unknown-kind",
         text,
         hint,
+        severity: "warning",
+        source: line.text,
     };
     finding_line(alloc, &found)
 }

@@ -241,7 +241,8 @@ fn warning_json(
     ensures { IfOk result (λ json. json.items ≡ json_line
         (finding_json path.now line.now.number
         (column (warning_place kind line.now.text.now line.now.clean.now))
-        (warning_name kind) (warning_text kind) hint.now)) }
+        (warning_name kind) (warning_text kind) hint.now
+        (codes "warning") line.now.text.now)) }
 {
     let words = words_of(alloc, kind)?;
     let found = Finding {
@@ -251,6 +252,8 @@ fn warning_json(
         kind: warning_name(kind),
         text: &words,
         hint,
+        severity: "warning",
+        source: line.text,
     };
     finding_line(alloc, &found)
 }

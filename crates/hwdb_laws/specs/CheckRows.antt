@@ -133,7 +133,7 @@ ReportRows =
 abbrev pub JsonRows : Type 0
 JsonRows =
     warning_json_line (codes "f") (at_three (codes " A=1#c")) CutValue
-    ≡ codes "{\"path\":\"f\",\"line\":3,\"column\":5,\"kind\":\"cut-value\",\"text\":\"a # without a blank before it cuts the value\",\"hint\":\"put a blank before a comment; a value can't hold a #\"}\n"
+    ≡ codes "{\"path\":\"f\",\"line\":3,\"column\":5,\"kind\":\"cut-value\",\"text\":\"a # without a blank before it cuts the value\",\"hint\":\"put a blank before a comment; a value can't hold a #\",\"severity\":\"warning\",\"source\":\" A=1#c\"}\n"
 
 -- Faults come by line, with the words that `update` has for them.
 abbrev pub FaultRows : Type 0

@@ -98,7 +98,8 @@ unknown_line path number name = place_text path number ++ codes ": warning: " ++
 -- what is printed of such a name in a line: a line of JSON, or a report
 abbrev pub told_unknown : (json : Bool) → (path : List ℕ) → Line → (name : List ℕ) → List ℕ
 told_unknown true path l name =
-    json_line (finding_json path l.number (column (comment_place l.text)) (codes "unknown-kind") (unknown_text name) (unknown_hint name))
+    json_line (finding_json path l.number (column (comment_place l.text)) (codes "unknown-kind") (unknown_text name) (unknown_hint name)
+    (codes "warning") l.text)
 told_unknown false path l name =
     let place = comment_place l.text in
     unknown_line path l.number name ++ (shown_line l.text place ++ (mark_line l.text place ++ hint_line (unknown_hint name)))

@@ -14,22 +14,24 @@ use Rattle.hwdb_spec_commands.specs.declared.WarningKind.{WarningKind}
 abbrev pub column : ℕ → ℕ
 column at = if nat_lt (at + 1) (2 ^ 64) then at + 1 else 2 ^ 64 - 1
 
--- what is found in a line, as an object; the column is that of the mark
-abbrev pub finding_json : (path : List ℕ) (line column : ℕ) (kind text hint : List ℕ) → Json
-finding_json path line column kind text hint =
+-- What is found in a line, as an object. The column is that of the mark, and the source is the line itself.
+abbrev pub finding_json : (path : List ℕ) (line column : ℕ) (kind text hint severity source : List ℕ) → Json
+finding_json path line column kind text hint severity source =
     object_of ((codes "path", text_json path) ∷ (codes "line", number_json line) ∷ (codes "column", number_json column)
-    ∷ (codes "kind", text_json kind) ∷ (codes "text", text_json text) ∷ (codes "hint", text_json hint) ∷ [])
+    ∷ (codes "kind", text_json kind) ∷ (codes "text", text_json text) ∷ (codes "hint", text_json hint)
+    ∷ (codes "severity", text_json severity) ∷ (codes "source", text_json source) ∷ [])
 
 -- the line of JSON of a fault, of a line with this text
 abbrev pub fault_json_line : (path text : List ℕ) → Fault → List ℕ
 fault_json_line path text f =
-    json_line (finding_json path f.line (column (fault_place f.kind text)) (fault_name f.kind) (fault_text f.kind) (fault_hint f.kind))
+    json_line (finding_json path f.line (column (fault_place f.kind text)) (fault_name f.kind) (fault_text f.kind) (fault_hint f.kind)
+    (codes "error") text)
 
 -- the line of JSON of a warning of a line
 abbrev pub warning_json_line : (path : List ℕ) → Line → WarningKind → List ℕ
 warning_json_line path l kind =
     json_line (finding_json path l.number (column (warning_place kind l.text (clean_line l).text)) (warning_name kind) (warning_text kind)
-    (warning_hint kind (clean_line l)))
+    (warning_hint kind (clean_line l)) (codes "warning") l.text)
 
 -- what is printed of a fault
 abbrev pub told_fault : (json : Bool) → (path text : List ℕ) → Fault → List ℕ

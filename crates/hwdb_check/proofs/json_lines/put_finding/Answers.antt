@@ -18,6 +18,8 @@ returns-clause-tokens c =
     let e : List ℕ × Json = (codes "kind", text_json found.kind.now) in
     let h : List ℕ × Json = (codes "text", text_json found.text.now) in
     let i : List ℕ × Json = (codes "hint", text_json found.hint.now) in
+    let s : List ℕ × Json = (codes "severity", text_json found.severity.now) in
+    let o : List ℕ × Json = (codes "source", text_json found.source.now) in
     let none = no_members_yet front c.begin_object.new.self.tokens c.in_ok-begin_object.ensures.ok in
     let one = member_behind front c.begin_object.new.self.tokens c.put_member.new.json.tokens [] a none c.in_ok-put_member.ensures.tokens in
     let two = member_behind front c.put_member.new.json.tokens c.put_count.new.json.tokens (a ∷ []) b one c.in_ok-put_count.ensures.tokens in
@@ -27,5 +29,9 @@ returns-clause-tokens c =
     (c.in_ok-put_member-2.ensures.tokens ∙ ap (λ k. c.put_count-2.new.json.tokens ++ tokens_of_member (codes "kind", text_json k)) c.as_bytes.ensures.value) in
     let five = member_behind front c.put_member-2.new.json.tokens c.put_member-3.new.json.tokens (a ∷ b ∷ d ∷ e ∷ []) h four c.in_ok-put_member-3.ensures.tokens in
     let six = member_behind front c.put_member-3.new.json.tokens c.put_member-4.new.json.tokens (a ∷ b ∷ d ∷ e ∷ h ∷ []) i five c.in_ok-put_member-4.ensures.tokens in
-    let all : List (List ℕ × Json) = a ∷ b ∷ d ∷ e ∷ h ∷ i ∷ [] in
-    on_ok_weaker c.end_object.result (object_closed c.args.json.now.tokens c.put_member-4.new.json.tokens c.end_object.new.self.tokens all all six refl) c.end_object.ensures.ok
+    let seven = member_behind front c.put_member-4.new.json.tokens c.put_member-5.new.json.tokens (a ∷ b ∷ d ∷ e ∷ h ∷ i ∷ []) s six
+    (c.in_ok-put_member-5.ensures.tokens ∙ ap (λ k. c.put_member-4.new.json.tokens ++ tokens_of_member (codes "severity", text_json k)) c.as_bytes-2.ensures.value) in
+    let eight = member_behind front c.put_member-5.new.json.tokens c.put_member-6.new.json.tokens (a ∷ b ∷ d ∷ e ∷ h ∷ i ∷ s ∷ []) o seven
+    c.in_ok-put_member-6.ensures.tokens in
+    let all : List (List ℕ × Json) = a ∷ b ∷ d ∷ e ∷ h ∷ i ∷ s ∷ o ∷ [] in
+    on_ok_weaker c.end_object.result (object_closed c.args.json.now.tokens c.put_member-6.new.json.tokens c.end_object.new.self.tokens all all eight refl) c.end_object.ensures.ok

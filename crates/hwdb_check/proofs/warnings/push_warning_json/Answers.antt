@@ -1,4 +1,4 @@
-use Rattle.std.proofs.Common.{◌≡◌, ◌∙◌, ◌++◌, ℕ, List, OnOk, ap, subst}
+use Rattle.std.proofs.Common.{◌≡◌, ◌∙◌, ◌++◌, ℕ, List, OnOk, ap, codes, subst}
 use Rattle.hwdb_spec_commands.specs.Findings.{column, finding_json}
 use Rattle.hwdb_spec_commands.specs.Json.{json_line}
 use Rattle.hwdb_spec_commands.specs.Kinds.{warning_name}
@@ -17,13 +17,13 @@ returns c =
     let read : List ℕ = (clean_of c.args.line.now).text in
     let last : List ℕ = c.push_line.new.text.items in
     subst
-    (λ (h : List ℕ). OnOk c.push_line.result (last ≡ old ++ json_line (finding_json path number (column (warning_place c.args.kind text read)) (warning_name c.args.kind) (warning_text c.args.kind) h)))
+    (λ (h : List ℕ). OnOk c.push_line.result (last ≡ old ++ json_line (finding_json path number (column (warning_place c.args.kind text read)) (warning_name c.args.kind) (warning_text c.args.kind) h (codes "warning") text)))
     (same_hint c.args.kind 0 number read)
     (subst
-    (λ (t : List ℕ). OnOk c.push_line.result (last ≡ old ++ json_line (finding_json path number (column (warning_place c.args.kind text t)) (warning_name c.args.kind) (warning_text c.args.kind) (warning_hint c.args.kind (line_of 0 t)))))
+    (λ (t : List ℕ). OnOk c.push_line.result (last ≡ old ++ json_line (finding_json path number (column (warning_place c.args.kind text t)) (warning_name c.args.kind) (warning_text c.args.kind) (warning_hint c.args.kind (line_of 0 t)) (codes "warning") text)))
     c.requires.clean
     (subst
-    (λ (h : List ℕ). OnOk c.push_line.result (last ≡ old ++ json_line (finding_json path number (column (warning_place c.args.kind text clean)) (warning_name c.args.kind) (warning_text c.args.kind) h)))
+    (λ (h : List ℕ). OnOk c.push_line.result (last ≡ old ++ json_line (finding_json path number (column (warning_place c.args.kind text clean)) (warning_name c.args.kind) (warning_text c.args.kind) h (codes "warning") text)))
     (c.deref.ensures.value ∙ c.in_ok-push_hint.ensures ∙ ap (λ (f : List ℕ). f ++ warning_hint c.args.kind (line_of 0 clean)) c.new-hint.ensures.items)
     (subst (λ (l : List ℕ). OnOk c.push_line.result (last ≡ old ++ l))
     (c.deref-2.ensures.value ∙ c.in_ok-warning_json.ensures)
