@@ -1,11 +1,13 @@
 -- Two runs with the same words are one.
-use Rattle.std.proofs.Common.{arith, ◌<◌, ◌≤◌, ◌≡◌, ◌≢◌, ◌∙◌, ◌++◌, ◌⊎◌, ◌∷◌, ⊎_elim, inl, inr, ap, refl, subst, sym, length, Bool, IfSome, List, Option, None, Result, Some, Ok, Err, ℕ, [], true, false}
+use Rattle.std.proofs.Common.{arith, ◌<◌, ◌≤◌, ◌≡◌, ◌≢◌, ◌∙◌, ◌++◌, ◌⊎◌, ◌∷◌, ⊎_elim, inl, inr, ap, refl, subst, sym, length, map, Bool, IfSome, List, Option, None, Result, Some, Ok, Err, ℕ, [], true, false}
 use Rattle.std.specs.Option.{option_map_or}
 use Rattle.std.specs.Prelude.{codes, find, if◌then◌else◌, nat_le, option_map}
 use Rattle.std.specs.Str.{bytes_eq}
 use Rattle.clap.specs.Simple.{matches_of, subcommand_of}
 use Rattle.clap.specs.Walk.{Row, Text, first_of}
-use Rattle.hwdb_spec.specs.Folders.{Source, max_files, names}
+use Rattle.hwdb_spec.specs.Folders.{Choice, Source, choice, max_files, names}
+use Rattle.hwdb_spec.specs.System.{etc_files, usr_files}
+use Rattle.hwdb_spec.specs.Tree.{Tree}
 use Rattle.hwdb_spec_commands.specs.CheckedFiles.{files_in, folder_of}
 use Rattle.hwdb_spec_commands.specs.CommandLine.{hwdb_app}
 use Rattle.hwdb_spec_commands.specs.DeviceAsked.{device_form, device_list, missing_text, no_sysfs_text, unread_text}
@@ -16,6 +18,7 @@ use Rattle.hwdb_spec_commands.specs.Jobs.{has_flag}
 use Rattle.hwdb_spec_commands.specs.Near.{PatternAt}
 use Rattle.hwdb_spec_commands.specs.NearAsked.{near_form, near_limit, patterns_from}
 use Rattle.hwdb_spec_commands.specs.Runs.{Told, World}
+use Rattle.hwdb_spec_commands.specs.Sides.{as_etc, names_text}
 use Rattle.hwdb_spec_commands.specs.Told.{Reads, Stop, Unlisted, stop_of, unread_stop}
 use Rattle.hwdb_spec_commands.specs.Told.Stop.{Plain, Says}
 use Rattle.hwdb_spec.specs.declared.errors.ToolError.TheVariants.{BadDatabase, BadPosition, Memory as OutOfMemory, Read, Replace, TooLarge, TooLong, TooManyFiles, TooManyLines, Write}
@@ -31,10 +34,11 @@ use Rattle.hwdb_plan.specs.Asking.{asked, if_read, named}
 use Rattle.hwdb_plan.specs.Check.{check_plan, said_of}
 use Rattle.hwdb_plan.specs.Device.{device_answer, device_plan, folder_of as folder_place, place_of, says, sysfs_of}
 use Rattle.hwdb_spec_program.specs.DeviceErrors.{asked_names}
+use Rattle.hwdb_plan.specs.Diff.{change_of, compared, diff_plan, once, sides_compared}
 use Rattle.hwdb_plan.specs.Dump.{text_form}
 use Rattle.hwdb_plan.specs.Ended.{Leaves, OnLines, Outs, Shows, ShowsEnd, StreamStops, Streamed}
-use Rattle.hwdb_plan.specs.Files.{given_files, if_input, read_files}
-use Rattle.hwdb_plan.specs.Folders.{if_listed}
+use Rattle.hwdb_plan.specs.Files.{ask_file, given_files, if_input, is_word, read_files, source_at}
+use Rattle.hwdb_plan.specs.Folders.{Texts, choose, if_listed, names_of, paths_of, read_texts, texts_of_folders, texts_of_names, with_texts}
 use Rattle.hwdb_plan.specs.Given.{given_at, given_or_asked}
 use Rattle.hwdb_plan.specs.GivenFolders.{files_at, files_for, if_few, if_folder, named_files}
 use Rattle.hwdb_plan.specs.Input.{IsInputTold}
@@ -44,8 +48,11 @@ use Rattle.hwdb_plan.specs.Near.{near_plan}
 use Rattle.hwdb_plan.specs.Plans.{End, Ends, Next, Plan}
 use Rattle.hwdb_plan.specs.Plans.End.{Answers, Lines, Replaces, Stops, Streams}
 use Rattle.hwdb_plan.specs.Plans.Plan.{Done, Input}
-use Rattle.hwdb_spec_program.specs.ProgramPlan.{Around, ShowsPlan, before_last, files_plan, found_plan, has_text, limit_of, plans, program_plan, root_given, strict_given, value_of, values_of}
+use Rattle.hwdb_spec_program.specs.GivenDatabases.{names_twice, twice_text}
+use Rattle.hwdb_spec_program.specs.ProgramPlan.{Around, ShowsPlan, before_last, files_plan, found_plan, has_text, limit_of, plans, program_plan, root_given, strict_given, update_plans, value_of, values_of}
 use Rattle.hwdb_laws.specs.PlannedRuns.{HavePlan, PlannedDoneIsNoError, PlannedRunsAreOne, Tells}
+use Rattle.hwdb_plan.specs.Sides.{bytes_if, file_bytes, made_at, made_of, plain_side, root_made, side, taken_from}
+use Rattle.hwdb_plan.specs.Status.{status_plan}
 use Rattle.hwdb_plan.specs.Test.{tested}
 use Rattle.hwdb_plan.specs.Verify.{summary}
 
@@ -74,7 +81,67 @@ module _ (w : Reads) (e : End) (Lost : Type 0) where
   abbrev Serves : (one other : Result (List ℕ) Unread) → Type 0
   Serves one other = (one ≡ other) ⊎ IsSpare one
 
+  -- ---- fronts: what follows them moves
+  read_moves : (path : List ℕ) (one two : Next) → ((bytes : List ℕ) → Moves (one path bytes) (two path bytes)) → (told : Result (List ℕ) Unread) → Moves (if_read path one told) (if_read path two told)
+  read_moves path one two step (Ok bytes) ends = step bytes ends
+  read_moves path one two step (Err why) ends = inl ends
+
+  file_moves : (word : Bool) (path : List ℕ) (one two : Next) → ((bytes : List ℕ) → Moves (one path bytes) (two path bytes)) → Moves (ask_file word path (if_read path one)) (ask_file word path (if_read path two))
+  unfolding Ends
+  file_moves true path one two step = read_moves path one two step (w.input path)
+  file_moves false path one two step = read_moves path one two step (w.text path)
+
+  sources_move : (words : List (List ℕ)) (text : List ℕ) (paths : List (List ℕ)) (read : List Source) (one two : List Source → Plan) → ((sources : List Source) → Moves (one sources) (two sources))
+      → Moves (read_files words text paths read one) (read_files words text paths read two)
+  unfolding read_files
+  sources_move words text [] read one two step = step read
+  sources_move words text (path ∷ more) read one two step = by (λ bytes. sources_move words text more (read ++ source_at path bytes ∷ []) one two step) (is_dash path)
+    where
+      rest : (next : List Source → Plan) (at bytes : List ℕ) → Plan
+      rest next at bytes = read_files words text more (read ++ source_at at bytes ∷ []) next
+
+      by : ((bytes : List ℕ) → Moves (rest one path bytes) (rest two path bytes)) → (b : Bool) → Moves (if b then rest one path text else ask_file (is_word words path) path (if_read path (rest one)))
+          (if b then rest two path text else ask_file (is_word words path) path (if_read path (rest two)))
+      by again true = again text
+      by again false = file_moves (is_word words path) path (rest one) (rest two) again
+
+  names_move : (folder : List ℕ) (one two : List (List ℕ) → Plan) → ((names : List (List ℕ)) → Moves (one names) (two names)) → Moves (names_of folder one) (names_of folder two)
+  unfolding Ends
+  names_move folder one two step = by (w.names folder)
+    where
+      by : (told : Result (List (List ℕ)) Unlisted) → Moves (if_listed folder one told) (if_listed folder two told)
+      by (Ok found) ends = step found ends
+      by (Err why) ends = inl ends
+
+  choice_moves : (etc usr : List (List ℕ)) (one two : List Choice → Plan) → ((chosen : List Choice) → Moves (one chosen) (two chosen)) → Moves (choose etc usr one) (choose etc usr two)
+  choice_moves etc usr one two step = by (nat_le (length (names etc usr)) max_files)
+    where
+      by : (b : Bool) → Moves (if b then one (choice etc usr) else Done (Stops (Plain TooManyFiles))) (if b then two (choice etc usr) else Done (Stops (Plain TooManyFiles)))
+      by true ends = step (choice etc usr) ends
+      by false ends = inl ends
+
+  texts_move : (paths texts : List (List ℕ)) (one two : List (List ℕ) → Plan) → ((texts : List (List ℕ)) → Moves (one texts) (two texts)) → Moves (read_texts paths texts one) (read_texts paths texts two)
+  unfolding read_texts Ends
+  texts_move [] texts one two step = step texts
+  texts_move (path ∷ more) texts one two step =
+      read_moves path (λ at bytes. read_texts more (texts ++ bytes ∷ []) one) (λ at bytes. read_texts more (texts ++ bytes ∷ []) two) (λ bytes. texts_move more (texts ++ bytes ∷ []) one two step) (w.text path)
+
+  folders_move : (root : List ℕ) (one two : Texts → Plan) → ((texts : Texts) → Moves (one texts) (two texts)) → Moves (texts_of_folders root one) (texts_of_folders root two)
+  folders_move root one two step =
+      names_move (etc_files root) (λ etc. names_of (usr_files root) (λ usr. texts_of_names root etc usr one)) (λ etc. names_of (usr_files root) (λ usr. texts_of_names root etc usr two))
+      (λ etc. names_move (usr_files root) (λ usr. texts_of_names root etc usr one) (λ usr. texts_of_names root etc usr two)
+      (λ usr. choice_moves etc usr (λ chosen. read_texts (paths_of root chosen) [] (λ texts. one (with_texts usr chosen texts))) (λ chosen. read_texts (paths_of root chosen) [] (λ texts. two (with_texts usr chosen texts)))
+      (λ chosen. texts_move (paths_of root chosen) [] (λ texts. one (with_texts usr chosen texts)) (λ texts. two (with_texts usr chosen texts)) (λ texts. step (with_texts usr chosen texts)))))
+
   -- ---- standard input
+  input_moves : (one other : Result (List ℕ) Unread) (next next2 : List ℕ → Plan) → ((text : List ℕ) → Moves (next text) (next2 text)) → Serves one other
+      → Moves (if_read (codes "standard input") (λ at text. next text) one) (if_read (codes "standard input") (λ at text. next2 text) other)
+  input_moves one other next next2 step (inl same) ends =
+      subst (λ (t : Result (List ℕ) Unread). Ends w (if_read (codes "standard input") (λ at text. next2 text) t) e ⊎ Lost) same
+      (read_moves (codes "standard input") (λ at text. next text) (λ at text. next2 text) step one ends)
+  input_moves (Ok bytes) other next next2 step (inr spare) ends = absurd spare
+  input_moves (Err why) other next next2 step (inr spare) ends = lost_at (unread_stop (codes "standard input") why) spare ends
+
   given_moves : (one other : Result (List ℕ) Unread) (path : List ℕ) (next : Next) → Serves one other → Moves (given_at one path next) (given_at other path next)
   given_moves one other path next serves = by (is_dash path) one serves
     where
@@ -89,17 +156,19 @@ module _ (w : Reads) (e : End) (Lost : Type 0) where
   named_moves one other None root next serves ends = inl ends
   named_moves one other (Some path) root next serves ends = given_moves one other path next serves ends
 
-  files_move : (words paths : List (List ℕ)) (one other : Result (List ℕ) Unread) (next : List Source → Plan) → Serves one other → Moves (given_files words one paths next) (given_files words other paths next)
-  files_move words paths one other next serves = by (any_dash paths) one serves
+  files_step : (words paths : List (List ℕ)) (one other : Result (List ℕ) Unread) (next next2 : List Source → Plan) → ((sources : List Source) → Moves (next sources) (next2 sources)) → Serves one other
+      → Moves (given_files words one paths next) (given_files words other paths next2)
+  files_step words paths one other next next2 step serves = by (any_dash paths) one serves
     where
-      rest : (text : List ℕ) → Plan
-      rest text = read_files words text paths [] next
+      rest : (next : List Source → Plan) (text : List ℕ) → Plan
+      rest next text = read_files words text paths [] next
 
-      by : (b : Bool) (told : Result (List ℕ) Unread) → Serves told other → Moves (if_input b told rest) (if_input b other rest)
-      by false told serves ends = inl ends
-      by true told (inl same) ends = inl (subst (λ t. Ends w (if_read (codes "standard input") (λ at text. rest text) t) e) same ends)
-      by true (Ok bytes) (inr spare) ends = absurd spare
-      by true (Err why) (inr spare) ends = lost_at (unread_stop (codes "standard input") why) spare ends
+      by : (b : Bool) (told : Result (List ℕ) Unread) → Serves told other → Moves (if_input b told (rest next)) (if_input b other (rest next2))
+      by false told serves = sources_move words [] paths [] next next2 step
+      by true told serves = input_moves told other (rest next) (rest next2) (λ text. sources_move words text paths [] next next2 step) serves
+
+  files_move : (words paths : List (List ℕ)) (one other : Result (List ℕ) Unread) (next : List Source → Plan) → Serves one other → Moves (given_files words one paths next) (given_files words other paths next)
+  files_move words paths one other next serves = files_step words paths one other next next (λ sources ends. inl ends) serves
 
   -- ---- what given paths mean, and then what follows that
   module _ (one two : List (List ℕ) → Plan) (step : (paths : List (List ℕ)) → Moves (one paths) (two paths)) where
@@ -129,6 +198,47 @@ module _ (w : Reads) (e : End) (Lost : Type 0) where
   paths_move [] paths one two step = step paths
   paths_move (path ∷ more) paths one two step =
       path_moves (λ own. named_files more (paths ++ own) one) (λ own. named_files more (paths ++ own) two) (λ own. paths_move more (paths ++ own) one two step) path
+
+  -- ---- a side of `diff`
+  module _ (one two : List ℕ → Plan) (step : (bytes : List ℕ) → Moves (one bytes) (two bytes)) where
+    made_moves : (etc usr : List Source) → Moves (made_of etc usr one) (made_of etc usr two)
+    unfolding Ends
+    made_moves etc usr (inl (bytes, made, ends)) = ⊎_elim (λ moved. inl (inl (bytes, made, moved))) (λ lost. inr lost) (step bytes ends)
+    made_moves etc usr (inr bad) = inl (inr bad)
+
+    own_moves : (path : List ℕ) (own : List (List ℕ)) → Moves (made_at path own one) (made_at path own two)
+    own_moves path own = sources_move (path ∷ []) [] own [] (λ sources. made_of (map as_etc sources) [] one) (λ sources. made_of (map as_etc sources) [] two) (λ sources. made_moves (map as_etc sources) [])
+
+    root_moves : (path : List ℕ) (names : List (List ℕ)) (chosen : List Choice) (texts : List (List ℕ)) → Moves (root_made path names chosen texts one) (root_made path names chosen texts two)
+    root_moves path [] [] texts ends = inl ends
+    root_moves path (name ∷ more) [] texts ends = few_moves (λ own. made_at path own one) (λ own. made_at path own two) (own_moves path) path (name ∷ more) ends
+    root_moves path found (c ∷ chosen) texts ends = made_moves (taken_from true (c ∷ chosen) texts) (taken_from false (c ∷ chosen) texts) ends
+
+    file_side_moves : (path : List ℕ) → Moves (file_bytes path one) (file_bytes path two)
+    unfolding Ends
+    file_side_moves path = by (names_text path)
+      where
+        by : (b : Bool) → Moves (if b then made_at path (path ∷ []) one else Input path (if_read path (λ at bytes. one bytes))) (if b then made_at path (path ∷ []) two else Input path (if_read path (λ at bytes. two bytes)))
+        by true = own_moves path (path ∷ [])
+        by false = read_moves path (λ at bytes. one bytes) (λ at bytes. two bytes) step (w.input path)
+
+    found_side_moves : (path : List ℕ) (told : Result (Option (List (List ℕ))) Unlisted) → Moves (if_listed (folder_of path) (λ found. bytes_if path found one) told) (if_listed (folder_of path) (λ found. bytes_if path found two) told)
+    found_side_moves path (Ok None) ends = file_side_moves path ends
+    found_side_moves path (Ok (Some found)) ends =
+        folders_move (folder_of path) (λ texts. root_made path found texts.chosen texts.texts one) (λ texts. root_made path found texts.chosen texts.texts two) (λ texts. root_moves path found texts.chosen texts.texts) ends
+    found_side_moves path (Err why) ends = inl ends
+
+    plain_side_moves : (path : List ℕ) → Moves (plain_side path one) (plain_side path two)
+    unfolding Ends
+    plain_side_moves path = found_side_moves path (w.folder (folder_of path))
+
+    side_moves : (told other : Result (List ℕ) Unread) (path : List ℕ) → Serves told other → Moves (side told path one) (side other path two)
+    side_moves told other path serves = by (is_dash path)
+      where
+        by : (b : Bool) → Moves (if b then if_read (codes "standard input") (λ at bytes. one bytes) told else plain_side path one)
+            (if b then if_read (codes "standard input") (λ at bytes. two bytes) other else plain_side path two)
+        by true = input_moves told other one two step serves
+        by false = plain_side_moves path
 
   -- ---- sysfs: the words of a cause are in errors alone
   module _ (sight : Sight) (cause other : List ℕ) (lost : (text : List ℕ) → e ≡ Stops (Says text) → Lost) where
@@ -210,12 +320,33 @@ module _ (w : Reads) (e : End) (Lost : Type 0) where
         by (inl same) ends = inl (subst (λ (c : List ℕ). Ends w (device_plan sight c asked_names root form given) e) same ends)
         by (inr lost) ends = device_moves sight cause cause2 lost root form given ends
 
+    diff_moves : (given : List (List ℕ)) (old new : List ℕ) (say : List Source → Tree → Tree → End) (twice : Bool) → Moves (once twice twice_text (diff_plan one given old new say)) (once twice twice_text (diff_plan other given old new say))
+    diff_moves given old new say true ends = inl ends
+    diff_moves given old new say false ends =
+        files_step given given one other (λ sources. sides_compared one old new (say sources)) (λ sources. sides_compared other old new (say sources))
+        (λ sources. let both = λ (x y : List ℕ). compared old new x y (say sources) in side_moves (λ x. side one new (both x)) (λ x. side other new (both x))
+        (λ x. side_moves (both x) (both x) (λ y ends. inl ends) one other new serves) one other old serves)
+        serves ends
+
+    update_moves : (root : List ℕ) (rows : List Row) → RowsMove (update_plans root rows) (update_plans root rows)
+    update_moves root rows = by (has_flag (codes "check") rows)
+      where
+        update_rows : Bool → List (Text × Plan)
+        update_rows b = if b then (codes "update", status_plan root false true) ∷ [] else []
+
+        by : (b : Bool) → RowsMove (update_rows b) (update_rows b)
+        by true = (refl, λ ends. inl ends, tt)
+        by false = tt
+
     rows_move : (root : List ℕ) (strict : Bool) (rows : List Row) → RowsMove (plans first root strict rows) (plans second root strict rows)
     rows_move root strict rows =
         let json = has_flag (codes "json") rows in
         let words = values_of (codes "MODALIAS") rows in
         let file = value_of (codes "FILE") rows in
         let files = values_of (codes "FILE") rows in
+        let given = values_of (codes "devices") rows in
+        let old = value_of (codes "OLD") rows in
+        let new = value_of (codes "NEW") rows in
         let database = first_of (codes "DATABASE") rows in ((
           refl,
           λ ends. inl ends,
@@ -243,7 +374,15 @@ module _ (w : Reads) (e : End) (Lost : Type 0) where
                         (
                           refl,
                           named_moves one other database root summary serves,
-                          (refl, named_moves one other database root text_form serves, tt),
+                          (
+                            refl,
+                            named_moves one other database root text_form serves,
+                            (
+                              refl,
+                              diff_moves given old new (change_of (has_flag (codes "stat") rows) json) (names_twice given old new),
+                              (refl, λ ends. inl ends, update_moves root rows),
+                            ),
+                          ),
                         ),
                       ),
                     ),

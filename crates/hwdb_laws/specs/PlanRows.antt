@@ -13,17 +13,20 @@ use Rattle.hwdb_spec_commands.specs.Told.Stop.{Over, Says}
 use Rattle.hwdb_spec_commands.specs.declared.devices.DeviceForm.TheVariants.{Json, Lookups, Pattern}
 use Rattle.hwdb_spec_commands.specs.declared.unread.Unread.TheVariants as unread
 use Rattle.hwdb_spec_program.specs.DeviceErrors.{asked_names}
+use Rattle.hwdb_spec_program.specs.GivenDatabases.{twice_text}
 use Rattle.hwdb_spec_program.specs.ProgramPlan.{Around, error_status, program_plan}
 use Rattle.hwdb_plan.specs.Answers.{explain_plan, query_plan}
 use Rattle.hwdb_plan.specs.Ask.{ask_plan}
 use Rattle.hwdb_plan.specs.Check.{check_plan, said_of}
 use Rattle.hwdb_plan.specs.Device.{device_plan}
+use Rattle.hwdb_plan.specs.Diff.{change_of, diff_plan}
 use Rattle.hwdb_plan.specs.Dump.{dump_plan}
 use Rattle.hwdb_plan.specs.List.{list_plan}
 use Rattle.hwdb_plan.specs.Near.{near_plan}
 use Rattle.hwdb_plan.specs.Plans.{Plan}
 use Rattle.hwdb_plan.specs.Plans.End.{Stops}
 use Rattle.hwdb_plan.specs.Plans.Plan.{Done}
+use Rattle.hwdb_plan.specs.Status.{status_plan}
 use Rattle.hwdb_plan.specs.Test.{test_plan}
 use Rattle.hwdb_plan.specs.Verify.{verify_plan}
 
@@ -74,10 +77,27 @@ CheckRows =
     → asked a (codes "--strict" ∷ codes "check" ∷ codes "--allow" ∷ codes "near-name" ∷ codes "-r" ∷ codes "/r" ∷ codes "--allow=scan-code" ∷ codes "f" ∷ codes "-" ∷ []) ∷ asked a (codes "check" ∷ codes "--json" ∷ []) ∷ []
     ≡ Some (check_plan a.input (codes "f" ∷ codes "-" ∷ []) (codes "/r") (said_of false true (codes "near-name" ∷ codes "scan-code" ∷ []))) ∷ Some (check_plan a.input [] [] (said_of true false [])) ∷ []
 
--- Words that ask for no command, for one that has no plan yet, or for `--text`.
+-- Files of devices are told as they are given, and both sides by their places. Two of `diff` that are `-` are an error before anything is
+-- asked.
+abbrev pub DiffRows : Type 0
+DiffRows =
+    (a : Around)
+    → asked a (codes "diff" ∷ codes "--stat" ∷ codes "--devices" ∷ codes "f" ∷ codes "--devices=g" ∷ codes "o" ∷ codes "n" ∷ []) ∷ asked a (codes "diff" ∷ codes "--json" ∷ codes "o" ∷ codes "-" ∷ [])
+    ∷ asked a (codes "diff" ∷ codes "-" ∷ codes "-" ∷ []) ∷ []
+    ≡ Some (diff_plan a.input (codes "f" ∷ codes "g" ∷ []) (codes "o") (codes "n") (change_of true false)) ∷ Some (diff_plan a.input [] (codes "o") (codes "-") (change_of false true))
+    ∷ Some (Done (Stops (Says twice_text))) ∷ []
+
+-- Whether the database is fresh: `update --check` asks what `status` asks, and is told the status alone.
+abbrev pub FreshRows : Type 0
+FreshRows =
+    (a : Around)
+    → asked a (codes "status" ∷ codes "--json" ∷ codes "-r" ∷ codes "/r" ∷ []) ∷ asked a (codes "-r/r" ∷ codes "update" ∷ codes "--check" ∷ []) ∷ asked a (codes "status" ∷ []) ∷ []
+    ≡ Some (status_plan (codes "/r") true false) ∷ Some (status_plan (codes "/r") false true) ∷ Some (status_plan [] false false) ∷ []
+
+-- Words that ask for no command, for an update, or for `--text`.
 abbrev pub NoneRows : Type 0
 NoneRows =
-    (a : Around) → asked a [] ∷ asked a (codes "frob" ∷ []) ∷ asked a (codes "update" ∷ []) ∷ asked a (codes "status" ∷ []) ∷ asked a (codes "verify" ∷ codes "--text" ∷ []) ∷ [] ≡ None ∷ None ∷ None ∷ None ∷ None ∷ []
+    (a : Around) → asked a [] ∷ asked a (codes "frob" ∷ []) ∷ asked a (codes "update" ∷ codes "--verbose" ∷ []) ∷ asked a (codes "verify" ∷ codes "--text" ∷ []) ∷ [] ≡ None ∷ None ∷ None ∷ None ∷ []
 
 -- The status of an error, as EXIT STATUS of hwdb(8) has it: 2 of `diff`, whose 1 says that something changed.
 abbrev pub StatusRows : Type 0

@@ -299,6 +299,8 @@ pub fn plan_rows()
     ensures device { PlanRows.DeviceRows }
     ensures check { PlanRows.CheckRows }
     ensures named { PlanRows.NamedRows }
+    ensures diff { PlanRows.DiffRows }
+    ensures fresh { PlanRows.FreshRows }
     ensures none { PlanRows.NoneRows }
     ensures status { PlanRows.StatusRows }
     ensures input { PlanRows.InputRows }

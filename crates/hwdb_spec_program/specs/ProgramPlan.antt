@@ -1,10 +1,10 @@
--- The plan of a run, as its words compute it. Which words each command has is in `Jobs`. `update`, `status` and `diff` have no plan here
--- yet, and no command has its own with `--text`. `query` is systemd-hwdb(8)'s; the rest is our choice.
+-- The plan of a run, as its words compute it. Which words each command has is in `Jobs`. `update` has a plan here with `--check` alone,
+-- and no command has its own with `--text`. `query` is systemd-hwdb(8)'s; the rest is our choice.
 use Rattle.clap.specs.Faults.{fault_of}
 use Rattle.clap.specs.Simple.{matches_of, subcommand_of}
 use Rattle.clap.specs.Walk.{Row, Text, all_of, first_of, one_of}
 use Rattle.std.specs.Option.{option_or, unwrap_or}
-use Rattle.std.specs.Prelude.{◌-◌, ◌≡◌, ◌⊎◌, ◌||◌, ◌∷◌, ℕ, Bool, false, List, [], None, Option, Some, Result, Ok, Err, IfSome, codes, find, if◌then◌else◌, length, option_map, take}
+use Rattle.std.specs.Prelude.{◌-◌, ◌≡◌, ◌⊎◌, ◌||◌, ◌∷◌, ℕ, Bool, false, List, [], None, Option, Some, Result, Ok, Err, IfSome, codes, find, if◌then◌else◌, length, option_map, take, true}
 use Rattle.std.specs.Str.{bytes_eq}
 use Rattle.std.specs.Str.Parse.{digits_value, without_leading_plus}
 use Rattle.hwdb_spec_commands.specs.CommandLine.{hwdb_app}
@@ -19,11 +19,13 @@ use Rattle.hwdb_spec_commands.specs.declared.refusals.Refusal.{Refusal}
 use Rattle.hwdb_spec_commands.specs.declared.refusals.Refusal.TheVariants.{Plain}
 use Rattle.hwdb_spec_commands.specs.declared.unread.Unread.{Unread}
 use Rattle.hwdb_spec_program.specs.DeviceErrors.{asked_names}
+use Rattle.hwdb_spec_program.specs.GivenDatabases.{names_twice, twice_text}
 use Rattle.hwdb_spec_program.specs.TaskRefusals.{IsRootRefused, IsSaid}
 use Rattle.hwdb_plan.specs.Answers.{explain_plan, query_plan}
 use Rattle.hwdb_plan.specs.Ask.{lone_answer}
 use Rattle.hwdb_plan.specs.Check.{check_plan, said_of}
 use Rattle.hwdb_plan.specs.Device.{OfCause, device_plan}
+use Rattle.hwdb_plan.specs.Diff.{change_of, diff_plan, once}
 use Rattle.hwdb_plan.specs.Dump.{text_form}
 use Rattle.hwdb_plan.specs.Ended.{Outs, ShowsEnd, outs, outs_of}
 use Rattle.hwdb_plan.specs.Files.{OfInput}
@@ -31,6 +33,7 @@ use Rattle.hwdb_plan.specs.Given.{given_at, given_or_asked}
 use Rattle.hwdb_plan.specs.List.{list_plan}
 use Rattle.hwdb_plan.specs.Near.{near_plan}
 use Rattle.hwdb_plan.specs.Plans.{Plan}
+use Rattle.hwdb_plan.specs.Status.{status_plan}
 use Rattle.hwdb_plan.specs.Test.{test_plan}
 use Rattle.hwdb_plan.specs.Verify.{summary}
 
@@ -88,6 +91,18 @@ check_of a root strict rows =
 abbrev pub ask_of : Around → List Row → Plan
 ask_of a rows = let file = value_of (codes "FILE") rows in given_at a.input file (lone_answer file (value_of (codes "MODALIAS") rows))
 
+-- of `diff`: before anything is asked it is an error if standard input would be read twice
+abbrev pub diff_of : Around → List Row → Plan
+diff_of a rows =
+    let given = values_of (codes "devices") rows in
+    let old = value_of (codes "OLD") rows in
+    let new = value_of (codes "NEW") rows in
+    once (names_twice given old new) twice_text (diff_plan a.input given old new (change_of (has_flag (codes "stat") rows) (has_flag (codes "json") rows)))
+
+-- of `update`, with its word: with `--check` it is that of `status`, of which the status alone is told; without it there is none
+abbrev pub update_plans : (root : List ℕ) → List Row → List (Text × Plan)
+update_plans root rows = if has_flag (codes "check") rows then (codes "update", status_plan root false true) ∷ [] else []
+
 -- each command that has a plan: its word, and its plan over what is matched after it
 abbrev pub plans : Around → (root : List ℕ) (strict : Bool) → List Row → List (Text × Plan)
 plans a root strict rows =
@@ -103,7 +118,9 @@ plans a root strict rows =
     ∷ (codes "test", test_plan a.input (values_of (codes "FILE") rows) (first_of (codes "database") rows) root json)
     ∷ (codes "verify", given_or_asked a.input (first_of (codes "DATABASE") rows) root summary)
     ∷ (codes "dump", given_or_asked a.input (first_of (codes "DATABASE") rows) root text_form)
-    ∷ []
+    ∷ (codes "diff", diff_of a rows)
+    ∷ (codes "status", status_plan root json false)
+    ∷ update_plans root rows
 
 -- that of one, by its word
 abbrev pub command_plan : Around → (root : List ℕ) (strict : Bool) (word : Text) → List Row → Option Plan

@@ -1,7 +1,8 @@
 -- A run of some words follows the plan that the words compute.
 use Rattle.std.proofs.Common.{◌≡◌, ◌∙◌, ◌+◌, ◌-◌, ◌∷◌, ◌++◌, arith, inl, inr, ap, refl, subst, sym, map, string_bytes, Bool, Global, IfSome, List, MatchResult, Option, None, Result, Some, String, Vec, Ok, Err, ℕ, [], true, false, length, take}
 use Rattle.std.specs.Option.{option_map_or, unwrap_or}
-use Rattle.std.specs.Prelude.{◌&&◌, codes, if◌then◌else◌, option_map}
+use Rattle.std.specs.Prelude.{◌&&◌, codes, find, if◌then◌else◌, option_map}
+use Rattle.std.specs.Str.{bytes_eq}
 use Rattle.std.specs.Str.Parse.{digits_value, without_leading_plus}
 use Rattle.clap.specs.Simple.{matches_of, subcommand_of}
 use Rattle.clap.specs.Walk.{Row, Text, all_of, first_of, one_of}
@@ -16,11 +17,12 @@ use Rattle.hwdb_spec_commands.specs.NearAsked.{near_form, near_limit}
 use Rattle.hwdb_spec_commands.specs.Runs.{Told}
 use Rattle.hwdb_spec_commands.specs.Told.{Reads, stop_of}
 use Rattle.hwdb_spec_commands.specs.declared.job.Job.{Job}
-use Rattle.hwdb_spec_commands.specs.declared.job.Task.TheVariants.{Ask, Check, Device, Dump, Explain, List as ListHits, Near, Query, Status, Test, Verify}
+use Rattle.hwdb_spec_commands.specs.declared.job.Task.TheVariants.{Ask, Check, Device, Diff, Dump, Explain, List as ListHits, Near, Query, Status, Test, Update, Verify}
 use Rattle.hwdb_spec_commands.specs.declared.refusals.Refusal.{Refusal}
 use Rattle.hwdb_spec_commands.specs.declared.unread.Unread.{Unread}
 use Rattle.hwdb_spec_commands.specs.declared.unread.Unread.TheVariants as unread
 use Rattle.hwdb_spec_program.specs.DeviceErrors.{asked_names}
+use Rattle.hwdb_spec_program.specs.GivenDatabases.{names_twice, twice_text}
 use Rattle.hwdb_spec_program.specs.Program.{root_of}
 use Rattle.hwdb_spec_program.specs.ProgramPlan.{Around, ShowsPlan, before_last, command_plan, files_plan, found_plan, has_text, limit_of, program_plan, root_given, strict_given, value_of, values_of}
 use Rattle.hwdb_spec_program.specs.Words.{AskFor}
@@ -29,6 +31,7 @@ use Rattle.hwdb_plan.specs.Ask.{ask_plan, lone_answer}
 use Rattle.hwdb_plan.specs.Check.{check_plan, said_of}
 use Rattle.hwdb_plan.specs.Asking.{if_read, named}
 use Rattle.hwdb_plan.specs.Device.{OfCause, device_plan}
+use Rattle.hwdb_plan.specs.Diff.{change_of, diff_plan, once}
 use Rattle.hwdb_plan.specs.Dump.{dump_plan, if_said, text_form}
 use Rattle.hwdb_plan.specs.Ended.{Outs, Prints, ShowsEnd}
 use Rattle.hwdb_plan.specs.Files.{OfInput}
@@ -40,6 +43,7 @@ use Rattle.hwdb_plan.specs.Near.{near_plan}
 use Rattle.hwdb_plan.specs.Plans.{End, Ends, Follows, Next, Plan}
 use Rattle.hwdb_plan.specs.Plans.End.{Stops}
 use Rattle.hwdb_plan.specs.Plans.Plan.{Input}
+use Rattle.hwdb_plan.specs.Status.{status_plan}
 use Rattle.hwdb_plan.specs.Test.{test_plan}
 use Rattle.hwdb_plan.specs.Verify.{summary, verify_plan}
 use Rattle.hwdb_tool.specs.Views.{end_of}
@@ -148,6 +152,10 @@ module _ {Y : Type 0} (end_of : Y → End) (w : Reads) (input : Option (List ℕ
   named_follows root None follows = (Err unread.Memory, tt, follows)
   named_follows root (Some path) over = given_follows (is_dash path) path refl over
 
+-- ---- the plan of `diff`
+abbrev diff_once : (told : Result (List ℕ) Unread) (given : List Text) (old new : Text) (stat json : Bool) → Plan
+diff_once told given old new stat json = once (names_twice given old new) twice_text (diff_plan told given old new (change_of stat json))
+
 -- ---- runs
 module _ (w : Reads) (sight : Sight) (input_before input_now : Told) (before now : Outs) (result : Result ℕ Refusal) where
   abbrev Shows : Plan → Type 0
@@ -196,15 +204,21 @@ module _ (w : Reads) (sight : Sight) (input_before input_now : Told) (before now
     abbrev At : Type 0
     At = Planned (λ a. command_plan a root strict word rows)
 
-    -- ---- commands that have none
-    pub unplanned : (known : Text) → word ≡ known → ((a : Around) → command_plan a root strict known rows ≡ None) → At
-    unplanned known is none =
-        let a = around (Err unread.Memory) [] in
-        (Err unread.Memory, tt, ([], refl, at_word a known is (subst (λ (o : Option Plan). IfSome o Shows) (sym (none a)) tt)))
+    -- ---- `update`, by its `--check`
+    abbrev checked_plan : Bool → Option Plan
+    checked_plan b = option_map (λ (row : Text × Plan). row.1) (find (λ (row : Text × Plan). bytes_eq row.0 (codes "update")) (if b then (codes "update", status_plan root false true) ∷ [] else []))
 
-    pub status_unplanned : (json quiet : Bool) → IsTask word rows (Status json quiet) → At
-    status_unplanned json false is = unplanned (codes "status") is.0 (λ a. refl)
-    status_unplanned json true is = unplanned (codes "update") is.0 (λ a. refl)
+    pub update_unplanned : (verbose skip : Bool) → IsTask word rows (Update verbose skip) → At
+    update_unplanned verbose skip is = (
+      Err unread.Memory,
+      tt,
+      (
+        [],
+        refl,
+        at_word (around (Err unread.Memory) []) (codes "update") is.0
+            (subst (λ (b : Bool). IfSome (checked_plan b) Shows) (sym is.1) tt),
+      ),
+    )
 
     -- ---- commands that print as they go
     pub query_planned : (devices : Vec (String Global) Global) (json : Bool) → IsTask word rows (Query devices json) → Shows (query_plan root json (map string_bytes devices.items)) → At
@@ -328,6 +342,51 @@ module _ (w : Reads) (sight : Sight) (input_before input_now : Told) (before now
               (subst (λ (b : Bool). Shows (device_plan sight cause asked_names root (device_form strings b (has_flag (codes "pattern") rows)) (option_map string_bytes path))) is.3
               (subst (λ (b : Bool). Shows (device_plan sight cause asked_names root (device_form strings json b) (option_map string_bytes path))) is.4
               (answered (device_plan sight cause asked_names root (device_form strings json pattern) (option_map string_bytes path)) follows))))),
+        ),
+      )
+
+      pub diff_planned : (old new : String Global) (devices : Vec (String Global) Global) (json stat : Bool) → IsTask word rows (Diff old new devices json stat)
+          → (given : List Text) (o n : Text) → given ≡ map string_bytes devices.items → o ≡ string_bytes old → n ≡ string_bytes new
+          → Told' (λ told. Follows end_of w (diff_once told given o n stat json) answer) → At
+      diff_planned old new devices json stat is given o n of_given of_old of_new (told, so, follows) =
+          let old_is : o ≡ value_of (codes "OLD") rows = of_old ∙ some_value (codes "OLD") rows (string_bytes old) is.4 in
+          let new_is : n ≡ value_of (codes "NEW") rows = of_new ∙ some_value (codes "NEW") rows (string_bytes new) is.5 in
+          let o2 = value_of (codes "OLD") rows in
+          let n2 = value_of (codes "NEW") rows in (
+            told,
+            so,
+            (
+              [],
+              refl,
+              at_word (around told []) (codes "diff") is.0
+                  (subst (λ (j : Bool). Shows (diff_once told (values_of (codes "devices") rows) o2 n2 (has_flag (codes "stat") rows) j)) is.1
+                  (subst (λ (s : Bool). Shows (diff_once told (values_of (codes "devices") rows) o2 n2 s json)) is.2
+                  (subst (λ (ds : List Text). Shows (diff_once told ds o2 n2 stat json)) (of_given ∙ is.3)
+                  (subst (λ (x : Text). Shows (diff_once told given x n2 stat json)) old_is
+                  (subst (λ (x : Text). Shows (diff_once told given o x stat json)) new_is (answered (diff_once told given o n stat json) follows)))))),
+            ),
+          )
+
+      pub status_planned : (json quiet : Bool) → IsTask word rows (Status json quiet) → Follows end_of w (status_plan root json quiet) answer → At
+      status_planned json false is follows = (
+        Err unread.Memory,
+        tt,
+        (
+          [],
+          refl,
+          at_word (around (Err unread.Memory) []) (codes "status") is.0
+              (subst (λ (j : Bool). Shows (status_plan root j false)) is.1 (answered (status_plan root json false) follows)),
+        ),
+      )
+      status_planned json true is follows = (
+        Err unread.Memory,
+        tt,
+        (
+          [],
+          refl,
+          at_word (around (Err unread.Memory) []) (codes "update") is.0
+              (subst (λ (b : Bool). IfSome (checked_plan b) Shows) (sym is.1)
+              (subst (λ (j : Bool). Shows (status_plan root j true)) is.2 (answered (status_plan root json true) follows))),
         ),
       )
 

@@ -1,4 +1,4 @@
-use Rattle.hwdb_laws.proofs.ComputedPlanRows.{check_rows, device_rows, input_rows, list_rows, named_rows, near_rows, none_rows, query_rows, status_rows, sysfs_rows}
+use Rattle.hwdb_laws.proofs.ComputedPlanRows.{check_rows, device_rows, diff_rows, fresh_rows, input_rows, list_rows, named_rows, near_rows, none_rows, query_rows, status_rows, sysfs_rows}
 use Rattle.hwdb_laws.proofs.rows.plan_rows.Goals as goal
 
 pub returns : goal.returns
@@ -9,6 +9,8 @@ returns c = record {
   device = device_rows;
   check = check_rows;
   named = named_rows;
+  diff = diff_rows;
+  fresh = fresh_rows;
   none = none_rows;
   status = status_rows;
   input = input_rows;

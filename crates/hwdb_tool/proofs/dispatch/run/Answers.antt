@@ -1,5 +1,5 @@
 use Rattle.std.proofs.Common.{◌∷◌, ◌≡◌, ◌⊎◌, false, ap, inl, inr, ⊎_elim, refl, string_bytes, subst, sym, ◌==◌, length, map, not, Global, IfOk, IfErr, List, Option, String, ℕ}
-use Rattle.std.specs.Prelude.{codes, option_map}
+use Rattle.std.specs.Prelude.{option_map}
 use Rattle.hwdb_spec_commands.specs.declared.job.Task.TheVariants.{Ask, Check, Device, Diff, Dump, Near, Status, Test, Update, Verify}
 use Rattle.hwdb_spec_commands.specs.Asked.{IsAnswered, IsDumped, IsListFrom, IsPrinted}
 use Rattle.hwdb_spec_commands.specs.Databases.{IsSummary}
@@ -42,11 +42,12 @@ use Rattle.hwdb_plan.specs.Input.{OverGiven, OverNamed}
 use Rattle.hwdb_plan.specs.List.{list_plan}
 use Rattle.hwdb_plan.specs.Near.{near_plan}
 use Rattle.hwdb_plan.specs.Plans.{Follows}
+use Rattle.hwdb_plan.specs.Status.{status_plan}
 use Rattle.hwdb_plan.specs.Test.{test_plan}
 use Rattle.hwdb_plan.specs.Verify.{verify_plan}
 use Rattle.hwdb_spec_commands.specs.Jobs.{IsTask}
 use Rattle.hwdb_spec_commands.specs.declared.devices.DeviceForm.{DeviceForm}
-use Rattle.hwdb_tool.proofs.ProgramPlanLemmas.{ask_planned, check_planned, device_planned, dump_planned, explain_planned, list_planned, near_planned, of_words, query_planned, status_unplanned, test_planned, unplanned, verify_planned}
+use Rattle.hwdb_tool.proofs.ProgramPlanLemmas.{ask_planned, check_planned, device_planned, diff_planned, dump_planned, explain_planned, list_planned, near_planned, of_words, query_planned, status_planned, test_planned, update_unplanned, verify_planned}
 use Rattle.hwdb_tool.proofs.dispatch.run.Goals as goal
 use Rattle.hwdb_spec.specs.Lemmas.Calls.{each_error, each_value}
 
@@ -550,7 +551,7 @@ returns-in-Update-clause-follows g c = λ tells words asked.
     let now = outs (E c.update_telling.new.err) (O c.args.out.now) in
     let result = c.update_telling.result in
     of_words w sight input input before now result words c.args.job.now asked
-    (λ word rows is. unplanned w sight input input before now result (root_of c.args.job.now) c.args.job.now.strict word rows (codes "update") (subst (λ t. IsTask word rows t) c.in-Update.is is).0 (λ a. refl))
+    (λ word rows is. update_unplanned w sight input input before now result (root_of c.args.job.now) c.args.job.now.strict word rows c.in-Update.verbose c.in-Update.skip_unreadable (subst (λ t. IsTask word rows t) c.in-Update.is is))
 
 pub returns-in-Query-clause-follows : goal.returns-in-Query-clause-follows
 returns-in-Query-clause-follows g c = λ tells words asked.
@@ -739,7 +740,8 @@ returns-in-Diff-clause-follows g c = λ tells words asked.
     let now = outs (E c.printed-in-Diff.new.err) (O c.printed-in-Diff.new.out) in
     let result = c.printed-in-Diff.result in
     of_words w sight input left before now result words c.args.job.now asked
-    (λ word rows is. unplanned w sight input left before now result (root_of c.args.job.now) c.args.job.now.strict word rows (codes "diff") (subst (λ t. IsTask word rows t) c.in-Diff.is is).0 (λ a. refl))
+    (λ word rows is. diff_planned w sight input left before now result (root_of c.args.job.now) c.args.job.now.strict word rows c.diff-answer.result c.printed-in-Diff.ensures.prints c.in-Diff.old c.in-Diff.new c.in-Diff.devices c.in-Diff.json c.in-Diff.stat (subst (λ t. IsTask word rows t) c.in-Diff.is is)
+    (map string_bytes c.deref-in-Diff.result.now) c.as_str-old.result.now c.as_str-new.result.now (ap (λ (ds : List (String Global)). map string_bytes ds) c.deref-in-Diff.ensures.value) c.as_str-old.ensures.value c.as_str-new.ensures.value (c.diff-answer.ensures.follows tells))
 
 pub returns-in-Status-clause-follows : goal.returns-in-Status-clause-follows
 returns-in-Status-clause-follows g c = λ tells words asked.
@@ -753,7 +755,8 @@ returns-in-Status-clause-follows g c = λ tells words asked.
     let now = outs (E c.printed-in-Status.new.err) (O c.printed-in-Status.new.out) in
     let result = c.printed-in-Status.result in
     of_words w sight input input before now result words c.args.job.now asked
-    (λ word rows is. status_unplanned w sight input input before now result (root_of c.args.job.now) c.args.job.now.strict word rows c.in-Status.json c.in-Status.quiet (subst (λ t. IsTask word rows t) c.in-Status.is is))
+    (λ word rows is. status_planned w sight input input before now result (root_of c.args.job.now) c.args.job.now.strict word rows c.status.result c.printed-in-Status.ensures.prints c.in-Status.json c.in-Status.quiet (subst (λ t. IsTask word rows t) c.in-Status.is is)
+    (subst (λ (r : List ℕ). Follows end_of w (status_plan r c.in-Status.json c.in-Status.quiet) c.status.result) c.root_of-root.ensures (c.status.ensures.follows tells)))
 
 pub returns-in-Verify-clause-follows : goal.returns-in-Verify-clause-follows
 returns-in-Verify-clause-follows g c = λ tells words asked.
