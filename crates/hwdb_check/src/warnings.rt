@@ -1,5 +1,5 @@
 //! Warnings: lines that are read, but likely not as they were meant.
-ghost use Rattle.std.specs.Prelude.{◌≡◌, ◌++◌, ◌∷◌, [], filter, flat_map, map, take, IfOk, OnOk};
+ghost use Rattle.std.specs.Prelude.{◌≡◌, ◌++◌, ◌∷◌, [], codes, filter, flat_map, map, take, IfOk, OnOk};
 ghost use Rattle.hwdb_spec.specs.Lines.{Line, clean_line};
 ghost use Rattle.hwdb_spec.specs.Records;
 ghost use Rattle.hwdb_spec_commands.specs.Findings.{column, finding_json, line_text, told_warning, warning_json_line, warnings_text};
