@@ -1,4 +1,6 @@
 pub mod Samples
+pub mod Keys
+pub mod Groups
 pub mod Views
 pub mod Internal
 pub mod Rows

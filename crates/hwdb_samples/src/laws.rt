@@ -1,4 +1,5 @@
-//! Worked rows: these functions do nothing, and what each of them ensures is so.
+//! Laws of the definitions, and worked rows: these functions do nothing, and what each of them ensures is so.
+ghost use Rattle.hwdb_samples.specs.Keys.{RulesGiveValues, SameRulesGiveAll};
 ghost use Rattle.hwdb_samples.specs.Rows.{GivenRows, LaterRows, MetRows, RuleRows, SameRows, SettledRows, ShownRows};
 
 /// What rules give devices.
@@ -16,4 +17,11 @@ pub fn sample_rows()
     ensures met { MetRows }
     ensures shown { ShownRows }
     ensures settled { SettledRows }
+{}
+
+/// What a device gets of all keys is what the rules of each key give it.
+#[tactic(auto, using(crate::proofs::KeyLemmas::rules_give_values, crate::proofs::KeyLemmas::same_rules_give_all))]
+pub fn law_rules_give()
+    ensures values { RulesGiveValues }
+    ensures all { SameRulesGiveAll }
 {}

@@ -1,4 +1,4 @@
-//! The samples of two sides.
+//! The samples of one key of two sides.
 ghost use Rattle.std.specs.Prelude.{◌≡◌, ◌⊎◌, All, List, ℕ, [], IfOk, IfSome, ◌≢◌, true};
 ghost use Rattle.hwdb_spec.specs.Answers;
 ghost use Rattle.hwdb_samples.specs.Samples;
