@@ -34,10 +34,10 @@ new_gives : given (codes "ab") new_side ≡ Some (codes "2")
 unfolding after_rules matches piece_then byte_then some_ending tokens_from token_at
 new_gives = refl
 
-differs : IsSame old_side new_side (codes "ab") → ⊥
+pub differs : IsSame old_side new_side (codes "ab") → ⊥
 differs e = first_apart (codes "1") (codes "2") (λ k. absurd (omega (arith, k))) (some_is (codes "1") (codes "2") (sym old_gives ∙ e ∙ new_gives))
 
-same_ac : IsSame old_side new_side (codes "ac")
+pub same_ac : IsSame old_side new_side (codes "ac")
 unfolding after_rules matches piece_then byte_then some_ending tokens_from token_at
 same_ac = refl
 
@@ -54,7 +54,7 @@ one_is_two = first_apart (codes "1") (codes "2") (λ k. absurd (omega (arith, k)
 star_is_b : codes "a*" ≡ codes "ab" → ⊥
 star_is_b e = let k = ap (λ (l : List ℕ). get_or l 1 0) e in absurd (omega (arith, k))
 
-no_old : HasRule old_side (codes "ab") (codes "2") → ⊥
+pub no_old : HasRule old_side (codes "ab") (codes "2") → ⊥
 no_old (inl e) = one_is_two e.1
 no_old (inr none) = none
 
@@ -103,7 +103,7 @@ b_ab : is_match (codes "ab") (codes "b") ≡ false
 unfolding matches piece_then byte_then some_ending tokens_from token_at
 b_ab = refl
 
-b_is_ab : is_match (codes "ab") (codes "ab") ≡ true
+pub b_is_ab : is_match (codes "ab") (codes "ab") ≡ true
 unfolding matches piece_then byte_then some_ending tokens_from token_at
 b_is_ab = refl
 

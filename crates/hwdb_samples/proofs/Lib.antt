@@ -6,3 +6,4 @@ pub mod KeyLemmas
 pub mod GroupLemmas
 pub mod AllKeysLemmas
 pub mod ComputedRows
+pub mod ComputedKeyRows

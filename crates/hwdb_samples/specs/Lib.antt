@@ -4,3 +4,4 @@ pub mod Groups
 pub mod Views
 pub mod Internal
 pub mod Rows
+pub mod KeyRows

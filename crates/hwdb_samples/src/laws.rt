@@ -1,5 +1,6 @@
 //! Laws of the definitions, and worked rows: these functions do nothing, and what each of them ensures is so.
 ghost use Rattle.hwdb_samples.specs.Keys.{RulesGiveValues, SameRulesGiveAll};
+ghost use Rattle.hwdb_samples.specs.KeyRows.{FoundKeyRows, FoundRows, KeyedRows, PropertyRows, TurnRows, ValueRows};
 ghost use Rattle.hwdb_samples.specs.Rows.{GivenRows, LaterRows, MetRows, RuleRows, SameRows, SettledRows, ShownRows};
 
 /// What rules give devices.
@@ -24,4 +25,15 @@ pub fn sample_rows()
 pub fn law_rules_give()
     ensures values { RulesGiveValues }
     ensures all { SameRulesGiveAll }
+{}
+
+/// Which assignments count, what devices get of all keys, and what is found of a key.
+#[tactic(auto, using(crate::proofs::ComputedKeyRows::turn_rows_hold, crate::proofs::ComputedKeyRows::property_rows_hold, crate::proofs::ComputedKeyRows::value_rows_hold, crate::proofs::ComputedKeyRows::keyed_rows_hold, crate::proofs::ComputedKeyRows::found_rows_hold, crate::proofs::ComputedKeyRows::found_key_rows_hold))]
+pub fn key_rows()
+    ensures turn { TurnRows }
+    ensures properties { PropertyRows }
+    ensures values { ValueRows }
+    ensures keyed { KeyedRows }
+    ensures found { FoundRows }
+    ensures keys { FoundKeyRows }
 {}

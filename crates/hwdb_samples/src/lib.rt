@@ -22,6 +22,6 @@ mod samples;
 mod texts;
 
 pub use groups::{KeySamples, Property, samples_by_key};
-pub use laws::{given_rows, law_rules_give, sample_rows};
+pub use laws::{given_rows, key_rows, law_rules_give, sample_rows};
 pub use rules::{Rule, given};
 pub use samples::{Sample, Samples, samples_of};
