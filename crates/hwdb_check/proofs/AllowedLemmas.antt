@@ -1,5 +1,5 @@
 -- Comments that let kinds of warnings pass.
-use Rattle.std.proofs.Common.{◌≡◌, ◌==◌, arith, ℕ, ◌+◌, List, [], ◌∷◌, ◌++◌, ◌||◌, map, length, refl, ap, ◌∙◌, sym, append_assoc, append-nil, Bool, true, false, cond, not}
+use Rattle.std.proofs.Common.{◌≡◌, ◌==◌, arith, ℕ, ◌+◌, List, [], ◌∷◌, ◌++◌, ◌||◌, length, refl, ap, ◌∙◌, sym, append_assoc, append-nil, Bool, true, false, cond, not}
 use Rattle.std.specs.Prelude.{filter, flat_map}
 use Rattle.std.proofs.lemmas.Bool.{eqb-true}
 use Rattle.std.specs.List.{list_any}

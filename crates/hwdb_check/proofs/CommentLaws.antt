@@ -1,13 +1,13 @@
 -- Which lines a comment lets kinds pass in, and how findings are shown beside lines.
-use Rattle.std.proofs.Common.{◌≡◌, ℕ, zero, suc, ◌+◌, List, [], ◌∷◌, ◌++◌, map, take, drop, length, refl, ap, ◌∙◌, sym, subst, arith, Bool, true, false, cond}
-use Rattle.hwdb_spec.specs.Lines.{Line, byte, is, is_none, is_blank, lines, numbered, pieces, trimmed}
-use Rattle.hwdb_spec_commands.specs.AllowedKinds.{Marked, allowed_text, ends_record, left_warnings, marked, marked_from, names_at, names_in, names_to_end}
+use Rattle.std.proofs.Common.{◌≡◌, ℕ, suc, ◌+◌, List, [], ◌∷◌, ◌++◌, map, take, drop, length, refl, ap, ◌∙◌, sym, arith, Bool, true, false, cond}
+use Rattle.hwdb_spec.specs.Lines.{Line, byte, is, numbered, pieces, trimmed}
+use Rattle.hwdb_spec_commands.specs.AllowedKinds.{Marked, allowed_text, ends_record, marked_from, names_at, names_in, names_to_end}
 use Rattle.hwdb_check.proofs.AllowedLemmas.{bare_text}
 use Rattle.hwdb_check.specs.Annotations.{AnnotationRows}
 use Rattle.hwdb_check.specs.Comments.{BareAreTold, CommentRows, FaultsStay, LeftAreTold, LinesAreMarked, RecordsAreApart}
 use Rattle.std.specs.Prelude.{filter}
 use Rattle.hwdb_spec_commands.specs.Kinds.{is_told}
-use Rattle.hwdb_spec_commands.specs.Warnings.{gets, line_kinds, line_warnings, warns}
+use Rattle.hwdb_spec_commands.specs.Warnings.{gets, line_kinds, warns}
 use Rattle.hwdb_spec_commands.specs.declared.WarningKind.{WarningKind}
 use Rattle.hwdb_spec.specs.Lines.{clean_line, is_dropped}
 use Rattle.std.specs.Char.{encode_utf8}

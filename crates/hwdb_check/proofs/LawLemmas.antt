@@ -14,7 +14,7 @@ use Rattle.hwdb_spec_commands.specs.Mends.{follow, likely_after, likely_judgemen
 use Rattle.hwdb_spec_commands.specs.Unmatched.{compare_hint, expected_after, is_unmatched, judgement_of, likelihood_of, runs_from}
 use Rattle.hwdb_spec_commands.specs.FormTable.{asked}
 use Rattle.hwdb_spec_commands.specs.LikelyForms.{likely}
-use Rattle.hwdb_spec.specs.Patterns.{Token, tokens}
+use Rattle.hwdb_spec.specs.Patterns.{tokens}
 use Rattle.hwdb_forms.specs.Laws.{FormsAreTested}
 use Rattle.hwdb_spec.specs.declared.Judgement.{Judgement}
 use Rattle.hwdb_spec.specs.declared.Judgement.TheVariants.{Dead, Fine, UnknownPrefix}

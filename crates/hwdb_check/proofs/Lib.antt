@@ -18,3 +18,4 @@ pub mod PlainLemmas
 pub mod MarkLemmas
 pub mod MendLemmas
 pub mod PieceLemmas
+pub mod KeptLemmas

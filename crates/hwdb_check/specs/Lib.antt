@@ -7,3 +7,4 @@ pub mod Annotations
 pub mod Comments
 pub mod Leaving
 pub mod Lemmas
+pub mod Kept

@@ -1,13 +1,16 @@
 //! Comments that let kinds of warnings pass in their record: `# hwdb: allow KIND[,KIND]`.
-ghost use Rattle.std.specs.Prelude.{◌≡◌, ◌++◌, List, ℕ, drop, if◌then◌else◌, not, IfOk, OnOk};
+ghost use Rattle.std.specs.Prelude.{◌≡◌, ◌++◌, List, ℕ, drop, if◌then◌else◌, map, not, IfOk, OnOk};
 ghost use Rattle.std.specs.List.{list_any};
 ghost use Rattle.hwdb_spec.specs.Folders;
 ghost use Rattle.hwdb_spec.specs.Lines.{is, is_none, pieces};
 ghost use Rattle.hwdb_text.specs.PiecesLeft.{lines_left};
 ghost use Rattle.hwdb_spec_commands.specs.AllowedKinds;
 ghost use Rattle.hwdb_spec_commands.specs.AllowedKinds.{names_in, names_to_end};
+ghost use Rattle.hwdb_check.specs.Kept;
+ghost use Rattle.hwdb_check.specs.Kept.{AreAlike};
 ghost use Rattle.hwdb_check.specs.Leaving.{all_names};
 
+use crate::kinds::is_among;
 use hwdb_properties::{after, before, same};
 use hwdb_spec_commands::KINDS;
 use hwdb_text::{Content, Lines, Pieces, content_of, trim, unindented};
@@ -100,7 +103,7 @@ fn put_allowed<'b>(allowed: &mut Vec<&'b [u8]>, text: &'b [u8]) -> Result<(), Al
 }
 
 /// These texts, and what comments let pass in some lines up to the first one that ends a record.
-pub fn to_end<'b>(
+fn to_end<'b>(
     alloc: Global,
     allowed: &[&'b [u8]],
     lines: Lines<'b>,
@@ -119,24 +122,67 @@ pub fn to_end<'b>(
     Ok(own)
 }
 
-/// What is let pass after a line: in its record, or in the next one, whose first lines are left.
-pub fn after_line<'b>(
+/// Adds a text, if this name is one of those in some texts.
+fn put_kept<'k>(
+    kinds: &mut Vec<&'k [u8]>,
+    texts: &[&[u8]],
+    name: &[u8],
+    text: &'k [u8],
+) -> Result<(), AllocError>
+    ensures { OnOk result (all_names kinds.new.items ≡ all_names kinds.old.items
+        ++ Kept.kept_of (map (λ t. t.now) texts.now) name.now text.now) }
+{
+    if is_among(name, texts) {
+        kinds.push(text)?;
+    }
+    Ok(())
+}
+
+/// The names of kinds that are among those in some texts, each once. The empty name stays, too.
+fn kept(alloc: Global, texts: &[&[u8]]) -> Result<Vec<&'static [u8]>, AllocError>
+    ensures { IfOk result (λ kinds. all_names kinds.items
+        ≡ Kept.kept (map (λ t. t.now) texts.now)) }
+{
+    let mut kinds = Vec::new(alloc);
+    put_kept(&mut kinds, texts, b"", b",")?;
+    for kind in Pieces::new(b'\n', KINDS.as_bytes()) {
+        put_kept(&mut kinds, texts, kind, kind)?;
+    }
+    Ok(kinds)
+}
+
+/// What is let pass in the record whose first lines these are: it takes room for the kinds alone.
+pub fn record_kinds(
     alloc: Global,
-    allowed: &[&'b [u8]],
-    own: Vec<&'b [u8]>,
+    allowed: &[&[u8]],
+    lines: Lines<'_>,
+) -> Result<Vec<&'static [u8]>, AllocError>
+    ensures { IfOk result (λ kinds. AreAlike (all_names kinds.items)
+        (all_names allowed.now ++ names_to_end (lines_left lines.entry))) }
+{
+    let own = to_end(alloc, allowed, lines)?;
+    let kinds = kept(alloc, &own)?;
+    Ok(kinds)
+}
+
+/// What is let pass after a line: in its record, or in the next one, whose first lines are left.
+pub fn after_line(
+    alloc: Global,
+    allowed: &[&[u8]],
+    kinds: Vec<&'static [u8]>,
     text: &[u8],
-    lines: Lines<'b>,
-) -> Result<Vec<&'b [u8]>, AllocError>
+    lines: Lines<'_>,
+) -> Result<Vec<&'static [u8]>, AllocError>
     ensures { IfOk result (λ next. (names : List (List ℕ))
-        → all_names own.entry.items ≡ all_names allowed.now ++ names
-        → all_names next.items ≡ all_names allowed.now
+        → AreAlike (all_names kinds.entry.items) (all_names allowed.now ++ names)
+        → AreAlike (all_names next.items) (all_names allowed.now
         ++ (if AllowedKinds.ends_record text.now then names_to_end (lines_left lines.entry)
-        else names)) }
+        else names))) }
 {
     if ends_record(text) {
-        return to_end(alloc, allowed, lines);
+        return record_kinds(alloc, allowed, lines);
     }
-    Ok(own)
+    Ok(kinds)
 }
 
 /// Whether this is the name of a kind of warning.

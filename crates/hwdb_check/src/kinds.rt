@@ -95,7 +95,7 @@ pub fn warning_name(kind: WarningKind) -> &'static str
 }
 
 /// Whether a name is one of those in some texts.
-fn is_among(name: &[u8], names: &[&[u8]]) -> bool
+pub fn is_among(name: &[u8], names: &[&[u8]]) -> bool
     ensures { result
         ≡ list_any (λ text. list_any (Folders.same name.now) (names_in text)) (texts names.now) }
 {

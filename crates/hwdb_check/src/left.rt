@@ -13,7 +13,7 @@ ghost use Rattle.hwdb_spec_commands.specs.AllowedKinds.{comment_place, is_kind, 
 ghost use Rattle.hwdb_check.specs.Internal.{IsKnown, line_of, own, texts};
 ghost use Rattle.hwdb_check.specs.Leaving.{file_line, names_of};
 
-use crate::allowed::{after_line, allowed_text, any_allowed, is_kind, stripped, to_end};
+use crate::allowed::{after_line, allowed_text, any_allowed, is_kind, record_kinds, stripped};
 use crate::json_lines::{Finding, finding_line};
 use crate::kinds::{Manner, Telling};
 use crate::known::{Known, known_of};
@@ -307,16 +307,16 @@ fn left_by_line<'b>(
         unknown: Vec::new(alloc),
     };
     let mut lines = Lines::new(bytes);
-    let mut allowed = to_end(alloc, manner.allowed, lines)?;
+    let mut kinds = record_kinds(alloc, manner.allowed, lines)?;
     let mut number = 1;
     'lines: while let Some(text) = lines.next() {
         let line = FileLine { path, number, text };
         let here = Manner {
             json: manner.json,
-            allowed: &allowed,
+            allowed: &kinds,
         };
         left.put_line(alloc, &here, &known, &line)?;
-        allowed = after_line(alloc, manner.allowed, allowed, text, lines)?;
+        kinds = after_line(alloc, manner.allowed, kinds, text, lines)?;
         number += 1;
     }
     Ok(left)

@@ -1,6 +1,5 @@
 use Rattle.std.proofs.Common.{◌∙◌, ◌++◌, ap, sym, List, Option, Some, ℕ, take}
 use Rattle.std.proofs.lemmas.Result.{on_ok_weaker}
-use Rattle.std.specs.Option.{option_map}
 use Rattle.hwdb_spec_commands.specs.Mends.{mend_hint}
 use Rattle.hwdb_spec_commands.specs.Unmatched.{place_hint}
 use Rattle.hwdb_check.proofs.MendLemmas.{items_of}

@@ -1,13 +1,34 @@
 use Rattle.std.proofs.Common.{◌∙◌, ◌++◌, ap, arith, cond, length, List, ℕ}
 use Rattle.std.specs.Prelude.{flat_map}
 use Rattle.hwdb_text.specs.PiecesLeft.{lines_left}
-use Rattle.hwdb_spec_commands.specs.AllowedKinds.{ends_record, left_of_line, left_warnings, names_in, names_to_end, told_unknown, unknown_names}
-use Rattle.hwdb_spec_commands.specs.Findings.{line_text}
-use Rattle.hwdb_spec_commands.specs.Warnings.{line_warnings}
+use Rattle.hwdb_spec_commands.specs.AllowedKinds.{ends_record, left_of_line, left_warnings, marked_from, names_in, names_to_end, told_unknown, unknown_names}
+use Rattle.hwdb_spec_commands.specs.Findings.{told_warning}
+use Rattle.hwdb_spec_commands.specs.Kinds.{is_told}
+use Rattle.hwdb_spec_commands.specs.declared.WarningKind.{WarningKind}
 use Rattle.hwdb_check.specs.Internal.{line_of, texts}
 use Rattle.hwdb_check.specs.Leaving.{all_names}
-use Rattle.hwdb_check.proofs.AllowedLemmas.{grown_by, marked_end, marked_step}
+use Rattle.hwdb_check.proofs.AllowedLemmas.{marked_end, marked_step}
+use Rattle.hwdb_check.proofs.KeptLemmas.{grown_alike}
 use Rattle.hwdb_check.proofs.left.left_by_line.Goals as goal
+
+pub lines-init : goal.lines-init
+lines-init c =
+    let allowed = texts c.args.manner.now.allowed.now in
+    let json = c.args.manner.now.json in
+    let path = c.args.path.now in
+    let bytes = c.args.bytes.now in
+    let left = lines_left c.new-lines.result in
+    record {
+      near = omega (arith, c.new-lines.ensures.few);
+      names = names_to_end left;
+      are = c.in_ok-kinds.ensures;
+      text = ap (λ (own : List ℕ). own ++ flat_map (left_of_line json allowed path bytes) (marked_from (names_to_end left) 1 left)) c.new.ensures.items
+          ∙ ap (λ (ts : List (List ℕ)). flat_map (left_of_line json allowed path bytes) (marked_from (names_to_end ts) 1 ts)) c.new-lines.ensures.lines;
+      found = ap (λ own. own ++ flat_map (left_warnings allowed bytes) (marked_from (names_to_end left) 1 left)) c.new-2.ensures.items
+          ∙ ap (λ (ts : List (List ℕ)). flat_map (left_warnings allowed bytes) (marked_from (names_to_end ts) 1 ts)) c.new-lines.ensures.lines;
+      unknown = ap (λ own. texts own ++ flat_map (λ m. unknown_names m.line.text) (marked_from (names_to_end left) 1 left)) c.new-3.ensures.items
+          ∙ ap (λ (ts : List (List ℕ)). flat_map (λ m. unknown_names m.line.text) (marked_from (names_to_end ts) 1 ts)) c.new-lines.ensures.lines;
+    }
 
 pub lines-preserved : goal.lines-preserved
 lines-preserved c =
@@ -21,17 +42,17 @@ lines-preserved c =
     let line = line_of n text in
     let left = lines_left c.lines.lines in
     let rest = lines_left c.next.new.self in
-    let here = ap all_names c.deref.ensures.value ∙ c.lines.invariant.are in
+    let here = λ (kind : WarningKind). ap (λ (o : List (List ℕ)). is_told o kind) (ap all_names c.deref.ensures.value) ∙ c.lines.invariant.are kind in
     let all : List (List ℕ) = flat_map names_in allowed ++ names in
     record {
       near = omega (arith, ap length c.in-Some.ensures.steps, c.lines.invariant.near);
       names = cond (ends_record text) (names_to_end rest) names;
-      are = c.in_ok-allowed-2.ensures names c.lines.invariant.are;
+      are = c.in_ok-kinds-2.ensures names c.lines.invariant.are;
       text = marked_step (left_of_line json allowed path bytes) _ _ _ names n left text rest c.in-Some.ensures.steps
-          (grown_by (λ own file. flat_map (told_unknown json path line) (unknown_names text) ++ line_text json own path file line) _ _ _ all _ bytes here c.in_ok-known.ensures.1 c.in_ok-put_line.ensures.text)
+          (grown_alike (λ ws. flat_map (told_unknown json path line) (unknown_names text) ++ flat_map (told_warning json path line) ws) _ _ _ all _ bytes line here c.in_ok-known.ensures.1 c.in_ok-put_line.ensures.text)
           c.lines.invariant.text;
       found = marked_step (left_warnings allowed bytes) _ _ _ names n left text rest c.in-Some.ensures.steps
-          (grown_by (λ own file. line_warnings own file line) _ _ _ all _ bytes here c.in_ok-known.ensures.1 c.in_ok-put_line.ensures.found)
+          (grown_alike (λ ws. ws) _ _ _ all _ bytes line here c.in_ok-known.ensures.1 c.in_ok-put_line.ensures.found)
           c.lines.invariant.found;
       unknown = marked_step (λ m. unknown_names m.line.text) _ _ _ names n left text rest c.in-Some.ensures.steps c.in_ok-put_line.ensures.unknown c.lines.invariant.unknown;
     }

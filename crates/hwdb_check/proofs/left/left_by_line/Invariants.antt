@@ -3,6 +3,7 @@ use Rattle.std.specs.Prelude.{flat_map}
 use Rattle.hwdb_text.specs.PiecesLeft.{lines_left}
 use Rattle.hwdb_spec_commands.specs.AllowedKinds.{left_of_line, left_text, left_warnings, marked_from, names_in, unknown_left, unknown_names, warnings_left}
 use Rattle.hwdb_check.specs.Internal.{texts}
+use Rattle.hwdb_check.specs.Kept.{AreAlike}
 use Rattle.hwdb_check.proofs.left.left_by_line.Given as goal
 
 abbrev pub invariant-lines : goal.invariant-lines
@@ -11,7 +12,7 @@ invariant-lines l =
     record {
       near : l.number + length (lines_left l.lines) ≤ length l.bytes + 1;
       names : List (List ℕ);
-      are : flat_map names_in (texts l.allowed.items) ≡ flat_map names_in allowed ++ names;
+      are : AreAlike (flat_map names_in (texts l.kinds.items)) (flat_map names_in allowed ++ names);
       text : l.left.warned.text.items ++ flat_map (left_of_line l.manner.json allowed l.path l.bytes) (marked_from names l.number (lines_left l.lines))
           ≡ left_text l.manner.json allowed l.path l.bytes;
       found : l.left.warned.found.items ++ flat_map (left_warnings allowed l.bytes) (marked_from names l.number (lines_left l.lines)) ≡ warnings_left allowed l.bytes;

@@ -1,4 +1,4 @@
-use Rattle.std.proofs.Common.{◌≡◌, ◌∙◌, ◌-◌, ap, arith, sym}
+use Rattle.std.proofs.Common.{◌∙◌, ◌-◌, ap, arith, sym}
 use Rattle.hwdb_spec_commands.specs.Mends.{mended_in}
 use Rattle.hwdb_check.specs.Mending.{outcome}
 use Rattle.hwdb_check.proofs.MendLemmas.{by_step, no_step}
