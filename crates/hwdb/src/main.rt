@@ -5,7 +5,7 @@ mod allowed;
 mod bypass;
 mod colours;
 
-use allowed::status_of_kinds;
+use allowed::status_of_names;
 use bypass::status_of_bypass;
 use colours::coloured_kind;
 use hwdb_tool::{Coloured, FromRead, SystemStore, TextKind, ToWrite, program, write_text};
@@ -62,7 +62,7 @@ fn main(rt: HostRuntime) -> ExitCode {
             let Some(kind) = coloured_kind(&rt, &words, &mut err) else {
                 return ExitCode::from(1);
             };
-            if let Some(status) = status_of_kinds(&rt, &words, &mut err) {
+            if let Some(status) = status_of_names(&rt, &words, &mut err) {
                 return ExitCode::from(status);
             }
             if let Some(status) = status_of_bypass(&rt, &words, &mut err) {

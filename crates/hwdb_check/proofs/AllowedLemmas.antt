@@ -10,6 +10,7 @@ use Rattle.hwdb_spec_commands.specs.Warnings.{line_warnings, warnings}
 use Rattle.hwdb_spec_commands.specs.declared.WarningKind.{WarningKind}
 use Rattle.hwdb_spec_commands.specs.AllowedKinds.{Marked, allowed_text, ends_record, is_kind, left_of_line, left_text, left_warnings, marked, marked_from, names_in, names_to_end, told_unknown, unknown_left, unknown_names, warnings_left}
 use Rattle.hwdb_check.specs.Internal.{line_of}
+use Rattle.hwdb_spec_commands.specs.declared.formats.Format.{Format}
 
 -- ---- names
 
@@ -114,16 +115,16 @@ bare_file f g file h same =
 unknown_none : (text : List ℕ) → allowed_text text ≡ [] → unknown_names text ≡ []
 unknown_none text e = ap (λ (l : List (List ℕ)). filter (λ name. not (is_kind name)) l) (names_of_bare text e)
 
-module _ (json : Bool) (allowed : List (List ℕ)) (path file : List ℕ) where
+module _ (format : Format) (allowed : List (List ℕ)) (path file : List ℕ) where
   bare_line : (n : ℕ) (text : List ℕ) → allowed_text text ≡ []
-      → left_of_line json allowed path file (record { line = line_of n text; names = [] }) ≡ line_text json (flat_map names_in allowed) path file (line_of n text)
+      → left_of_line format allowed path file (record { line = line_of n text; names = [] }) ≡ line_text format (flat_map names_in allowed) path file (line_of n text)
   bare_line n text e =
-      ap (λ (l : List (List ℕ)). flat_map (told_unknown json path (line_of n text)) l ++ line_text json (flat_map names_in allowed ++ []) path file (line_of n text)) (unknown_none text e)
-      ∙ ap (λ (names : List (List ℕ)). line_text json names path file (line_of n text)) (append-nil (flat_map names_in allowed))
+      ap (λ (l : List (List ℕ)). flat_map (told_unknown format path (line_of n text)) l ++ line_text format (flat_map names_in allowed ++ []) path file (line_of n text)) (unknown_none text e)
+      ∙ ap (λ (names : List (List ℕ)). line_text format names path file (line_of n text)) (append-nil (flat_map names_in allowed))
 
-  pub bare_text : list_any (λ text. not (is_none (allowed_text text))) (pieces (is 10) file) ≡ false → (w : List ℕ) → w ≡ warnings_text json (flat_map names_in allowed) path file
-      → w ≡ left_text json allowed path file
-  bare_text h w e = e ∙ sym (bare_file (left_of_line json allowed path file) (line_text json (flat_map names_in allowed) path file) file h bare_line)
+  pub bare_text : list_any (λ text. not (is_none (allowed_text text))) (pieces (is 10) file) ≡ false → (w : List ℕ) → w ≡ warnings_text format (flat_map names_in allowed) path file
+      → w ≡ left_text format allowed path file
+  bare_text h w e = e ∙ sym (bare_file (left_of_line format allowed path file) (line_text format (flat_map names_in allowed) path file) file h bare_line)
 
   pub bare_found : list_any (λ text. not (is_none (allowed_text text))) (pieces (is 10) file) ≡ false → (w : List WarningKind) → w ≡ warnings (flat_map names_in allowed) file
       → w ≡ warnings_left allowed file

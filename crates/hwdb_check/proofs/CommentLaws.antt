@@ -92,11 +92,11 @@ left_told allowed file m =
     kept_left (names_at allowed m) (is_dropped m.line) _ _ (all_left (names_at allowed m) file m.line (clean_line m.line) (line_kinds file (clean_line m.line)))
 
 pub bare_told : BareAreTold
-bare_told json allowed path file h = sym (bare_text json allowed path file h _ refl)
+bare_told format allowed path file h = sym (bare_text format allowed path file h _ refl)
 
 pub faults_stay : FaultsStay
 faults_stay = record {
-  printed = λ json allowed path file. refl;
+  printed = λ format allowed path file. refl;
   counted = λ allowed file. refl;
 }
 

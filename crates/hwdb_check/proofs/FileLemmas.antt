@@ -7,29 +7,30 @@ use Rattle.hwdb_spec_commands.specs.AllowedKinds.{file_text}
 use Rattle.hwdb_spec_commands.specs.declared.Tally.{Tally}
 use Rattle.hwdb_check.specs.declared.files.TextFile.{TextFile}
 use Rattle.hwdb_check.specs.Checks.{source_of, files_text}
+use Rattle.hwdb_spec_commands.specs.declared.formats.Format.{Format}
 
 abbrev first_files : ℕ → List TextFile → List Source
 first_files i fs = map source_of (take i fs)
 
-module _ (json : Bool) (allowed : List (List ℕ)) where
+module _ (format : Format) (allowed : List (List ℕ)) where
   one_more_text : (fs : List TextFile) (i : ℕ) (d : TextFile) → i < length fs
-      → files_text json allowed (first_files (suc i) fs) ≡ files_text json allowed (first_files i fs) ++ file_text json allowed (get_or fs i d).path.now (get_or fs i d).bytes.now
+      → files_text format allowed (first_files (suc i) fs) ≡ files_text format allowed (first_files i fs) ++ file_text format allowed (get_or fs i d).path.now (get_or fs i d).bytes.now
   one_more_text [] i d h = absurd (omega arith)
-  one_more_text (x ∷ xs) zero d h = append-nil (file_text json allowed x.path.now x.bytes.now)
+  one_more_text (x ∷ xs) zero d h = append-nil (file_text format allowed x.path.now x.bytes.now)
   one_more_text (x ∷ xs) (suc i) d h =
-      ap (λ l. file_text json allowed x.path.now x.bytes.now ++ l) (one_more_text xs i d (omega arith))
-      ∙ sym (append_assoc (file_text json allowed x.path.now x.bytes.now) (files_text json allowed (first_files i xs)) (file_text json allowed (get_or xs i d).path.now (get_or xs i d).bytes.now))
+      ap (λ l. file_text format allowed x.path.now x.bytes.now ++ l) (one_more_text xs i d (omega arith))
+      ∙ sym (append_assoc (file_text format allowed x.path.now x.bytes.now) (files_text format allowed (first_files i xs)) (file_text format allowed (get_or xs i d).path.now (get_or xs i d).bytes.now))
 
   -- the reports of one file more
   pub reports_step : (fs : List TextFile) (i : ℕ) (d : TextFile) (path found read before after : List ℕ) → i < length fs
-      → path ≡ (get_or fs i d).path.now → found ≡ file_text json allowed path (get_or fs i d).bytes.now → read ≡ found → after ≡ before ++ read
-      → before ≡ files_text json allowed (map source_of (take i fs)) → after ≡ files_text json allowed (map source_of (take (i + 1) fs))
+      → path ≡ (get_or fs i d).path.now → found ≡ file_text format allowed path (get_or fs i d).bytes.now → read ≡ found → after ≡ before ++ read
+      → before ≡ files_text format allowed (map source_of (take i fs)) → after ≡ files_text format allowed (map source_of (take (i + 1) fs))
   reports_step fs i d path found read before after h named is same grown so_far =
       grown
-      ∙ ap (λ l. before ++ l) (same ∙ is ∙ ap (λ p. file_text json allowed p (get_or fs i d).bytes.now) named)
-      ∙ ap (λ l. l ++ file_text json allowed (get_or fs i d).path.now (get_or fs i d).bytes.now) so_far
+      ∙ ap (λ l. before ++ l) (same ∙ is ∙ ap (λ p. file_text format allowed p (get_or fs i d).bytes.now) named)
+      ∙ ap (λ l. l ++ file_text format allowed (get_or fs i d).path.now (get_or fs i d).bytes.now) so_far
       ∙ sym (one_more_text fs i d h)
-      ∙ ap (λ n. files_text json allowed (map source_of (take n fs))) (let e : suc i ≡ i + 1 = omega arith in e)
+      ∙ ap (λ n. files_text format allowed (map source_of (take n fs))) (let e : suc i ≡ i + 1 = omega arith in e)
 
 module _ (allowed : List (List ℕ)) where
   one_more_tally : (t : Tally) (fs : List TextFile) (i : ℕ) (d : TextFile) → i < length fs

@@ -12,6 +12,7 @@ use Rattle.hwdb_check.specs.Internal.{line_of}
 use Rattle.hwdb_check.specs.Lemmas.Pieces.{line_at, no_line_at}
 use Rattle.hwdb_check.specs.Plain.{AreQuiet, IsQuiet, IsTame}
 use Rattle.hwdb_check.proofs.PlainLemmas.{no_warnings, uncut_blank, uncut_without}
+use Rattle.hwdb_spec_commands.specs.declared.formats.Format.{Format}
 
 -- ---- parts of a text
 
@@ -133,13 +134,13 @@ none_warned file allowed n (p ∷ ps) h q =
     ap (λ ks. ks ++ flat_map (line_warnings allowed file) (numbered (n + 1) ps)) (no_warnings file (line_of n p) q.0 (tame_uncut p h.0) allowed)
     ∙ none_warned file allowed (n + 1) ps h.1 q.1
 
-none_told : (json : Bool) (path file : List ℕ) (allowed : List (List ℕ)) (n : ℕ) (ps : List (List ℕ)) → AreTame 10 ps → AreQuiet file (numbered n ps)
-    → flat_map (line_text json allowed path file) (numbered n ps) ≡ []
+none_told : (format : Format) (path file : List ℕ) (allowed : List (List ℕ)) (n : ℕ) (ps : List (List ℕ)) → AreTame 10 ps → AreQuiet file (numbered n ps)
+    → flat_map (line_text format allowed path file) (numbered n ps) ≡ []
 unfolding numbered
-none_told json path file allowed n [] h q = refl
-none_told json path file allowed n (p ∷ ps) h q =
-    ap (λ ks. flat_map (told_warning json path (line_of n p)) ks ++ flat_map (line_text json allowed path file) (numbered (n + 1) ps)) (no_warnings file (line_of n p) q.0 (tame_uncut p h.0) allowed)
-    ∙ none_told json path file allowed (n + 1) ps h.1 q.1
+none_told format path file allowed n [] h q = refl
+none_told format path file allowed n (p ∷ ps) h q =
+    ap (λ ks. flat_map (told_warning format path (line_of n p)) ks ++ flat_map (line_text format allowed path file) (numbered (n + 1) ps)) (no_warnings file (line_of n p) q.0 (tame_uncut p h.0) allowed)
+    ∙ none_told format path file allowed (n + 1) ps h.1 q.1
 
 -- a line of which the first bytes are tame, and that has no more
 pub line_tame : (t : List ℕ) (quiet : ℕ) → length t ≤ quiet → IsTame 10 (take quiet t) → begins_with 35 t ≡ false → is_cut (line_of 0 t) (clean_line (line_of 0 t)) ≡ false
@@ -211,11 +212,11 @@ quiet_on file n at end rest h r e q = subst (λ (ps : List (List ℕ)). AreQuiet
 rest_tame : (file : List ℕ) (at quiet : ℕ) → length (drop at file) ≤ quiet → IsTame 10 (take quiet (drop at file)) → AreTame 10 (pieces (is 10) (drop at file))
 rest_tame file at quiet h e = tame_lines 10 (drop at file) (subst (IsTame 10) (take_all quiet (drop at file) h) e)
 
-pub told_tame : (json : Bool) (allowed : List (List ℕ)) (path file rest so_far whole : List ℕ) (n at quiet : ℕ) → rest ≡ drop at file → length rest ≤ quiet → IsTame 10 (take quiet (drop at file))
-    → AreQuiet file (numbered n (pieces (is 10) (drop at file))) → so_far ++ flat_map (line_text json allowed path file) (numbered n (pieces (is 10) (drop at file))) ≡ whole → so_far ≡ whole
-told_tame json allowed path file rest so_far whole n at quiet r h e q told =
-    told_rest (line_text json allowed path file) file so_far whole n at
-    (none_told json path file allowed n (pieces (is 10) (drop at file)) (rest_tame file at quiet (omega (arith, h, ap length r)) e) q) told
+pub told_tame : (format : Format) (allowed : List (List ℕ)) (path file rest so_far whole : List ℕ) (n at quiet : ℕ) → rest ≡ drop at file → length rest ≤ quiet → IsTame 10 (take quiet (drop at file))
+    → AreQuiet file (numbered n (pieces (is 10) (drop at file))) → so_far ++ flat_map (line_text format allowed path file) (numbered n (pieces (is 10) (drop at file))) ≡ whole → so_far ≡ whole
+told_tame format allowed path file rest so_far whole n at quiet r h e q told =
+    told_rest (line_text format allowed path file) file so_far whole n at
+    (none_told format path file allowed n (pieces (is 10) (drop at file)) (rest_tame file at quiet (omega (arith, h, ap length r)) e) q) told
 
 pub found_tame : (allowed : List (List ℕ)) (file rest : List ℕ) (so_far whole : List WarningKind) (n at quiet : ℕ) → rest ≡ drop at file → length rest ≤ quiet → IsTame 10 (take quiet (drop at file))
     → AreQuiet file (numbered n (pieces (is 10) (drop at file))) → so_far ++ flat_map (line_warnings allowed file) (numbered n (pieces (is 10) (drop at file))) ≡ whole → so_far ≡ whole

@@ -8,6 +8,7 @@ use Rattle.hwdb_spec_commands.specs.Checks.{tally_of}
 use Rattle.hwdb_spec_commands.specs.Findings.{faults_text, warnings_text}
 use Rattle.hwdb_spec_commands.specs.Kinds.{is_told}
 use Rattle.hwdb_spec_commands.specs.Warnings.{line_warnings, warnings}
+use Rattle.hwdb_spec_commands.specs.declared.formats.Format.{Format}
 
 -- each line of a file is there once, in order
 abbrev pub LinesAreMarked : Type 0
@@ -32,12 +33,12 @@ LeftAreTold =
 -- Of a file without such a comment the warnings are told as they are.
 abbrev pub BareAreTold : Type 0
 BareAreTold =
-    (json : Bool) (allowed : List (List ℕ)) (path file : List ℕ) → list_any (λ text. not (is_none (allowed_text text))) (pieces (is 10) file) ≡ false
-    → left_text json allowed path file ≡ warnings_text json (flat_map names_in allowed) path file
+    (format : Format) (allowed : List (List ℕ)) (path file : List ℕ) → list_any (λ text. not (is_none (allowed_text text))) (pieces (is 10) file) ≡ false
+    → left_text format allowed path file ≡ warnings_text format (flat_map names_in allowed) path file
 
 -- No word and no comment lets a fault pass: faults are printed and counted, whatever is allowed.
 pub record FaultsStay : Type 0 where
-  pub printed : (json : Bool) (allowed : List (List ℕ)) (path file : List ℕ) → file_text json allowed path file ≡ faults_text json path file ++ left_text json allowed path file
+  pub printed : (format : Format) (allowed : List (List ℕ)) (path file : List ℕ) → file_text format allowed path file ≡ faults_text format path file ++ left_text format allowed path file
   pub counted : (allowed : List (List ℕ)) (file : List ℕ) → (tally_of allowed file).faults ≡ length (faults file)
 
 -- the names at each line of a file

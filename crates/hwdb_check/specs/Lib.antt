@@ -3,7 +3,7 @@ pub mod Internal
 pub mod Laws
 pub mod Mending
 pub mod Plain
-pub mod Annotations
+pub mod Found
 pub mod Comments
 pub mod Leaving
 pub mod Lemmas

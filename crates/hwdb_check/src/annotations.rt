@@ -1,22 +1,24 @@
 //! Findings as GitHub shows them beside their lines: its workflow commands.
-ghost use Rattle.std.specs.Prelude.{◌≡◌, ◌++◌, flat_map, OnOk};
+ghost use Rattle.std.specs.Prelude.{◌≡◌, ◌++◌, codes, flat_map, OnOk};
 ghost use Rattle.std.specs.Fmt.{decimal};
-ghost use Rattle.hwdb_check.specs.Annotations;
+ghost use Rattle.hwdb_spec_commands.specs.Annotations;
 
-use itoa::Buffer;
+use crate::findings::push_count;
 use std::alloc::AllocError;
 
 /// A finding that is shown beside its line.
 #[derive(Clone, Copy)]
 pub struct Annotation<'a> {
-    /// Whether it is a fault.
-    pub fault: bool,
+    /// `error` or `warning`.
+    pub severity: &'static str,
     /// The path of its file.
     pub path: &'a [u8],
     /// The line, from 1.
     pub line: u64,
     /// The column in bytes, from 1.
     pub column: u64,
+    /// The name of its kind.
+    pub kind: &'static str,
     /// What is found.
     pub text: &'a [u8],
 }
@@ -73,33 +75,28 @@ fn push_property(text: &mut Vec<u8>, value: &[u8]) -> Result<(), AllocError>
     Ok(())
 }
 
-/// Its severity, as GitHub has it.
-fn severity_name(fault: bool) -> &'static str
-    ensures { result.now ≡ Annotations.severity_name fault }
+/// Adds its column and its kind, after its line.
+fn push_column(text: &mut Vec<u8>, found: &Annotation<'_>) -> Result<(), AllocError>
+    ensures { OnOk result (text.new.items ≡ text.old.items ++ (codes ",col="
+        ++ (decimal found.now.column ++ (codes ",title="
+        ++ flat_map Annotations.property_byte found.now.kind.now)))) }
 {
-    if fault { "error" } else { "warning" }
+    text.extend_from_slice(b",col=")?;
+    push_count(text, found.column)?;
+    text.extend_from_slice(b",title=")?;
+    push_property(text, found.kind.as_bytes())
 }
 
-/// Adds a number.
-fn push_number(text: &mut Vec<u8>, number: u64) -> Result<(), AllocError>
-    ensures { OnOk result (text.new.items ≡ text.old.items ++ decimal number) }
-{
-    let mut digits = Buffer::new();
-    text.extend_from_slice(digits.format(number).as_bytes())?;
-    Ok(())
-}
-
-/// Adds where it is, after its severity.
+/// Adds where it is, after its severity, and its kind.
 fn push_place(text: &mut Vec<u8>, found: &Annotation<'_>) -> Result<(), AllocError>
     ensures { OnOk result (text.new.items ≡ text.old.items ++ Annotations.place_part
-        found.now.path.now found.now.line found.now.column) }
+        found.now.path.now found.now.line found.now.column found.now.kind.now) }
 {
     text.extend_from_slice(b" file=")?;
     push_property(text, found.path)?;
     text.extend_from_slice(b",line=")?;
-    push_number(text, found.line)?;
-    text.extend_from_slice(b",col=")?;
-    push_number(text, found.column)
+    push_count(text, found.line)?;
+    push_column(text, found)
 }
 
 /// Adds what is found, after its place.
@@ -116,11 +113,11 @@ fn push_found(text: &mut Vec<u8>, found: &[u8]) -> Result<(), AllocError>
 /// Adds the line of a finding.
 pub fn push_annotation(text: &mut Vec<u8>, found: &Annotation<'_>) -> Result<(), AllocError>
     ensures { OnOk result (text.new.items ≡ text.old.items ++ Annotations.annotation
-        found.now.fault found.now.path.now found.now.line found.now.column
-        found.now.text.now) }
+        found.now.severity.now found.now.path.now found.now.line found.now.column
+        found.now.kind.now found.now.text.now) }
 {
     text.extend_from_slice(b"::")?;
-    text.extend_from_slice(severity_name(found.fault).as_bytes())?;
+    text.extend_from_slice(found.severity.as_bytes())?;
     push_place(text, found)?;
     push_found(text, found.text)
 }

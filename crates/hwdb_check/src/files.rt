@@ -1,20 +1,21 @@
 //! Text files that are checked, one after another.
-ghost use Rattle.std.specs.Prelude.{◌≡◌, ◌≤◌, ◌++◌, flat_map, map, string_bytes, IfOk, IfErr, OnOk};
+ghost use Rattle.std.specs.Prelude.{◌≡◌, ◌≤◌, ◌++◌, flat_map, map, string_bytes, IfOk, IfErr};
 ghost use Rattle.hwdb_spec.specs.Lines.{lines};
 ghost use Rattle.hwdb_spec_commands.specs.Reports.{text_of_line};
 ghost use Rattle.hwdb_spec_commands.specs.AllowedKinds.{file_text};
 ghost use Rattle.hwdb_spec_commands.specs.Findings.{told_fault};
-ghost use Rattle.hwdb_spec_commands.specs.Checks.{tally_of, empty_tally, tally_from, check_text, check_status, end_text};
+ghost use Rattle.hwdb_spec_commands.specs.Checks.{tally_of, empty_tally, tally_from, check_text, check_status, ended, tally_line};
 ghost use Rattle.hwdb_check.specs.Checks.{source_of, files_text};
 ghost use Rattle.hwdb_spec_commands.specs.CheckErrors.{IsFileRefusal, IsCheckRefusal};
 
 use crate::kinds::Telling;
 use crate::left::left_of;
 use crate::line_texts::{find_line, first_start};
+use crate::logs::log_of;
 use crate::reports::push_fault;
 use crate::tallies::{both, empty_tally, status_of, tally_line, together};
 use hwdb_spec::Fault;
-use hwdb_spec_commands::Tally;
+use hwdb_spec_commands::{Format, Tally};
 use hwdb_text::{ScanError, scan};
 use std::alloc::{AllocError, Global};
 
@@ -50,13 +51,13 @@ struct Findings {
 /// The only error is `AllocError`.
 pub fn reports_of(
     alloc: Global,
-    json: bool,
+    format: Format,
     path: &[u8],
     bytes: &[u8],
     faults: &[Fault],
 ) -> Result<Vec<u8>, AllocError>
     ensures { IfOk result (λ text. text.items
-        ≡ flat_map (λ f. told_fault json path.now (text_of_line (lines bytes.now) f.line) f)
+        ≡ flat_map (λ f. told_fault format path.now (text_of_line (lines bytes.now) f.line) f)
         faults.now) }
 {
     let mut text = Vec::new(alloc);
@@ -64,7 +65,7 @@ pub fn reports_of(
     for fault in faults {
         let (found, line) = find_line(bytes, start, fault.line);
         start = found;
-        push_fault(alloc, json, &mut text, path, line, *fault)?;
+        push_fault(alloc, format, &mut text, path, line, *fault)?;
     }
     Ok(text)
 }
@@ -77,7 +78,7 @@ fn look_over(
     bytes: &[u8],
 ) -> Result<Findings, ScanError>
     ensures reports { IfOk result (λ c. c.reports.items
-        ≡ file_text telling.now.json (map string_bytes telling.now.allowed.now)
+        ≡ file_text telling.now.format (map string_bytes telling.now.allowed.now)
         path.now bytes.now) }
     ensures found { IfOk result
         (λ c. c.tally ≡ tally_of (map string_bytes telling.now.allowed.now) bytes.now) }
@@ -85,7 +86,7 @@ fn look_over(
 {
     let scanned = scan(alloc, bytes)?;
     let left = left_of(alloc, telling, path, bytes, &scanned)?;
-    let mut reports = reports_of(alloc, telling.json, path, bytes, &scanned.faults)?;
+    let mut reports = reports_of(alloc, telling.format, path, bytes, &scanned.faults)?;
     reports.extend_from_slice(&left.warned.text)?;
     let tally = Tally {
         files: 1,
@@ -102,7 +103,7 @@ fn look_over_all(
     telling: &Telling<'_>,
     files: &[TextFile<'_>],
 ) -> Result<Findings, ScanError>
-    ensures reports { IfOk result (λ c. c.reports.items ≡ files_text telling.now.json
+    ensures reports { IfOk result (λ c. c.reports.items ≡ files_text telling.now.format
         (map string_bytes telling.now.allowed.now) (map source_of files.now)) }
     ensures found { IfOk result (λ c. c.tally
         ≡ tally_from (map string_bytes telling.now.allowed.now)
@@ -119,18 +120,33 @@ fn look_over_all(
     Ok(Findings { reports, tally })
 }
 
-/// Adds the last line, if there is one.
-fn push_end(alloc: Global, json: bool, text: &mut Vec<u8>, tally: Tally) -> Result<(), AllocError>
-    ensures { OnOk result (text.new.items ≡ text.old.items ++ end_text json tally) }
+/// Text, and a last line with how much was found.
+fn with_tally(alloc: Global, findings: Vec<u8>, tally: Tally) -> Result<Vec<u8>, AllocError>
+    ensures { IfOk result (λ text. text.items ≡ findings.items ++ tally_line tally) }
 {
-    if !json {
-        text.extend_from_slice(&tally_line(alloc, tally)?)?;
-    }
-    Ok(())
+    let mut text = findings;
+    text.extend_from_slice(&tally_line(alloc, tally)?)?;
+    Ok(text)
 }
 
-/// What is printed of the faults and warnings of each file, one file after another. It is reports, and a last line with how much
-/// was found in all, or a line of JSON for each. Warnings of kinds that are allowed don't count. The status is 1 if there is a
+/// What is printed in all.
+fn ended(
+    alloc: Global,
+    format: Format,
+    findings: Vec<u8>,
+    tally: Tally,
+) -> Result<Vec<u8>, AllocError>
+    ensures { IfOk result (λ text. text.items ≡ ended format tally findings.items) }
+{
+    match format {
+        Format::Text | Format::Github => with_tally(alloc, findings, tally),
+        Format::Json => Ok(findings),
+        Format::Sarif => log_of(alloc, &findings),
+    }
+}
+
+/// What is printed of the faults and warnings of each file, one file after another, in the format that is told. Reports end with a line
+/// of how much was found in all. Warnings of kinds that are allowed don't count. The status is 1 if there is a
 /// fault, or `strict` and a warning, else 0.
 ///
 /// It is an error if a file has more than 4,294,967,295 lines, or if an allocation fails.
@@ -142,7 +158,7 @@ pub fn check_files(
     files: &[TextFile<'_>],
     strict: bool,
 ) -> Result<Checked, ScanError>
-    ensures text { IfOk result (λ checked. checked.text.items ≡ check_text telling.now.json
+    ensures text { IfOk result (λ checked. checked.text.items ≡ check_text telling.now.format
         (map string_bytes telling.now.allowed.now) (map source_of files.now)) }
     ensures status { IfOk result (λ checked. checked.status ≡ check_status strict
         (tally_from (map string_bytes telling.now.allowed.now)
@@ -151,10 +167,8 @@ pub fn check_files(
     ensures errors { IfErr result (IsCheckRefusal (map source_of files.now)) }
 {
     let all = look_over_all(alloc, telling, files)?;
-    let mut text = all.reports;
-    push_end(alloc, telling.json, &mut text, all.tally)?;
     Ok(Checked {
-        text,
+        text: ended(alloc, telling.format, all.reports, all.tally)?,
         status: status_of(strict, all.tally),
     })
 }

@@ -8,13 +8,13 @@ ghost use Rattle.hwdb_check.specs.Internal.{texts};
 
 use crate::allowed::is_in;
 use hwdb_spec::{FaultKind, Judgement};
-use hwdb_spec_commands::{Misuse, WarningKind};
+use hwdb_spec_commands::{Format, Misuse, WarningKind};
 
 /// How findings are told.
 #[derive(Clone, Copy)]
 pub struct Telling<'a> {
-    /// Whether as lines of JSON.
-    pub json: bool,
+    /// In which format.
+    pub format: Format,
     /// The names of the kinds of warnings that aren't told.
     pub allowed: &'a [String],
 }
@@ -22,8 +22,8 @@ pub struct Telling<'a> {
 /// How the findings of a line are told.
 #[derive(Clone, Copy)]
 pub struct Manner<'a> {
-    /// Whether as lines of JSON.
-    pub json: bool,
+    /// In which format.
+    pub format: Format,
     /// The names of the kinds of warnings that aren't told there, with commas between those of a text.
     pub allowed: &'a [&'a [u8]],
 }

@@ -1,5 +1,4 @@
 //! Laws over the definitions alone. Each function does nothing: its contract is the law.
-ghost use Rattle.hwdb_check.specs.Annotations.{AnnotationRows};
 ghost use Rattle.hwdb_check.specs.Comments.{BareAreTold, CommentRows, FaultsStay, LeftAreTold, LinesAreMarked, RecordsAreApart};
 ghost use Rattle.hwdb_check.specs.Laws.{KindsAreNamed, LikelihoodIsJudged, MendRows, MendsAreLikely, PatternsAreJudged, RunsAreAll, TooDeepRows, TooLongRows, UnmatchedRows};
 
@@ -58,10 +57,4 @@ pub fn comments_are_told()
     ensures bare { BareAreTold }
     ensures faults { FaultsStay }
     ensures rows { CommentRows }
-{}
-
-/// How a finding is shown beside its line by GitHub.
-#[tactic(auto, using(crate::proofs::CommentLaws::annotation_rows))]
-pub fn annotations_are_told()
-    ensures { AnnotationRows }
 {}

@@ -2,27 +2,24 @@
 ghost use Rattle.std.specs.Prelude.{◌≡◌, ◌++◌, ◌∷◌, [], List, ℕ, codes, false, true, filter, flat_map, map, not, string_bytes, IfOk, OnOk};
 ghost use Rattle.hwdb_spec.specs.Lines.{Line};
 ghost use Rattle.hwdb_spec.specs.Records;
-ghost use Rattle.hwdb_spec_commands.specs.Findings.{column, finding_json, line_text};
-ghost use Rattle.hwdb_spec_commands.specs.Json.{json_line};
+ghost use Rattle.hwdb_spec_commands.specs.Findings.{line_text};
 ghost use Rattle.hwdb_spec_commands.specs.Properties;
-ghost use Rattle.hwdb_spec_commands.specs.Reports.{hint_line};
 ghost use Rattle.hwdb_spec_commands.specs.Warnings.{line_warnings};
 ghost use Rattle.hwdb_text.specs.Views.{given_in};
 ghost use Rattle.hwdb_spec_commands.specs.AllowedKinds;
-ghost use Rattle.hwdb_spec_commands.specs.AllowedKinds.{comment_place, is_kind, left_text, told_unknown, unknown_hint, unknown_left, unknown_line, unknown_names, unknown_text, warnings_left};
+ghost use Rattle.hwdb_spec_commands.specs.AllowedKinds.{comment_place, is_kind, left_text, told_unknown, unknown_hint, unknown_left, unknown_names, unknown_text, warnings_left};
 ghost use Rattle.hwdb_check.specs.Internal.{IsKnown, line_of, own, texts};
 ghost use Rattle.hwdb_check.specs.Leaving.{file_line, names_of};
 
 use crate::allowed::{after_line, allowed_text, any_allowed, is_kind, record_kinds, stripped};
-use crate::json_lines::{Finding, finding_line};
+use crate::findings::{Finding, push_finding};
 use crate::kinds::{Manner, Telling};
 use crate::known::{Known, known_of};
 use crate::warnings::{Warned, warnings_of};
 use hwdb_properties::{Likeness, first_row};
-use hwdb_show::{push_mark_line, push_name, push_shown, push_shown_line};
-use hwdb_spec_commands::KINDS;
+use hwdb_show::push_shown;
+use hwdb_spec_commands::{Format, KINDS};
 use hwdb_text::{Given, Lines, Pieces, Scanned, end_of};
-use itoa::Buffer;
 use std::alloc::{AllocError, Global};
 
 /// A line of a file.
@@ -71,53 +68,11 @@ fn push_unknown_hint(text: &mut Vec<u8>, name: &[u8]) -> Result<(), AllocError>
     push_kind_hint(text, first_row(KINDS.as_bytes(), name, Likeness::Near))
 }
 
-/// Adds the line of a name.
-fn push_unknown_line(text: &mut Vec<u8>, line: &FileLine<'_>, name: &[u8]) -> Result<(), AllocError>
-    ensures { OnOk result (text.new.items
-        ≡ text.old.items ++ unknown_line line.now.path.now line.now.number name.now) }
-{
-    let mut digits = Buffer::new();
-    push_name(text, line.path)?;
-    text.push(b':')?;
-    text.extend_from_slice(digits.format(line.number).as_bytes())?;
-    text.extend_from_slice(b": warning: ")?;
-    push_unknown_text(text, name)?;
-    text.push(b'\n')?;
-    Ok(())
-}
-
-/// Adds the line of what to do about a name.
-fn push_hint_line(text: &mut Vec<u8>, name: &[u8]) -> Result<(), AllocError>
-    ensures { OnOk result (text.new.items ≡ text.old.items ++ hint_line (unknown_hint name.now)) }
-{
-    text.extend_from_slice(b"    hint: ")?;
-    push_unknown_hint(text, name)?;
-    text.push(b'\n')?;
-    Ok(())
-}
-
 /// The place of a line's comment, in bytes from 0.
 fn place_of(line: &FileLine<'_>) -> usize
     ensures { result ≡ comment_place line.now.text.now }
 {
     end_of(b'#', line.text)
-}
-
-/// Adds the report of a name in a line's comment.
-fn push_unknown_report(
-    alloc: Global,
-    text: &mut Vec<u8>,
-    line: &FileLine<'_>,
-    name: &[u8],
-) -> Result<(), AllocError>
-    ensures { OnOk result (text.new.items ≡ text.old.items
-        ++ told_unknown false line.now.path.now (file_line line.now) name.now) }
-{
-    push_unknown_line(text, line, name)?;
-    let place = place_of(line);
-    push_shown_line(text, line.text, place)?;
-    push_mark_line(alloc, text, line.text, place)?;
-    push_hint_line(text, name)
 }
 
 /// What is told of a name.
@@ -138,70 +93,30 @@ fn hint_of(alloc: Global, name: &[u8]) -> Result<Vec<u8>, AllocError>
     Ok(hint)
 }
 
-/// The line of JSON of a name, with what is told of it and what to do.
-fn json_of(
+/// Adds what is printed of a name in a line's comment.
+fn push_unknown(
     alloc: Global,
+    format: Format,
+    text: &mut Vec<u8>,
     line: &FileLine<'_>,
-    text: &[u8],
-    hint: &[u8],
-) -> Result<Vec<u8>, AllocError>
-    ensures { IfOk result (λ json. json.items ≡ json_line
-        (finding_json line.now.path.now line.now.number
-        (column (comment_place line.now.text.now))
-        (codes "unknown-kind") text.now hint.now
-        (codes "warning") line.now.text.now)) }
+    name: &[u8],
+) -> Result<(), AllocError>
+    ensures { OnOk result (text.new.items ≡ text.old.items
+        ++ told_unknown format line.now.path.now (file_line line.now) name.now) }
 {
+    let told = text_of(alloc, name)?;
+    let hint = hint_of(alloc, name)?;
     let found = Finding {
         path: line.path,
         line: line.number,
         place: place_of(line),
+        fault: false,
         kind: "unknown-kind",
-        text,
-        hint,
-        severity: "warning",
+        text: &told,
+        hint: &hint,
         source: line.text,
     };
-    finding_line(alloc, &found)
-}
-
-/// Adds a line.
-fn push_line(text: &mut Vec<u8>, line: &[u8]) -> Result<(), AllocError>
-    ensures { OnOk result (text.new.items ≡ text.old.items ++ line.now) }
-{
-    text.extend_from_slice(line)
-}
-
-/// Adds the line of JSON of a name in a line's comment.
-fn push_unknown_json(
-    alloc: Global,
-    text: &mut Vec<u8>,
-    line: &FileLine<'_>,
-    name: &[u8],
-) -> Result<(), AllocError>
-    ensures { OnOk result (text.new.items ≡ text.old.items
-        ++ told_unknown true line.now.path.now (file_line line.now) name.now) }
-{
-    let told = text_of(alloc, name)?;
-    let hint = hint_of(alloc, name)?;
-    push_line(text, &json_of(alloc, line, &told, &hint)?)
-}
-
-/// Adds what is printed of a name in a line's comment.
-fn push_unknown(
-    alloc: Global,
-    json: bool,
-    text: &mut Vec<u8>,
-    line: &FileLine<'_>,
-    name: &[u8],
-) -> Result<(), AllocError>
-    ensures { OnOk result (text.new.items ≡ text.old.items
-        ++ told_unknown json line.now.path.now (file_line line.now) name.now) }
-{
-    if json {
-        push_unknown_json(alloc, text, line, name)
-    } else {
-        push_unknown_report(alloc, text, line, name)
-    }
+    push_finding(alloc, format, text, &found)
 }
 
 /// What is left of the lines of a file so far.
@@ -218,12 +133,12 @@ impl<'b> Left<'b> {
     fn put_name(
         &mut self,
         alloc: Global,
-        json: bool,
+        format: Format,
         line: &FileLine<'b>,
         name: &'b [u8],
     ) -> Result<(), AllocError>
         ensures text { OnOk result (self.new.warned.text.items ≡ self.old.warned.text.items
-            ++ flat_map (told_unknown json line.now.path.now (file_line line.now))
+            ++ flat_map (told_unknown format line.now.path.now (file_line line.now))
             (filter (λ n. not (is_kind n)) (name.now ∷ []))) }
         ensures unknown { OnOk result (texts self.new.unknown.items
             ≡ texts self.old.unknown.items ++ filter (λ n. not (is_kind n)) (name.now ∷ [])) }
@@ -231,7 +146,7 @@ impl<'b> Left<'b> {
             ≡ self.old.warned.found.items) }
     {
         if !is_kind(name) {
-            push_unknown(alloc, json, &mut self.warned.text, line, name)?;
+            push_unknown(alloc, format, &mut self.warned.text, line, name)?;
             self.unknown.push(name)?;
         }
         Ok(())
@@ -241,11 +156,11 @@ impl<'b> Left<'b> {
     fn put_names(
         &mut self,
         alloc: Global,
-        json: bool,
+        format: Format,
         line: &FileLine<'b>,
     ) -> Result<(), AllocError>
         ensures text { OnOk result (self.new.warned.text.items ≡ self.old.warned.text.items
-            ++ flat_map (told_unknown json line.now.path.now (file_line line.now))
+            ++ flat_map (told_unknown format line.now.path.now (file_line line.now))
             (unknown_names line.now.text.now)) }
         ensures unknown { OnOk result (texts self.new.unknown.items
             ≡ texts self.old.unknown.items ++ unknown_names line.now.text.now) }
@@ -253,7 +168,7 @@ impl<'b> Left<'b> {
             ≡ self.old.warned.found.items) }
     {
         for piece in Pieces::new(b',', allowed_text(line.text)) {
-            self.put_name(alloc, json, line, stripped(piece))?;
+            self.put_name(alloc, format, line, stripped(piece))?;
         }
         Ok(())
     }
@@ -268,16 +183,16 @@ impl<'b> Left<'b> {
     ) -> Result<(), AllocError>
         requires { IsKnown known.now }
         ensures text { OnOk result (self.new.warned.text.items ≡ self.old.warned.text.items
-            ++ (flat_map (told_unknown manner.now.json line.now.path.now (file_line line.now))
+            ++ (flat_map (told_unknown manner.now.format line.now.path.now (file_line line.now))
             (unknown_names line.now.text.now)
-            ++ line_text manner.now.json (names_of manner.now) line.now.path.now
+            ++ line_text manner.now.format (names_of manner.now) line.now.path.now
             known.now.bytes.now (file_line line.now))) }
         ensures unknown { OnOk result (texts self.new.unknown.items
             ≡ texts self.old.unknown.items ++ unknown_names line.now.text.now) }
         ensures found { OnOk result (self.new.warned.found.items ≡ self.old.warned.found.items
             ++ line_warnings (names_of manner.now) known.now.bytes.now (file_line line.now)) }
     {
-        self.put_names(alloc, manner.json, line)?;
+        self.put_names(alloc, manner.format, line)?;
         self.warned
             .put_line(alloc, manner, line.path, known, line.number, line.text)
     }
@@ -293,7 +208,7 @@ fn left_by_line<'b>(
 ) -> Result<Left<'b>, AllocError>
     requires { map (given_in own) assignments.now ≡ Records.assignments own bytes.now }
     ensures text { IfOk result (λ l. l.warned.text.items
-        ≡ left_text manner.now.json (texts manner.now.allowed.now) path.now bytes.now) }
+        ≡ left_text manner.now.format (texts manner.now.allowed.now) path.now bytes.now) }
     ensures found { IfOk result (λ l. l.warned.found.items
         ≡ warnings_left (texts manner.now.allowed.now) bytes.now) }
     ensures unknown { IfOk result (λ l. texts l.unknown.items ≡ unknown_left bytes.now) }
@@ -312,7 +227,7 @@ fn left_by_line<'b>(
     'lines: while let Some(text) = lines.next() {
         let line = FileLine { path, number, text };
         let here = Manner {
-            json: manner.json,
+            format: manner.format,
             allowed: &kinds,
         };
         left.put_line(alloc, &here, &known, &line)?;
@@ -345,7 +260,7 @@ fn left_if<'b>(
         ≡ Records.assignments own bytes.now }
     requires faults { scanned.now.faults.items ≡ Records.faults bytes.now }
     ensures text { IfOk result (λ l. l.warned.text.items
-        ≡ left_text manner.now.json (texts manner.now.allowed.now) path.now bytes.now) }
+        ≡ left_text manner.now.format (texts manner.now.allowed.now) path.now bytes.now) }
     ensures found { IfOk result (λ l. l.warned.found.items
         ≡ warnings_left (texts manner.now.allowed.now) bytes.now) }
     ensures unknown { IfOk result (λ l. texts l.unknown.items ≡ unknown_left bytes.now) }
@@ -378,7 +293,7 @@ pub fn left_of<'b>(
     requires assignments { map (given_in own) scanned.now.assignments.items
         ≡ Records.assignments own bytes.now }
     requires faults { scanned.now.faults.items ≡ Records.faults bytes.now }
-    ensures text { IfOk result (λ l. l.warned.text.items ≡ left_text telling.now.json
+    ensures text { IfOk result (λ l. l.warned.text.items ≡ left_text telling.now.format
         (map string_bytes telling.now.allowed.now) path.now bytes.now) }
     ensures found { IfOk result (λ l. l.warned.found.items
         ≡ warnings_left (map string_bytes telling.now.allowed.now) bytes.now) }
@@ -386,7 +301,7 @@ pub fn left_of<'b>(
 {
     let words = words_of(alloc, telling.allowed)?;
     let manner = Manner {
-        json: telling.json,
+        format: telling.format,
         allowed: &words,
     };
     left_if(alloc, &manner, path, bytes, scanned)

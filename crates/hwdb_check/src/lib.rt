@@ -9,7 +9,7 @@
 //! |---|---|
 //! | `runs` | bytes as runs, as they are shown |
 //! | `places` | the place of a fault in its line |
-//! | `reports` | the report of a fault |
+//! | `reports` | what is printed of a fault |
 //! | `line_texts` | the text of a line, by its number |
 //! | `line_warnings` | which warnings a line gets, by its clean text |
 //! | `mends` | what a pattern was likely meant to be that goes wrong |
@@ -21,7 +21,8 @@
 //! | `allowed` | comments that let kinds of warnings pass in their record |
 //! | `left` | the warnings that comments leave, and names in comments that are no kinds |
 //! | `annotations` | a finding as GitHub shows it beside its line |
-//! | `json_lines` | a fault or a warning as a line of JSON |
+//! | `findings` | what is found in a line, in each format |
+//! | `logs` | findings as a log in SARIF |
 //! | `repeats` | match lines that their record has already |
 //! | `replacements` | assignments that a later line of the same file replaces |
 //! | `known` | what is known of a file before its lines are read one by one |
@@ -37,7 +38,7 @@ mod allowed;
 mod annotations;
 mod companions;
 mod files;
-mod json_lines;
+mod findings;
 mod judgements;
 mod kinds;
 mod known;
@@ -45,6 +46,7 @@ mod laws;
 mod left;
 mod line_texts;
 mod line_warnings;
+mod logs;
 mod mends;
 mod misuses;
 mod places;
@@ -58,14 +60,14 @@ mod too_long;
 mod unread;
 mod warnings;
 
-pub use annotations::{Annotation, push_annotation};
 pub use files::{Checked, TextFile, check_files, reports_of};
+pub use findings::{format_if, format_of};
 pub use hwdb_show::push_shown;
 pub use hwdb_spec_commands::KINDS;
 pub use kinds::Telling;
 pub use laws::{
-    annotations_are_told, comments_are_told, deep_lines_are_told, kinds_are_named,
-    likelihood_is_judged, mends_are_likely, patterns_are_judged,
+    comments_are_told, deep_lines_are_told, kinds_are_named, likelihood_is_judged,
+    mends_are_likely, patterns_are_judged,
 };
 pub use line_texts::{LineStart, find_line, first_start};
 pub use tallies::push_count;

@@ -1,18 +1,17 @@
-//! The report of a fault.
+//! What is printed of a fault.
 ghost use Rattle.std.specs.Prelude.{◌≡◌, ◌++◌, OnOk};
-ghost use Rattle.hwdb_spec.specs.Texts.{fault_line};
 ghost use Rattle.hwdb_spec_commands.specs.Findings.{told_fault};
-ghost use Rattle.hwdb_spec_commands.specs.Reports.{fault_hint, hint_line, report};
+ghost use Rattle.hwdb_spec_commands.specs.Reports.{fault_hint};
 
-use crate::json_lines::push_fault_json;
+use crate::findings::{Finding, push_finding};
+use crate::kinds::fault_name;
 use crate::places::fault_place;
-use hwdb_show::{push_mark_line, push_name, push_shown_line};
 use hwdb_spec::{Fault, FaultKind};
-use itoa::Buffer;
+use hwdb_spec_commands::Format;
 use std::alloc::{AllocError, Global};
 
 /// What to do about a fault.
-pub fn hint_of(kind: FaultKind) -> &'static str
+fn hint_of(kind: FaultKind) -> &'static str
     ensures { result.now ≡ fault_hint kind }
 {
     match kind {
@@ -30,64 +29,27 @@ pub fn hint_of(kind: FaultKind) -> &'static str
     }
 }
 
-/// Adds the line of a fault, as `update` prints it: its path and line, `: `, what is wrong. The only error, here and
-/// below, is `AllocError`.
-fn push_fault_line(text: &mut Vec<u8>, path: &[u8], fault: Fault) -> Result<(), AllocError>
-    ensures { OnOk result (text.new.items ≡ text.old.items ++ fault_line path.now fault) }
-{
-    let mut number = Buffer::new();
-    push_name(text, path)?;
-    text.push(b':')?;
-    text.extend_from_slice(number.format(fault.line).as_bytes())?;
-    text.push(b':')?;
-    text.push(b' ')?;
-    text.extend_from_slice(fault.kind.text().as_bytes())?;
-    text.push(b'\n')?;
-    Ok(())
-}
-
-/// Adds the line of what to do.
-fn push_hint_line(text: &mut Vec<u8>, hint: &str) -> Result<(), AllocError>
-    ensures { OnOk result (text.new.items ≡ text.old.items ++ hint_line hint.now) }
-{
-    text.extend_from_slice(b"    hint: ")?;
-    text.extend_from_slice(hint.as_bytes())?;
-    text.push(b'\n')?;
-    Ok(())
-}
-
-/// Adds the report of a fault: its line, the text of its line, the mark, and what to do.
-fn push_report(
-    alloc: Global,
-    text: &mut Vec<u8>,
-    path: &[u8],
-    line: &[u8],
-    fault: Fault,
-) -> Result<(), AllocError>
-    ensures { OnOk result (text.new.items ≡ text.old.items ++ report path.now line.now fault) }
-{
-    push_fault_line(text, path, fault)?;
-    let place = fault_place(fault.kind, line);
-    push_shown_line(text, line, place)?;
-    push_mark_line(alloc, text, line, place)?;
-    push_hint_line(text, hint_of(fault.kind))
-}
-
-/// Adds what is printed of a fault: a line of JSON, or its report.
+/// Adds what is printed of a fault of a line with this text. The only error is `AllocError`.
 pub fn push_fault(
     alloc: Global,
-    json: bool,
+    format: Format,
     text: &mut Vec<u8>,
     path: &[u8],
     line: &[u8],
     fault: Fault,
 ) -> Result<(), AllocError>
     ensures { OnOk result
-        (text.new.items ≡ text.old.items ++ told_fault json path.now line.now fault) }
+        (text.new.items ≡ text.old.items ++ told_fault format path.now line.now fault) }
 {
-    if json {
-        push_fault_json(alloc, text, path, line, fault)
-    } else {
-        push_report(alloc, text, path, line, fault)
-    }
+    let found = Finding {
+        path,
+        line: fault.line as u64,
+        place: fault_place(fault.kind, line),
+        fault: true,
+        kind: fault_name(fault.kind),
+        text: fault.kind.text().as_bytes(),
+        hint: hint_of(fault.kind).as_bytes(),
+        source: line,
+    };
+    push_finding(alloc, format, text, &found)
 }

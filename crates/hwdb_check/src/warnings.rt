@@ -2,18 +2,18 @@
 ghost use Rattle.std.specs.Prelude.{◌≡◌, ◌++◌, ◌∷◌, [], codes, filter, flat_map, map, take, IfOk, OnOk};
 ghost use Rattle.hwdb_spec.specs.Lines.{Line, clean_line};
 ghost use Rattle.hwdb_spec.specs.Records;
-ghost use Rattle.hwdb_spec_commands.specs.Findings.{column, finding_json, line_text, told_warning, warning_json_line, warnings_text};
-ghost use Rattle.hwdb_spec_commands.specs.Json.{json_line};
+ghost use Rattle.hwdb_spec_commands.specs.Findings;
+ghost use Rattle.hwdb_spec_commands.specs.Findings.{line_text, told_warning, warnings_text};
 ghost use Rattle.hwdb_spec_commands.specs.Kinds.{warning_name};
-ghost use Rattle.hwdb_spec_commands.specs.Reports.{hint_line};
-ghost use Rattle.hwdb_spec_commands.specs.Warnings.{all_warnings, gets, line_kinds, line_warnings, warnings, warning_text, warning_place, warning_hint, warning_line, warning_report};
+ghost use Rattle.hwdb_spec_commands.specs.Warnings.{all_warnings, gets, line_kinds, line_warnings, warnings, warning_text, warning_place, warning_hint, warning_line};
 ghost use Rattle.hwdb_text.specs.Views.{given_in};
+ghost use Rattle.hwdb_check.specs.Found.{finding_of};
 ghost use Rattle.hwdb_check.specs.Internal.{IsKnown, IsPlain, IsRead, clean_of, line_of, number_text, own, read_line, texts};
 ghost use Rattle.hwdb_check.specs.Leaving.{names_of};
 ghost use Rattle.hwdb_spec_commands.specs.AllowedKinds.{names_in};
 ghost use Rattle.hwdb_check.specs.Plain.{IsPlainFile, IsQuiet, IsTame};
 
-use crate::json_lines::{Finding, finding_line};
+use crate::findings::{Finding, push_finding};
 use crate::judgements::{
     judgement_place, judgement_text, push_judgement_hint, push_likelihood_hint, said_of,
 };
@@ -28,9 +28,9 @@ use crate::misuses::{
 use crate::plain_files::{is_plain, tame_after, tame_size};
 use hwdb_pattern::{open_place, range_place};
 use hwdb_properties::misuse_text;
-use hwdb_show::{push_mark_line, push_name, push_shown_line};
+use hwdb_show::push_name;
 use hwdb_spec::Fault;
-use hwdb_spec_commands::{Misuse, WarningKind};
+use hwdb_spec_commands::{Format, Misuse, WarningKind};
 use hwdb_text::{Content, Given, Lines, content_of, end_of, indent_of};
 use itoa::Buffer;
 use std::alloc::{AllocError, Global};
@@ -133,22 +133,6 @@ fn push_hint(
     }
 }
 
-/// Adds the line of what to do about a warning of a line with this clean text.
-fn push_hint_line(
-    alloc: Global,
-    text: &mut Vec<u8>,
-    kind: WarningKind,
-    clean: &[u8],
-) -> Result<(), AllocError>
-    ensures { OnOk result (text.new.items
-        ≡ text.old.items ++ hint_line (warning_hint kind (line_of 0 clean.now))) }
-{
-    text.extend_from_slice(b"    hint: ")?;
-    push_hint(alloc, text, kind, clean)?;
-    text.push(b'\n')?;
-    Ok(())
-}
-
 /// The place of a warning in its line, in bytes from 0.
 fn warning_place(kind: WarningKind, line: &[u8], clean: &[u8]) -> usize
     ensures { result ≡ warning_place kind line.now clean.now }
@@ -194,25 +178,6 @@ pub fn push_warning_line(
     Ok(())
 }
 
-/// Adds the report of a warning.
-fn push_warning(
-    alloc: Global,
-    text: &mut Vec<u8>,
-    path: &[u8],
-    line: &Read<'_>,
-    kind: WarningKind,
-) -> Result<(), AllocError>
-    requires { IsRead line.now }
-    ensures { OnOk result (text.new.items
-        ≡ text.old.items ++ warning_report path.now (read_line line.now) kind) }
-{
-    push_warning_line(text, path, line.number, kind)?;
-    let place = warning_place(kind, line.text, line.clean);
-    push_shown_line(text, line.text, place)?;
-    push_mark_line(alloc, text, line.text, place)?;
-    push_hint_line(alloc, text, kind, line.clean)
-}
-
 /// What is printed of a warning, without its line.
 fn words_of(alloc: Global, kind: WarningKind) -> Result<Vec<u8>, AllocError>
     ensures { IfOk result (λ words. words.items ≡ warning_text kind) }
@@ -223,62 +188,34 @@ fn words_of(alloc: Global, kind: WarningKind) -> Result<Vec<u8>, AllocError>
     Ok(words)
 }
 
-/// Adds a line.
-fn push_line(text: &mut Vec<u8>, line: &[u8]) -> Result<(), AllocError>
-    ensures { OnOk result (text.new.items ≡ text.old.items ++ line.now) }
-{
-    text.extend_from_slice(line)
-}
-
-/// The line of JSON of a warning with this hint.
-fn warning_json(
-    alloc: Global,
-    path: &[u8],
-    line: &Read<'_>,
+/// A warning of a line, with what is found and what to do.
+fn finding_of<'a>(
+    path: &'a [u8],
+    line: &Read<'a>,
     kind: WarningKind,
-    hint: &[u8],
-) -> Result<Vec<u8>, AllocError>
-    ensures { IfOk result (λ json. json.items ≡ json_line
-        (finding_json path.now line.now.number
-        (column (warning_place kind line.now.text.now line.now.clean.now))
-        (warning_name kind) (warning_text kind) hint.now
-        (codes "warning") line.now.text.now)) }
+    words: &'a [u8],
+    hint: &'a [u8],
+) -> Finding<'a>
+    ensures { finding_of result ≡ Findings.warning_of path.now line.now.number
+        (warning_place kind line.now.text.now line.now.clean.now) kind
+        words.now hint.now line.now.text.now }
 {
-    let words = words_of(alloc, kind)?;
-    let found = Finding {
+    Finding {
         path,
         line: line.number,
         place: warning_place(kind, line.text, line.clean),
+        fault: false,
         kind: warning_name(kind),
-        text: &words,
+        text: words,
         hint,
-        severity: "warning",
         source: line.text,
-    };
-    finding_line(alloc, &found)
+    }
 }
 
-/// Adds the line of JSON of a warning.
-fn push_warning_json(
-    alloc: Global,
-    text: &mut Vec<u8>,
-    path: &[u8],
-    line: &Read<'_>,
-    kind: WarningKind,
-) -> Result<(), AllocError>
-    requires { IsRead line.now }
-    ensures { OnOk result (text.new.items
-        ≡ text.old.items ++ warning_json_line path.now (read_line line.now) kind) }
-{
-    let mut hint = Vec::new(alloc);
-    push_hint(alloc, &mut hint, kind, line.clean)?;
-    push_line(text, &warning_json(alloc, path, line, kind, &hint)?)
-}
-
-/// Adds what is printed of a warning: a line of JSON, or its report.
+/// Adds what is printed of a warning.
 fn push_told(
     alloc: Global,
-    json: bool,
+    format: Format,
     text: &mut Vec<u8>,
     path: &[u8],
     line: &Read<'_>,
@@ -286,13 +223,13 @@ fn push_told(
 ) -> Result<(), AllocError>
     requires { IsRead line.now }
     ensures { OnOk result (text.new.items
-        ≡ text.old.items ++ told_warning json path.now (read_line line.now) kind) }
+        ≡ text.old.items ++ told_warning format path.now (read_line line.now) kind) }
 {
-    if json {
-        push_warning_json(alloc, text, path, line, kind)
-    } else {
-        push_warning(alloc, text, path, line, kind)
-    }
+    let words = words_of(alloc, kind)?;
+    let mut hint = Vec::new(alloc);
+    push_hint(alloc, &mut hint, kind, line.clean)?;
+    let found = finding_of(path, line, kind, &words, &hint);
+    push_finding(alloc, format, text, &found)
 }
 
 /// Whether a line gets a warning that is told.
@@ -325,7 +262,7 @@ impl Warned {
     ) -> Result<(), AllocError>
         requires { IsRead line.now }
         ensures text { OnOk result (self.new.text.items ≡ self.old.text.items
-            ++ flat_map (told_warning telling.now.json path.now (read_line line.now))
+            ++ flat_map (told_warning telling.now.format path.now (read_line line.now))
             (filter (gets (names_of telling.now) line.now.bytes.now
             (read_line line.now) (clean_of line.now)) (kind ∷ []))) }
         ensures found { OnOk result (self.new.found.items ≡ self.old.found.items
@@ -333,7 +270,7 @@ impl Warned {
             (read_line line.now) (clean_of line.now)) (kind ∷ [])) }
     {
         if gets(telling.allowed, line, kind) {
-            push_told(alloc, telling.json, &mut self.text, path, line, kind)?;
+            push_told(alloc, telling.format, &mut self.text, path, line, kind)?;
             self.found.push(kind)?;
         }
         Ok(())
@@ -349,7 +286,7 @@ impl Warned {
     ) -> Result<(), AllocError>
         requires { IsRead line.now }
         ensures text { OnOk result (self.new.text.items ≡ self.old.text.items
-            ++ flat_map (told_warning telling.now.json path.now (read_line line.now))
+            ++ flat_map (told_warning telling.now.format path.now (read_line line.now))
             (all_warnings (names_of telling.now) line.now.bytes.now
             (read_line line.now) (clean_of line.now))) }
         ensures found { OnOk result (self.new.found.items ≡ self.old.found.items
@@ -380,7 +317,7 @@ impl Warned {
         requires known { IsKnown known.now }
         requires clean { clean.now ≡ (clean_line (line_of number text.now)).text }
         ensures text { OnOk result (self.new.text.items ≡ self.old.text.items
-            ++ flat_map (told_warning telling.now.json path.now (line_of number text.now))
+            ++ flat_map (told_warning telling.now.format path.now (line_of number text.now))
             (all_warnings (names_of telling.now) known.now.bytes.now
             (line_of number text.now) (clean_line (line_of number text.now)))) }
         ensures found { OnOk result (self.new.found.items ≡ self.old.found.items
@@ -417,7 +354,7 @@ impl Warned {
     ) -> Result<(), AllocError>
         requires { IsKnown known.now }
         ensures text { OnOk result (self.new.text.items ≡ self.old.text.items
-            ++ line_text telling.now.json (names_of telling.now) path.now
+            ++ line_text telling.now.format (names_of telling.now) path.now
             known.now.bytes.now (line_of number text.now)) }
         ensures found { OnOk result (self.new.found.items ≡ self.old.found.items
             ++ line_warnings (names_of telling.now) known.now.bytes.now
@@ -448,7 +385,7 @@ impl Warned {
         requires quiet { IsQuiet known.now.bytes.now (line_of number text.now) }
         requires tame { IsTame 10 (take tame text.now) }
         ensures text { OnOk result (self.new.text.items ≡ self.old.text.items
-            ++ line_text telling.now.json (names_of telling.now) path.now
+            ++ line_text telling.now.format (names_of telling.now) path.now
             known.now.bytes.now (line_of number text.now)) }
         ensures found { OnOk result (self.new.found.items ≡ self.old.found.items
             ++ line_warnings (names_of telling.now) known.now.bytes.now
@@ -472,7 +409,7 @@ fn warnings_by_line(
 ) -> Result<Warned, AllocError>
     requires { map (given_in own) assignments.now ≡ Records.assignments own bytes.now }
     ensures text { IfOk result (λ w. w.text.items
-        ≡ warnings_text telling.now.json (names_of telling.now)
+        ≡ warnings_text telling.now.format (names_of telling.now)
         path.now bytes.now) }
     ensures found { IfOk result (λ w. w.found.items
         ≡ warnings (names_of telling.now) bytes.now) }
@@ -500,7 +437,7 @@ fn cut_warnings(
 ) -> Result<Warned, AllocError>
     requires { IsPlainFile bytes.now }
     ensures text { IfOk result (λ w. w.text.items
-        ≡ warnings_text telling.now.json (names_of telling.now)
+        ≡ warnings_text telling.now.format (names_of telling.now)
         path.now bytes.now) }
     ensures found { IfOk result (λ w. w.found.items
         ≡ warnings (names_of telling.now) bytes.now) }
@@ -539,7 +476,7 @@ pub fn warnings_of(
     requires assignments { map (given_in own) assignments.now ≡ Records.assignments own bytes.now }
     requires faults { faults.now ≡ Records.faults bytes.now }
     ensures text { IfOk result (λ w. w.text.items
-        ≡ warnings_text telling.now.json (names_of telling.now)
+        ≡ warnings_text telling.now.format (names_of telling.now)
         path.now bytes.now) }
     ensures found { IfOk result (λ w. w.found.items
         ≡ warnings (names_of telling.now) bytes.now) }

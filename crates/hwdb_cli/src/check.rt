@@ -4,10 +4,10 @@ ghost use Rattle.clap.specs.Walk.{rows_of};
 ghost use Rattle.clap.specs.Matches.{found_of};
 ghost use Rattle.hwdb_cli.specs.Drafts.{IsArgument, IsDraft};
 ghost use Rattle.hwdb_spec_commands.specs.Jobs.{IsTask};
-ghost use Rattle.hwdb_spec_commands.specs.CommandLine.{allow_rule, check_app};
+ghost use Rattle.hwdb_spec_commands.specs.CommandLine.{allow_rule, check_app, format_rule};
 
 use crate::drafts::{Draft, json_option, option, shared, with_argument, word};
-use crate::matched::{any_values_of, has_flag};
+use crate::matched::{any_values_of, copied, has_flag, text_of};
 use clap::{Arg, ArgAction, ArgMatches};
 use hwdb_spec_commands::Task;
 use std::alloc::{AllocError, Global};
@@ -30,7 +30,8 @@ pub fn command<'a>(alloc: Global) -> Draft<'a>
         "A text file, a folder of them, or - for standard input; without one those of /etc/udev/hwdb.d and /usr/lib/udev/hwdb.d";
     let command = shared(alloc, "check", ABOUT, AFTER);
     let with_allow = with_argument(command, allow_option(alloc));
-    let with_json = with_argument(with_allow, json_option(alloc));
+    let with_format = with_argument(with_allow, format_option(alloc));
+    let with_json = with_argument(with_format, json_option(alloc));
     with_argument(with_json, word(alloc, "FILE", help, ArgAction::Append))
 }
 
@@ -42,6 +43,15 @@ fn allow_option<'a>(alloc: Global) -> Arg<'a>
     option(alloc, "allow", "KIND", help).action(ArgAction::Append)
 }
 
+/// `--format`.
+fn format_option<'a>(alloc: Global) -> Arg<'a>
+    ensures { IsArgument format_rule result }
+{
+    let help =
+        "Print findings as text, json, github (annotations) or sarif; --json is --format json";
+    option(alloc, "format", "FORMAT", help)
+}
+
 /// The task of `check`.
 pub fn task(alloc: Global, inner: &ArgMatches<'_>) -> Result<Task, AllocError>
     ensures { IfOk result (IsTask (codes "check") (rows_of (found_of inner.now))) }
@@ -49,9 +59,11 @@ pub fn task(alloc: Global, inner: &ArgMatches<'_>) -> Result<Task, AllocError>
     let files = any_values_of(alloc, inner, "FILE")?;
     let allowed = any_values_of(alloc, inner, "allow")?;
     let json = has_flag(inner, "json");
+    let format = copied(alloc, text_of(inner, "format"))?;
     Ok(Task::Check {
         files,
         allowed,
         json,
+        format,
     })
 }

@@ -1,6 +1,6 @@
-//! The kinds of warnings that `check --allow` names.
+//! The kinds of warnings that `check --allow` names, and the formats that `check --format` does.
 use crate::tips::ALIKE;
-use hwdb_spec_commands::Task;
+use hwdb_spec_commands::{FORMATS, Task};
 use std::alloc::{AllocError, Global};
 use strsim::jaro;
 
@@ -42,6 +42,15 @@ fn likely_kind<'k>(
     Ok(found)
 }
 
+/// What is said of a name that is none of a format.
+fn format_text(alloc: Global, name: &str) -> Result<String, AllocError> {
+    let mut text = String::new(alloc);
+    writeln!(text, "error: --format takes no '{name}'\n")?;
+    text.push_str("  [possible values: text, json, github, sarif]\n\n")?;
+    text.push_str("For more information, try 'hwdb check --help'.\n")?;
+    Ok(text)
+}
+
 /// What is said of a name that is none of a kind.
 fn fault_of(alloc: Global, name: &str, kinds: &str) -> Result<String, AllocError> {
     let mut text = String::new(alloc);
@@ -78,4 +87,21 @@ pub fn kind_fault(alloc: Global, task: &Task, kinds: &str) -> Result<Option<Stri
         }
     }
     Ok(None)
+}
+
+/// What is said of the word after `--format`, if it names none. None if it names one, or the task has no such word.
+///
+/// The only error is want of memory.
+pub fn format_fault(alloc: Global, task: &Task) -> Result<Option<String>, AllocError> {
+    let Task::Check {
+        format: Some(name),
+        ..
+    } = task
+    else {
+        return Ok(None);
+    };
+    if FORMATS.contains(&name.as_str()) {
+        return Ok(None);
+    }
+    Ok(Some(format_text(alloc, name.as_str())?))
 }

@@ -3,7 +3,7 @@
 //! A command has a module of its name: its words, as `clap` is given them, and how its task is read off `clap`'s matches.
 //! `command` puts them together, after systemd-hwdb(8), and `args` reads a job. `drafts` and `matched` have what several
 //! commands need. `tips` leaves out what misleads in the text of a fault, and `help` the options that do nothing for a command.
-//! `kinds` says which word after `--allow` names none.
+//! `kinds` says which word after `--allow` or `--format` names none.
 #![tactic(auto)]
 
 mod args;
@@ -30,4 +30,4 @@ mod verify;
 pub use args::read_words;
 pub use command::hwdb_command;
 pub use hwdb_spec_commands::{Job, Task, WordsFault};
-pub use kinds::kind_fault;
+pub use kinds::{format_fault, kind_fault};

@@ -1,6 +1,6 @@
 -- The rows, computed.
 use Rattle.hex.specs.Hex.{encode_with}
-use Rattle.hwdb_laws.specs.CheckRows.{ElsewhereRows, FaultRows, HintRows, JsonRows, RepeatedRows, ReplacedRows, ReportRows, TallyRows, ToldRows, UnpairedRows, UnreadRows, WarnedRows}
+use Rattle.hwdb_laws.specs.CheckRows.{ElsewhereRows, FaultRows, FormatRows, GithubRows, HintRows, JsonRows, RepeatedRows, ReplacedRows, ReportRows, SarifRows, TallyRows, ToldRows, UnpairedRows, UnreadRows, WarnedRows}
 use Rattle.hwdb_spec_commands.specs.FormTable.{free_prefixes, known}
 use Rattle.hwdb_spec_commands.specs.Json.{escaped_after, items_of, members_of}
 use Rattle.hwdb_spec.specs.Lines.{numbered, pieces, trimmed}
@@ -62,3 +62,15 @@ fault_rows = refl
 pub tally_rows : TallyRows
 unfolding pieces numbered trimmed first_section sections_from behind tokens_from token_at item_at items_from bracket_at classes repeated_from closed_from reversed_from range_from known free_prefixes visible_after is_utf8 chars encode_utf8 digits encode_with items_of members_of escaped_after escape_byte print_from
 tally_rows = (refl, refl, refl, refl)
+
+pub github_rows : GithubRows
+unfolding pieces numbered trimmed first_section sections_from behind tokens_from token_at item_at items_from bracket_at classes repeated_from closed_from reversed_from range_from known free_prefixes visible_after is_utf8 chars encode_utf8 digits encode_with items_of members_of escaped_after escape_byte print_from
+github_rows = refl
+
+pub sarif_rows : SarifRows
+unfolding pieces numbered trimmed first_section sections_from behind tokens_from token_at item_at items_from bracket_at classes repeated_from closed_from reversed_from range_from known free_prefixes visible_after is_utf8 chars encode_utf8 digits encode_with items_of members_of escaped_after escape_byte print_from
+sarif_rows = (refl, refl)
+
+pub format_rows : FormatRows
+unfolding pieces numbered trimmed first_section sections_from behind tokens_from token_at item_at items_from bracket_at classes repeated_from closed_from reversed_from range_from known free_prefixes visible_after is_utf8 chars encode_utf8 digits encode_with items_of members_of escaped_after escape_byte print_from
+format_rows = (refl, refl, refl)

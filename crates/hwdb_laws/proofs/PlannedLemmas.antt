@@ -55,6 +55,7 @@ use Rattle.hwdb_plan.specs.Sides.{bytes_if, file_bytes, made_at, made_of, plain_
 use Rattle.hwdb_plan.specs.Status.{status_plan}
 use Rattle.hwdb_plan.specs.Test.{tested}
 use Rattle.hwdb_plan.specs.Verify.{summary}
+use Rattle.hwdb_spec_commands.specs.Checks.{format_of}
 
 -- an end that is no error
 abbrev IsDone : End → Type 0
@@ -367,7 +368,7 @@ module _ (w : Reads) (e : End) (Lost : Type 0) where
                     meant_moves root (device_form (has_flag (codes "strings") rows) json (has_flag (codes "pattern") rows)) (first_of (codes "DEVICE") rows),
                     (
                       refl,
-                      check_moves files root (said_of json strict (values_of (codes "allow") rows)),
+                      check_moves files root (said_of (format_of json (first_of (codes "format") rows)) strict (values_of (codes "allow") rows)),
                       (
                         refl,
                         files_move files files one other (λ sources. named (first_of (codes "database") rows) root (tested json sources)) serves,

@@ -1,16 +1,17 @@
 -- Worked rows of what `check` says: which warnings `--allow` leaves out, where properties are read (the heads of 60-keyboard.hwdb,
 -- 70-mouse.hwdb and 60-sensor.hwdb of systemd), which lines are repeated or replaced, where a warning is, and what is printed.
-use Rattle.std.specs.Prelude.{◌++◌, ◌∷◌, ◌≡◌, Bool, List, [], codes, false, map, true, ℕ}
+use Rattle.std.specs.Prelude.{◌++◌, ◌∷◌, ◌≡◌, Bool, List, None, Option, Some, [], codes, false, map, true, ℕ}
 use Rattle.hwdb_spec.specs.Assignment.{Assignment}
-use Rattle.hwdb_spec_commands.specs.Checks.{check_status, empty_tally, tally_line, tally_of_both}
-use Rattle.hwdb_spec_commands.specs.Findings.{faults_text, warning_json_line}
+use Rattle.hwdb_spec_commands.specs.Checks.{check_status, empty_tally, ended, format_of, tally_line, tally_of_both}
+use Rattle.hwdb_spec_commands.specs.Findings.{faults_text, told_warning}
 use Rattle.hwdb_spec_commands.specs.Kinds.{is_told}
 use Rattle.hwdb_spec.specs.Lines.{Line, clean_line, lines}
 use Rattle.hwdb_spec_commands.specs.Surroundings.{is_elsewhere, is_unpaired, is_unread, unpaired_hint, unread_hint}
-use Rattle.hwdb_spec_commands.specs.Warnings.{repeated_lines, replacing, warning_report, warns}
+use Rattle.hwdb_spec_commands.specs.Warnings.{repeated_lines, replacing, warns}
 use Rattle.hwdb_spec_commands.specs.declared.Tally.{Tally}
 use Rattle.hwdb_spec_commands.specs.declared.WarningKind.{WarningKind}
 use Rattle.hwdb_spec_commands.specs.declared.WarningKind.TheVariants.{CarriageReturn, CutValue, EmptyRange, LeadingTab, Misused, OpenBracket, Replaced, SpacedEquals, Unpaired, Unread}
+use Rattle.hwdb_spec_commands.specs.declared.formats.Format.TheVariants.{Github, Json as JsonLines, Sarif, Text as Reports}
 use Rattle.hwdb_spec_commands.specs.declared.vocabulary.Misuse.TheVariants.{NearName, UnknownKey}
 
 -- ---- kinds that are allowed
@@ -116,31 +117,57 @@ at_three text = record { number = 3; text = text }
 -- that bracket.
 abbrev pub ReportRows : Type 0
 ReportRows =
-    warning_report (codes "f") (at_three (codes "  A=1")) (Replaced 7)
-    ∷ warning_report (codes "f") (at_three (codes " A=1#c")) CutValue
-    ∷ warning_report (codes "f") (at_three (codes "ab[c")) OpenBracket
-    ∷ warning_report (codes "f") (at_three (codes " A =1")) SpacedEquals
-    ∷ warning_report (codes "f") (at_three (codes "\ta")) LeadingTab
+    told_warning Reports (codes "f") (at_three (codes "  A=1")) (Replaced 7)
+    ∷ told_warning Reports (codes "f") (at_three (codes " A=1#c")) CutValue
+    ∷ told_warning Reports (codes "f") (at_three (codes "ab[c")) OpenBracket
+    ∷ told_warning Reports (codes "f") (at_three (codes " A =1")) SpacedEquals
+    ∷ told_warning Reports (codes "f") (at_three (codes "\ta")) LeadingTab
     ∷ []
-    ≡ codes "f:3: warning: an assignment that line 7 replaces\n      A=1\n      ^\n    hint: take one of the two away\n"
-    ∷ codes "f:3: warning: a # without a blank before it cuts the value\n     A=1#c\n        ^\n    hint: put a blank before a comment; a value can't hold a #\n"
-    ∷ codes "f:3: warning: a [ that is never closed stands for itself\n    ab[c\n      ^\n    hint: close it with a ], or write [[] for the byte\n"
-    ∷ codes "f:3: warning: a blank beside the first =\n     A =1\n       ^\n    hint: write A=1\n"
-    ∷ codes "f:3: warning: a match line that begins with a tab\n    \\x09a\n    ^\n    hint: begin a property with a space\n"
+    ≡ codes "f:3:3: warning: an assignment that line 7 replaces [replaced]\n      A=1\n      ^\n    hint: take one of the two away\n"
+    ∷ codes "f:3:5: warning: a # without a blank before it cuts the value [cut-value]\n     A=1#c\n        ^\n    hint: put a blank before a comment; a value can't hold a #\n"
+    ∷ codes "f:3:3: warning: a [ that is never closed stands for itself [open-bracket]\n    ab[c\n      ^\n    hint: close it with a ], or write [[] for the byte\n"
+    ∷ codes "f:3:4: warning: a blank beside the first = [spaced-equals]\n     A =1\n       ^\n    hint: write A=1\n"
+    ∷ codes "f:3:1: warning: a match line that begins with a tab [leading-tab]\n    \\x09a\n    ^\n    hint: begin a property with a space\n"
     ∷ []
 
 -- As JSON the column counts from 1.
 abbrev pub JsonRows : Type 0
 JsonRows =
-    warning_json_line (codes "f") (at_three (codes " A=1#c")) CutValue
+    told_warning JsonLines (codes "f") (at_three (codes " A=1#c")) CutValue
     ≡ codes "{\"path\":\"f\",\"line\":3,\"column\":5,\"kind\":\"cut-value\",\"text\":\"a # without a blank before it cuts the value\",\"hint\":\"put a blank before a comment; a value can't hold a #\",\"severity\":\"warning\",\"source\":\" A=1#c\"}\n"
+
+-- GitHub's escapes: a comma and a colon of a path, a percent sign of a text; as an error and as a warning (command.ts).
+abbrev pub GithubRows : Type 0
+GithubRows =
+    faults_text Github (codes "a,b:c%.hwdb") (codes " A=1\n")
+    ++ told_warning Github (codes "f") (at_three (codes " A=1#c")) CutValue
+    ≡ codes "::error file=a%2Cb%3Ac%25.hwdb,line=1,col=2,title=stray-property::property where a match is expected, ignored; put a match line above it, with no empty line between them\n"
+    ++ codes "::warning file=f,line=3,col=5,title=cut-value::a # without a blank before it cuts the value; put a blank before a comment; a value can't hold a #\n"
+
+-- A log has no comma before its first result, and one before each other; what a URI can't hold of a path has its escape (RFC 3986, 2.1).
+abbrev pub SarifRows : Type 0
+SarifRows =
+    (ended Sarif empty_tally [] ≡ codes "{\"$schema\":\"https://json.schemastore.org/sarif-2.1.0.json\",\"version\":\"2.1.0\",\"runs\":[{\"tool\":{\"driver\":{\"name\":\"hwdb\"}},\"results\":[\n]}]}\n")
+    × (ended Sarif empty_tally (told_warning Sarif (codes "a b/50%") (at_three (codes " A=1#c")) CutValue ++ codes ",2\n")
+    ≡ codes "{\"$schema\":\"https://json.schemastore.org/sarif-2.1.0.json\",\"version\":\"2.1.0\",\"runs\":[{\"tool\":{\"driver\":{\"name\":\"hwdb\"}},\"results\":[\n"
+    ++ codes "{\"ruleId\":\"cut-value\",\"level\":\"warning\",\"message\":{\"text\":\"a # without a blank before it cuts the value; put a blank before a comment; a value can't hold a #\"},"
+    ++ codes "\"locations\":[{\"physicalLocation\":{\"artifactLocation\":{\"uri\":\"a%20b/50%25\"},\"region\":{\"startLine\":3,\"startColumn\":5}}}]}\n,2\n]}]}\n")
+
+-- `--json` comes before a word of `--format`, and a word that names none gives reports. Reports and annotations end with the count.
+abbrev pub FormatRows : Type 0
+FormatRows =
+    (map (format_of false) (None ∷ Some (codes "text") ∷ Some (codes "json") ∷ Some (codes "github") ∷ Some (codes "sarif") ∷ Some (codes "xml") ∷ [])
+    ≡ Reports ∷ Reports ∷ JsonLines ∷ Github ∷ Sarif ∷ Reports ∷ [])
+    × (map (format_of true) (None ∷ Some (codes "sarif") ∷ []) ≡ JsonLines ∷ JsonLines ∷ [])
+    × (map (λ format. ended format empty_tally (codes "a\n")) (Reports ∷ JsonLines ∷ Github ∷ [])
+    ≡ codes "a\n0 files, 0 assignments, 0 faults, 0 warnings\n" ∷ codes "a\n" ∷ codes "a\n0 files, 0 assignments, 0 faults, 0 warnings\n" ∷ [])
 
 -- Faults come by line, with the words that `update` has for them.
 abbrev pub FaultRows : Type 0
 FaultRows =
-    faults_text false (codes "f") (codes " A=1\nb\n")
-    ≡ codes "f:1: property where a match is expected, ignored\n     A=1\n     ^\n    hint: put a match line above it, with no empty line between them\n"
-    ++ codes "f:2: record without properties, ignored\n    b\n    ^\n    hint: put a property below it, on a line that begins with a space, or take the match line away\n"
+    faults_text Reports (codes "f") (codes " A=1\nb\n")
+    ≡ codes "f:1:2: error: property where a match is expected, ignored [stray-property]\n     A=1\n     ^\n    hint: put a match line above it, with no empty line between them\n"
+    ++ codes "f:2:1: error: record without properties, ignored [no-property]\n    b\n    ^\n    hint: put a property below it, on a line that begins with a space, or take the match line away\n"
 
 -- two files, of which the second has a fault
 abbrev pub some_tally : Tally

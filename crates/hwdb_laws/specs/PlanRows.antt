@@ -29,6 +29,7 @@ use Rattle.hwdb_plan.specs.Plans.Plan.{Done}
 use Rattle.hwdb_plan.specs.Status.{status_plan}
 use Rattle.hwdb_plan.specs.Test.{test_plan}
 use Rattle.hwdb_plan.specs.Verify.{verify_plan}
+use Rattle.hwdb_spec_commands.specs.declared.formats.Format.TheVariants.{Json as JsonLines, Sarif, Text as Reports}
 
 -- the plan of a run with these words after the program's name
 abbrev pub asked : Around → (words : List Text) → Option Plan
@@ -74,8 +75,10 @@ NamedRows =
 abbrev pub CheckRows : Type 0
 CheckRows =
     (a : Around)
-    → asked a (codes "--strict" ∷ codes "check" ∷ codes "--allow" ∷ codes "near-name" ∷ codes "-r" ∷ codes "/r" ∷ codes "--allow=scan-code" ∷ codes "f" ∷ codes "-" ∷ []) ∷ asked a (codes "check" ∷ codes "--json" ∷ []) ∷ []
-    ≡ Some (check_plan a.input (codes "f" ∷ codes "-" ∷ []) (codes "/r") (said_of false true (codes "near-name" ∷ codes "scan-code" ∷ []))) ∷ Some (check_plan a.input [] [] (said_of true false [])) ∷ []
+    → asked a (codes "--strict" ∷ codes "check" ∷ codes "--allow" ∷ codes "near-name" ∷ codes "-r" ∷ codes "/r" ∷ codes "--allow=scan-code" ∷ codes "f" ∷ codes "-" ∷ []) ∷ asked a (codes "check" ∷ codes "--json" ∷ [])
+    ∷ asked a (codes "check" ∷ codes "--format" ∷ codes "sarif" ∷ []) ∷ []
+    ≡ Some (check_plan a.input (codes "f" ∷ codes "-" ∷ []) (codes "/r") (said_of Reports true (codes "near-name" ∷ codes "scan-code" ∷ []))) ∷ Some (check_plan a.input [] [] (said_of JsonLines false []))
+    ∷ Some (check_plan a.input [] [] (said_of Sarif false [])) ∷ []
 
 -- Files of devices are told as they are given, and both sides by their places. Two of `diff` that are `-` are an error before anything is
 -- asked.

@@ -84,6 +84,9 @@ pub fn check_rows()
     ensures warned { CheckRows.WarnedRows }
     ensures reports { CheckRows.ReportRows }
     ensures as_json { CheckRows.JsonRows }
+    ensures for_github { CheckRows.GithubRows }
+    ensures as_sarif { CheckRows.SarifRows }
+    ensures formats { CheckRows.FormatRows }
     ensures faults { CheckRows.FaultRows }
     ensures tally { CheckRows.TallyRows }
 {}

@@ -2,6 +2,7 @@
 use Rattle.std.specs.Prelude.{◌∷◌, ℕ, Bool, List, [], Result}
 use Rattle.hwdb_spec.specs.Folders.{Choice, Source, path_of}
 use Rattle.hwdb_spec_commands.specs.Checks.{check_status, check_text, empty_tally, tally_from}
+use Rattle.hwdb_spec_commands.specs.declared.formats.Format.{Format}
 use Rattle.hwdb_spec_commands.specs.declared.unread.Unread.{Unread}
 use Rattle.hwdb_plan.specs.Files.{given_files, source_at}
 use Rattle.hwdb_plan.specs.Folders.{texts_of_folders}
@@ -11,8 +12,8 @@ use Rattle.hwdb_plan.specs.Plans.End.{Answers}
 use Rattle.hwdb_plan.specs.Plans.Plan.{Done}
 
 -- what is said of some files, but for kinds that are allowed; the status is 1 if a fault is among it, or `strict` and a warning
-abbrev pub said_of : (json strict : Bool) (allowed : List (List ℕ)) → List Source → End
-said_of json strict allowed sources = Answers (check_status strict (tally_from allowed empty_tally sources)) [] (check_text json allowed sources)
+abbrev pub said_of : (format : Format) (strict : Bool) (allowed : List (List ℕ)) → List Source → End
+said_of format strict allowed sources = Answers (check_status strict (tally_from allowed empty_tally sources)) [] (check_text format allowed sources)
 
 -- chosen files with their texts, each by its stored path
 unfoldable pub stored : List Choice → (texts : List (List ℕ)) → List Source

@@ -76,12 +76,19 @@ pub fn put_flag(json: &mut Writer, name: &str, holds: bool) -> Result<(), AllocE
     json.boolean(holds)
 }
 
+/// The JSON that was written, as it is printed.
+pub fn closed(alloc: Global, json: Writer) -> Result<Vec<u8>, AllocError>
+    ensures { IfOk result (λ text. text.items ≡ escaped (json.before ++ print json.tokens)) }
+{
+    escaped(alloc, json.into_inner())
+}
+
 /// The JSON that was written, as it is printed, and a newline.
 pub fn ended(alloc: Global, json: Writer) -> Result<Vec<u8>, AllocError>
     ensures { IfOk result
         (λ line. line.items ≡ escaped (json.before ++ print json.tokens) ++ byte "\n" ∷ []) }
 {
-    let mut line = escaped(alloc, json.into_inner())?;
+    let mut line = closed(alloc, json)?;
     line.push(b'\n')?;
     Ok(line)
 }

@@ -20,7 +20,9 @@ mod visible;
 mod words;
 
 pub use colours::{colours_are_taken_out, painted};
-pub use json_values::{ended, put_bytes, put_count, put_flag, put_member, put_number, put_text};
+pub use json_values::{
+    closed, ended, put_bytes, put_count, put_flag, put_member, put_number, put_text,
+};
 pub use laws::{lines_are_shown, marks_are_below, words_are_read};
 pub use shown::{push_byte, push_mark_line, push_shown, push_shown_line};
 pub use visible::{

@@ -3,13 +3,12 @@ use Rattle.std.specs.Prelude.{Bool, true, false, ℕ, List, [], ◌∷◌, ◌++
 use Rattle.std.specs.List.{after_first, before_first, list_any, position_or_len, prefix_len, starts_with}
 use Rattle.hwdb_spec.specs.Folders.{same}
 use Rattle.hwdb_spec.specs.Lines.{Line, byte, clean_line, is, is_dropped, is_empty, is_indent, is_none, lines, pieces, trimmed}
-use Rattle.hwdb_spec.specs.Texts.{place_text}
-use Rattle.hwdb_spec_commands.specs.Findings.{column, faults_text, finding_json, line_text}
-use Rattle.hwdb_spec_commands.specs.Json.{json_line}
+use Rattle.hwdb_spec_commands.specs.Findings.{Finding, faults_text, line_text, told}
 use Rattle.hwdb_spec_commands.specs.Properties.{did_you_mean, near_row}
-use Rattle.hwdb_spec_commands.specs.Reports.{hint_line, mark_line, shown, shown_line}
+use Rattle.hwdb_spec_commands.specs.Reports.{shown}
 use Rattle.hwdb_spec_commands.specs.Warnings.{line_warnings}
 use Rattle.hwdb_spec_commands.specs.declared.WarningKind.{WarningKind}
+use Rattle.hwdb_spec_commands.specs.declared.formats.Format.{Format}
 use Rattle.hwdb_spec_commands.specs.declared.kinds.TheConstants.{KINDS}
 
 -- ---- What a comment names
@@ -91,18 +90,22 @@ unknown_hint name = kind_hint (near_row KINDS.now name)
 abbrev pub comment_place : (text : List ℕ) → ℕ
 comment_place text = position_or_len (is (byte "#")) text
 
--- the line of such a name: where it is, `: warning: `, what is told
-abbrev pub unknown_line : (path : List ℕ) (number : ℕ) (name : List ℕ) → List ℕ
-unknown_line path number name = place_text path number ++ codes ": warning: " ++ (unknown_text name ++ byte "\n" ∷ [])
+-- such a name in a line
+abbrev pub unknown_found : (path : List ℕ) → Line → (name : List ℕ) → Finding
+unknown_found path l name = record {
+  path = path;
+  line = l.number;
+  place = comment_place l.text;
+  fault = false;
+  kind = codes "unknown-kind";
+  text = unknown_text name;
+  hint = unknown_hint name;
+  source = l.text;
+}
 
--- what is printed of such a name in a line: a line of JSON, or a report
-abbrev pub told_unknown : (json : Bool) → (path : List ℕ) → Line → (name : List ℕ) → List ℕ
-told_unknown true path l name =
-    json_line (finding_json path l.number (column (comment_place l.text)) (codes "unknown-kind") (unknown_text name) (unknown_hint name)
-    (codes "warning") l.text)
-told_unknown false path l name =
-    let place = comment_place l.text in
-    unknown_line path l.number name ++ (shown_line l.text place ++ (mark_line l.text place ++ hint_line (unknown_hint name)))
+-- what is printed of it
+abbrev pub told_unknown : Format → (path : List ℕ) → Line → (name : List ℕ) → List ℕ
+told_unknown format path l name = told format (unknown_found path l name)
 
 -- ---- What is left
 
@@ -115,13 +118,13 @@ abbrev pub left_warnings : (allowed : List (List ℕ)) → (file : List ℕ) →
 left_warnings allowed file m = line_warnings (names_at allowed m) file m.line
 
 -- what is printed of a line: of names that are no kinds, and of the warnings that are left
-abbrev pub left_of_line : (json : Bool) → (allowed : List (List ℕ)) → (path file : List ℕ) → Marked → List ℕ
-left_of_line json allowed path file m =
-    flat_map (told_unknown json path m.line) (unknown_names m.line.text) ++ line_text json (names_at allowed m) path file m.line
+abbrev pub left_of_line : Format → (allowed : List (List ℕ)) → (path file : List ℕ) → Marked → List ℕ
+left_of_line format allowed path file m =
+    flat_map (told_unknown format path m.line) (unknown_names m.line.text) ++ line_text format (names_at allowed m) path file m.line
 
 -- what is printed of the lines of a file beside its faults
-abbrev pub left_text : (json : Bool) → (allowed : List (List ℕ)) → (path file : List ℕ) → List ℕ
-left_text json allowed path file = flat_map (left_of_line json allowed path file) (marked file)
+abbrev pub left_text : Format → (allowed : List (List ℕ)) → (path file : List ℕ) → List ℕ
+left_text format allowed path file = flat_map (left_of_line format allowed path file) (marked file)
 
 -- the warnings of a file that are left
 abbrev pub warnings_left : (allowed : List (List ℕ)) → (file : List ℕ) → List WarningKind
@@ -132,5 +135,5 @@ abbrev pub unknown_left : (file : List ℕ) → List (List ℕ)
 unknown_left file = flat_map (λ m. unknown_names m.line.text) (marked file)
 
 -- what is printed of a file: its faults, then what is left of its lines
-abbrev pub file_text : (json : Bool) → (allowed : List (List ℕ)) → (path file : List ℕ) → List ℕ
-file_text json allowed path file = faults_text json path file ++ left_text json allowed path file
+abbrev pub file_text : Format → (allowed : List (List ℕ)) → (path file : List ℕ) → List ℕ
+file_text format allowed path file = faults_text format path file ++ left_text format allowed path file

@@ -7,6 +7,7 @@ use Rattle.hwdb_spec.specs.Lines.{byte}
 use Rattle.hwdb_spec.specs.Store.{Contents, path_in}
 use Rattle.hwdb_spec.specs.System.{AreNamesIn, bytes_at, etc_files, usr_files}
 use Rattle.hwdb_spec.specs.Texts.{max_file}
+use Rattle.hwdb_spec_commands.specs.declared.formats.Format.{Format}
 
 -- These are the chosen of both folders' text files below the root, by priority. Each has its stored path, as `update` names
 -- it, and what it holds. None is longer than a file may be.
@@ -64,10 +65,10 @@ abbrev pub AreCheckedFiles : (given : List (List ℕ)) (root : List ℕ) (input 
 AreCheckedFiles [] root input contents sources = AreChosenFiles root contents sources
 AreCheckedFiles (path ∷ more) root input contents sources = AreNamedFiles (path ∷ more) input contents sources
 
--- The text is what is said of such files, as text or JSON, but for kinds that are allowed. The status says whether something is
+-- The text is what is said of such files, in this format, but for kinds that are allowed. The status says whether something is
 -- wrong with one.
-pub record IsChecked (Are : List Source → Type 0) (json strict : Bool) (allowed : List (List ℕ)) (text : List ℕ) (status : ℕ) : Type 0 where
+pub record IsChecked (Are : List Source → Type 0) (format : Format) (strict : Bool) (allowed : List (List ℕ)) (text : List ℕ) (status : ℕ) : Type 0 where
   pub sources : List Source
   pub are : Are sources
-  pub is : text ≡ check_text json allowed sources
+  pub is : text ≡ check_text format allowed sources
   pub says : status ≡ check_status strict (tally_from allowed empty_tally sources)

@@ -1,11 +1,15 @@
 -- What `check` prints of text files, how much it finds in them, and its status. Our choice.
-use Rattle.std.specs.Prelude.{Bool, true, false, ℕ, List, [], ◌∷◌, ◌++◌, ◌+◌, ◌-◌, ◌^◌, ◌==◌, if◌then◌else◌, codes, flat_map, length, nat_lt}
+use Rattle.std.specs.Prelude.{Bool, true, false, ℕ, List, Option, [], ◌∷◌, ◌++◌, ◌+◌, ◌-◌, ◌^◌, ◌==◌, if◌then◌else◌, codes, flat_map, length, nat_lt}
 use Rattle.std.specs.Fmt.{decimal}
 use Rattle.hwdb_spec.specs.Lines.{byte}
 use Rattle.hwdb_spec.specs.Records.{assignments, faults}
-use Rattle.hwdb_spec.specs.Folders.{Source}
+use Rattle.std.specs.Option.{unwrap_or}
+use Rattle.hwdb_spec.specs.Folders.{Source, same}
 use Rattle.hwdb_spec_commands.specs.AllowedKinds.{file_text, unknown_left, warnings_left}
+use Rattle.hwdb_spec_commands.specs.Logs.{log_text}
 use Rattle.hwdb_spec_commands.specs.declared.Tally.{Tally}
+use Rattle.hwdb_spec_commands.specs.declared.formats.Format.{Format}
+use Rattle.hwdb_spec_commands.specs.declared.formats.Format.TheVariants.{Github, Json as JsonLines, Sarif, Text as Reports}
 
 -- two counts together; a count stops at the greatest number of 64 bits
 abbrev pub both : ℕ → ℕ → ℕ
@@ -50,15 +54,28 @@ tally_line t =
     ++ (count_text t.faults (codes "fault") ++ codes ", "
     ++ (count_text t.warnings (codes "warning") ++ codes "\n")))
 
--- the last line; there is none after lines of JSON
-abbrev pub end_text : (json : Bool) → Tally → List ℕ
-end_text true t = []
-end_text false t = tally_line t
+-- the format that a word of `--format` names; reports if it is none of the others
+abbrev pub format_named : (word : List ℕ) → Format
+format_named word =
+    if same word (codes "json") then JsonLines
+    else (if same word (codes "github") then Github else (if same word (codes "sarif") then Sarif else Reports))
 
--- what `check` prints of some files: what is printed of each, and the last line; the name of each is the path that is printed
-abbrev pub check_text : (json : Bool) → (allowed : List (List ℕ)) → List Source → List ℕ
-check_text json allowed files =
-    flat_map (λ s. file_text json allowed s.name s.bytes) files ++ end_text json (tally_from allowed empty_tally files)
+-- the format of findings: `--json` is short for `--format json`, and comes before another one
+abbrev pub format_of : (json : Bool) → (word : Option (List ℕ)) → Format
+format_of true word = JsonLines
+format_of false word = format_named (unwrap_or word (codes "text"))
+
+-- what is printed in all, of what is found in some files: before the last line, alone, or as a log
+abbrev pub ended : Format → Tally → (findings : List ℕ) → List ℕ
+ended Reports t findings = findings ++ tally_line t
+ended JsonLines t findings = findings
+ended Github t findings = findings ++ tally_line t
+ended Sarif t findings = log_text findings
+
+-- what `check` prints of some files; the name of each is the path that is printed
+abbrev pub check_text : Format → (allowed : List (List ℕ)) → List Source → List ℕ
+check_text format allowed files =
+    ended format (tally_from allowed empty_tally files) (flat_map (λ s. file_text format allowed s.name s.bytes) files)
 
 -- 1 if there is a fault, or `strict` and a warning, else 0
 abbrev pub check_status : (strict : Bool) → Tally → ℕ

@@ -86,6 +86,10 @@ check_rule = record (new_rule (codes "check")) { long = Some (codes "check"); ac
 abbrev pub allow_rule : Rule
 allow_rule = record (new_rule (codes "allow")) { value_names = 1; long = Some (codes "allow"); action = Some Append }
 
+-- `--format`, with a word
+abbrev pub format_rule : Rule
+format_rule = record (new_rule (codes "format")) { value_names = 1; long = Some (codes "format"); action = Some Set }
+
 -- `--json`
 abbrev pub json_rule : Rule
 json_rule = record (new_rule (codes "json")) { long = Some (codes "json"); action = Some SetTrue }
@@ -152,7 +156,7 @@ device_app = with_rule (with_rule (with_rule (with_rule (with_rule (with_shared 
 
 -- `check`
 abbrev pub check_app : App
-check_app = with_rule (with_rule (with_rule (with_shared (new_app (codes "check"))) allow_rule) json_rule) files_rule
+check_app = with_rule (with_rule (with_rule (with_rule (with_shared (new_app (codes "check"))) allow_rule) format_rule) json_rule) files_rule
 
 -- `test`
 abbrev pub test_app : App

@@ -1,56 +1,134 @@
--- What `check` prints of the faults and warnings of one file: a report of each, or a line of JSON. Our choice.
+-- What `check` prints of the faults and warnings of one file: of each a report, a line of JSON, a workflow command of GitHub, or a result in
+-- SARIF. Our choice.
 use Rattle.std.specs.Prelude.{Bool, true, false, ℕ, List, [], ◌∷◌, ◌++◌, ◌+◌, ◌-◌, ◌^◌, if◌then◌else◌, codes, flat_map, nat_lt}
+use Rattle.std.specs.Fmt.{decimal}
 use Rattle.json.specs.Json.{Json}
+use Rattle.hwdb_spec_commands.specs.Annotations.{annotation}
 use Rattle.hwdb_spec_commands.specs.Json.{json_line, number_json, object_of, text_json}
 use Rattle.hwdb_spec_commands.specs.Kinds.{fault_name, warning_name}
-use Rattle.hwdb_spec.specs.Lines.{Line, clean_line, lines}
+use Rattle.hwdb_spec_commands.specs.Logs.{result_line}
+use Rattle.hwdb_spec.specs.Lines.{Line, byte, clean_line, lines}
 use Rattle.hwdb_spec.specs.Records.{fault_text, faults}
-use Rattle.hwdb_spec_commands.specs.Reports.{fault_hint, fault_place, report, text_of_line}
-use Rattle.hwdb_spec_commands.specs.Warnings.{line_warnings, warning_hint, warning_place, warning_report, warning_text}
+use Rattle.hwdb_spec.specs.Texts.{place_text}
+use Rattle.hwdb_spec.specs.Visible.{shown_name}
+use Rattle.hwdb_spec_commands.specs.Reports.{fault_hint, fault_place, hint_line, mark_line, shown_line, text_of_line}
+use Rattle.hwdb_spec_commands.specs.Warnings.{line_warnings, warning_hint, warning_place, warning_text}
 use Rattle.hwdb_spec.specs.declared.Fault.{Fault}
 use Rattle.hwdb_spec_commands.specs.declared.WarningKind.{WarningKind}
+use Rattle.hwdb_spec_commands.specs.declared.formats.Format.{Format}
+use Rattle.hwdb_spec_commands.specs.declared.formats.Format.TheVariants.{Github, Json as JsonLines, Sarif, Text as Reports}
+
+-- what is found in a line of a file
+pub record Finding : Type 0 where
+  -- the path that is printed for the file
+  pub path : List ℕ
+  -- the line, from 1
+  pub line : ℕ
+  -- how many bytes of the line come before its place
+  pub place : ℕ
+  -- a fault, or else a warning
+  pub fault : Bool
+  pub kind : List ℕ
+  pub text : List ℕ
+  -- what to do about it
+  pub hint : List ℕ
+  -- the line itself
+  pub source : List ℕ
 
 -- the column after so many bytes of a line, from 1; it stops at the greatest number of 64 bits
 abbrev pub column : ℕ → ℕ
 column at = if nat_lt (at + 1) (2 ^ 64) then at + 1 else 2 ^ 64 - 1
 
--- What is found in a line, as an object. The column is that of the mark, and the source is the line itself.
-abbrev pub finding_json : (path : List ℕ) (line column : ℕ) (kind text hint severity source : List ℕ) → Json
-finding_json path line column kind text hint severity source =
-    object_of ((codes "path", text_json path) ∷ (codes "line", number_json line) ∷ (codes "column", number_json column)
-    ∷ (codes "kind", text_json kind) ∷ (codes "text", text_json text) ∷ (codes "hint", text_json hint)
-    ∷ (codes "severity", text_json severity) ∷ (codes "source", text_json source) ∷ [])
+-- a fault is an error
+abbrev pub severity_name : (fault : Bool) → List ℕ
+severity_name true = codes "error"
+severity_name false = codes "warning"
 
--- the line of JSON of a fault, of a line with this text
-abbrev pub fault_json_line : (path text : List ℕ) → Fault → List ℕ
-fault_json_line path text f =
-    json_line (finding_json path f.line (column (fault_place f.kind text)) (fault_name f.kind) (fault_text f.kind) (fault_hint f.kind)
-    (codes "error") text)
+-- ---- in each format
 
--- the line of JSON of a warning of a line
-abbrev pub warning_json_line : (path : List ℕ) → Line → WarningKind → List ℕ
-warning_json_line path l kind =
-    json_line (finding_json path l.number (column (warning_place kind l.text (clean_line l).text)) (warning_name kind) (warning_text kind)
-    (warning_hint kind (clean_line l)) (codes "warning") l.text)
+-- what is found, and what to do about it
+abbrev pub message : Finding → List ℕ
+message f = f.text ++ (codes "; " ++ f.hint)
+
+-- The line of a finding as compilers write it, so that editors find its place (GNU Coding Standards, 'Formatting Error Messages'): where
+-- it is, `error` or `warning`, what is found, and its kind.
+abbrev pub finding_line : Finding → List ℕ
+finding_line f =
+    place_text f.path f.line ++ (byte ":" ∷ (decimal (column f.place) ++ (codes ": " ++ (severity_name f.fault ++ (codes ": "
+    ++ (f.text ++ (codes " [" ++ (f.kind ++ codes "]\n"))))))))
+
+-- that line, the line of the file, the mark below its place, and what to do
+abbrev pub report : Finding → List ℕ
+report f = finding_line f ++ (shown_line f.source f.place ++ (mark_line f.source f.place ++ hint_line f.hint))
+
+-- What is found, as an object. The column is that of the mark, and the source is the line itself.
+abbrev pub finding_json : Finding → Json
+finding_json f =
+    object_of ((codes "path", text_json f.path) ∷ (codes "line", number_json f.line) ∷ (codes "column", number_json (column f.place))
+    ∷ (codes "kind", text_json f.kind) ∷ (codes "text", text_json f.text) ∷ (codes "hint", text_json f.hint)
+    ∷ (codes "severity", text_json (severity_name f.fault)) ∷ (codes "source", text_json f.source) ∷ [])
+
+-- what is printed of a finding
+abbrev pub told : Format → Finding → List ℕ
+told Reports f = report f
+told JsonLines f = json_line (finding_json f)
+told Github f = annotation (severity_name f.fault) (shown_name f.path) f.line (column f.place) f.kind (message f)
+told Sarif f = result_line (severity_name f.fault) f.path f.line (column f.place) f.kind (message f)
+
+-- ---- faults and warnings
+
+-- a fault of a line with this text
+abbrev pub fault_found : (path text : List ℕ) → Fault → Finding
+fault_found path text f = record {
+  path = path;
+  line = f.line;
+  place = fault_place f.kind text;
+  fault = true;
+  kind = fault_name f.kind;
+  text = fault_text f.kind;
+  hint = fault_hint f.kind;
+  source = text;
+}
+
+-- a warning at a place of a line, with what is found and what to do
+abbrev pub warning_of : (path : List ℕ) (line place : ℕ) → WarningKind → (text hint source : List ℕ) → Finding
+warning_of path line place kind text hint source = record {
+  path = path;
+  line = line;
+  place = place;
+  fault = false;
+  kind = warning_name kind;
+  text = text;
+  hint = hint;
+  source = source;
+}
+
+-- a warning of a line
+abbrev pub warning_found : (path : List ℕ) → Line → WarningKind → Finding
+warning_found path l kind =
+    warning_of path l.number (warning_place kind l.text (clean_line l).text) kind (warning_text kind) (warning_hint kind (clean_line l)) l.text
+
+-- lines of JSON, or reports
+abbrev pub format_if : (json : Bool) → Format
+format_if true = JsonLines
+format_if false = Reports
 
 -- what is printed of a fault
-abbrev pub told_fault : (json : Bool) → (path text : List ℕ) → Fault → List ℕ
-told_fault true path text f = fault_json_line path text f
-told_fault false path text f = report path text f
+abbrev pub told_fault : Format → (path text : List ℕ) → Fault → List ℕ
+told_fault format path text f = told format (fault_found path text f)
 
 -- what is printed of a warning
-abbrev pub told_warning : (json : Bool) → (path : List ℕ) → Line → WarningKind → List ℕ
-told_warning true path l kind = warning_json_line path l kind
-told_warning false path l kind = warning_report path l kind
+abbrev pub told_warning : Format → (path : List ℕ) → Line → WarningKind → List ℕ
+told_warning format path l kind = told format (warning_found path l kind)
 
 -- what is printed of all faults of a file, by line and number
-abbrev pub faults_text : (json : Bool) → (path file : List ℕ) → List ℕ
-faults_text json path file = flat_map (λ f. told_fault json path (text_of_line (lines file) f.line) f) (faults file)
+abbrev pub faults_text : Format → (path file : List ℕ) → List ℕ
+faults_text format path file = flat_map (λ f. told_fault format path (text_of_line (lines file) f.line) f) (faults file)
 
 -- what is printed of the warnings of a line of a file, of a kind that isn't allowed
-abbrev pub line_text : (json : Bool) → (allowed : List (List ℕ)) → (path file : List ℕ) → Line → List ℕ
-line_text json allowed path file l = flat_map (told_warning json path l) (line_warnings allowed file l)
+abbrev pub line_text : Format → (allowed : List (List ℕ)) → (path file : List ℕ) → Line → List ℕ
+line_text format allowed path file l = flat_map (told_warning format path l) (line_warnings allowed file l)
 
 -- what is printed of the warnings of a file, by line
-abbrev pub warnings_text : (json : Bool) → (allowed : List (List ℕ)) → (path file : List ℕ) → List ℕ
-warnings_text json allowed path file = flat_map (line_text json allowed path file) (lines file)
+abbrev pub warnings_text : Format → (allowed : List (List ℕ)) → (path file : List ℕ) → List ℕ
+warnings_text format allowed path file = flat_map (line_text format allowed path file) (lines file)

@@ -13,6 +13,8 @@ pub mod Unmatched
 pub mod Surroundings
 pub mod Kinds
 pub mod Warnings
+pub mod Annotations
+pub mod Logs
 pub mod Findings
 pub mod AllowedKinds
 pub mod Checks

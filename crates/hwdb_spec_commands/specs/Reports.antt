@@ -5,8 +5,6 @@ use Rattle.std.specs.List.{position_or_len, prefix_len}
 use Rattle.hex.specs.Hex.{encode_lower}
 use Rattle.hwdb_spec.specs.Lines.{Line, byte, is, is_indent, max_pattern}
 use Rattle.hwdb_spec.specs.Patterns.{in_span}
-use Rattle.hwdb_spec.specs.Texts.{fault_line}
-use Rattle.hwdb_spec.specs.declared.Fault.{Fault}
 use Rattle.hwdb_spec.specs.declared.FaultKind.{FaultKind}
 use Rattle.hwdb_spec.specs.declared.FaultKind.TheVariants.{EmptyKey, LongMatch, NoEquals, NoProperty, StrayMatch, StrayProperty, ZeroByte}
 
@@ -83,12 +81,6 @@ fault_hint LongMatch = codes "shorten it, as by a * in place of what may differ"
 -- the line of what to do
 abbrev pub hint_line : List ℕ → List ℕ
 hint_line hint = codes "    hint: " ++ (hint ++ byte "\n" ∷ [])
-
--- the report of a fault: its line as `update` prints it, the text of its line, the mark, and what to do
-abbrev pub report : (path text : List ℕ) → Fault → List ℕ
-report path text f =
-    let place = fault_place f.kind text in
-    fault_line path f ++ (shown_line text place ++ (mark_line text place ++ hint_line (fault_hint f.kind)))
 
 -- the text of the line with this number; nothing if there is no such line
 abbrev pub text_of_line : List Line → ℕ → List ℕ

@@ -8,7 +8,7 @@ use Rattle.hwdb_spec.specs.Answers.{effective_of}
 use Rattle.hwdb_spec.specs.Assignment.{Assignment}
 use Rattle.hwdb_spec_commands.specs.Checks.{count_text}
 use Rattle.hwdb_spec.specs.Explanations.{explained}
-use Rattle.hwdb_spec_commands.specs.Findings.{told_fault}
+use Rattle.hwdb_spec_commands.specs.Findings.{format_if, told_fault}
 use Rattle.hwdb_spec.specs.Folders.{Source, same}
 use Rattle.hwdb_spec_commands.specs.Json.{array_of, json_line, number_json, object_of, text_json}
 use Rattle.hwdb_spec.specs.Lines.{Line, begins_with, byte, clean, has_equals, has_key, is_blank, is_empty, is_none, is_property, key, lines, property, value}
@@ -203,7 +203,7 @@ record_text json path t r = flat_map (device_text json path r.lines t) r.devices
 
 -- what is printed of malformed lines of a file, as `check` prints them
 abbrev pub malformed_text : (json : Bool) → Source → List Fault → List ℕ
-malformed_text json s wrong = flat_map (λ f. told_fault json s.name (text_of_line (lines s.bytes) f.line) f) wrong
+malformed_text json s wrong = flat_map (λ f. told_fault (format_if json) s.name (text_of_line (lines s.bytes) f.line) f) wrong
 
 -- what is printed of a test file: its malformed lines; if it has none, what is printed of its records
 abbrev pub file_text : (json : Bool) → Tree → Source → List ℕ

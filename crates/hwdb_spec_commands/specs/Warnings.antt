@@ -227,12 +227,6 @@ warning_hint (Unlikely told) clean = likelihood_hint told clean.text
 warning_hint TooLongForUdev clean = codes "shorten it: systemd 252 and 257 crash at it, and 262 finds nothing"
 warning_hint MayBeTooDeep clean = codes "shorten it: systemd 262 refuses a depth of more than 2048, which hwdb verify tells"
 
--- the line of a warning: where it is, `: warning: `, what is unusual
+-- the line of a warning as `update` prints it: where it is, `: warning: `, what is unusual
 abbrev pub warning_line : (path : List ℕ) (number : ℕ) → WarningKind → List ℕ
 warning_line path number kind = place_text path number ++ codes ": warning: " ++ (warning_text kind ++ byte "\n" ∷ [])
-
--- the report of a warning: its line, the text of the line, the mark, and what to do
-abbrev pub warning_report : (path : List ℕ) → Line → WarningKind → List ℕ
-warning_report path l kind =
-    let place = warning_place kind l.text (clean_line l).text in
-    warning_line path l.number kind ++ (shown_line l.text place ++ (mark_line l.text place ++ hint_line (warning_hint kind (clean_line l))))

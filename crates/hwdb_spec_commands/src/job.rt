@@ -55,6 +55,8 @@ pub enum Task {
         allowed: Vec<String>,
         /// Whether as JSON.
         json: bool,
+        /// The name of the format, if one is given.
+        format: Option<String>,
     },
     /// Say whether a database gives devices what test files want.
     Test {

@@ -19,7 +19,9 @@
 //! | `Surroundings` | what is said of a property because of the patterns and properties around it |
 //! | `Kinds` | the names of faults and warnings, and which warnings are told |
 //! | `Warnings` | the warnings of a file, and their reports |
-//! | `Findings` | what `check` prints of a file: reports, or lines of JSON |
+//! | `Annotations` | a finding as GitHub shows it beside its line |
+//! | `Logs` | findings as a log in SARIF |
+//! | `Findings` | what `check` prints of a finding, in each format |
 //! | `AllowedKinds` | comments that let kinds of warnings pass in their record, and what they leave |
 //! | `Checks` | what `check` prints, how much it finds, and its status |
 //! | `Once` | some assignments, each once |
@@ -86,6 +88,7 @@ mod attributes;
 mod colours;
 mod devices;
 mod form;
+mod formats;
 mod job;
 mod kinds;
 mod refusals;
@@ -96,6 +99,7 @@ pub use attributes::ATTRIBUTES;
 pub use colours::{LinePart, Style, TextKind};
 pub use devices::DeviceForm;
 pub use form::Form;
+pub use formats::{FORMATS, Format};
 use hwdb_spec::Judgement;
 pub use job::{Job, Task, WordsFault};
 pub use kinds::KINDS;

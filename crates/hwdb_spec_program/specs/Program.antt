@@ -15,6 +15,7 @@ use Rattle.hwdb_spec_commands.specs.declared.form.Form.TheVariants as form
 use Rattle.hwdb_spec_commands.specs.declared.job.Task.TheVariants.{Ask, Check, Device, Diff, Dump, Explain, List as ListHits, Near, Query, Status, Test, Update, Verify}
 use Rattle.hwdb_spec_commands.specs.declared.job.Task.{Task}
 use Rattle.hwdb_spec_commands.specs.declared.job.Job.{Job}
+use Rattle.hwdb_spec_commands.specs.Checks.{format_of}
 use Rattle.hwdb_spec_commands.specs.CheckedFiles.{AreCheckedFiles, IsChecked}
 use Rattle.hwdb_spec_commands.specs.Status.{IsMade, IsStatus}
 use Rattle.hwdb_spec_commands.specs.Asked.{IsDumped, IsPrinted, IsAnswered, IsListFrom}
@@ -40,7 +41,7 @@ root_of job = option_map_or string_bytes job.root []
 abbrev pub looks_below_root : Task → Bool
 looks_below_root (Ask file device) = false
 looks_below_root (Diff old_path new_path devices json stat) = false
-looks_below_root (Check files allowed json) = length files.items == 0
+looks_below_root (Check files allowed json format) = length files.items == 0
 looks_below_root (Near files device limit json) = length files.items == 0
 looks_below_root (Verify database) = not (is_some database)
 looks_below_root (Dump database) = not (is_some database)
@@ -59,8 +60,8 @@ IsAnswerOf (ListHits after limit device json) root strict input files status tex
     (status ≡ 0) × OnOut (IsAnswered root (IsListFrom json (string_bytes device) (option_map string_bytes after) limit) files) texts
 IsAnswerOf (Ask file device) root strict input files status texts =
     (status ≡ 0) × IsAsked (string_bytes file) (string_bytes device) input files texts
-IsAnswerOf (Check paths allowed json) root strict input files status texts =
-    OnOut (λ text. IsChecked (AreCheckedFiles (map string_bytes paths.items) root input files) json strict (map string_bytes allowed.items) text status) texts
+IsAnswerOf (Check paths allowed json format) root strict input files status texts =
+    OnOut (λ text. IsChecked (AreCheckedFiles (map string_bytes paths.items) root input files) (format_of json (option_map string_bytes format)) strict (map string_bytes allowed.items) text status) texts
 IsAnswerOf (Near paths device limit json) root strict input files status texts =
     (status ≡ 0) × OnOut (IsNear (map string_bytes paths.items) root (near_form json (string_bytes device) (near_limit limit)) input files) texts
 IsAnswerOf (Test paths database json) root strict input files status texts =
@@ -142,7 +143,7 @@ abbrev pub reads_input : Task → Bool
 reads_input (Query devices json) = is_input (map string_bytes devices.items)
 reads_input (Explain device json) = is_dash (string_bytes device)
 reads_input (Ask file device) = is_dash (string_bytes file)
-reads_input (Check files allowed json) = any_dash (map string_bytes files.items)
+reads_input (Check files allowed json format) = any_dash (map string_bytes files.items)
 reads_input (Near files device limit json) = any_dash (map string_bytes files.items)
 reads_input (Test files database json) = any_dash (map string_bytes files.items)
 reads_input (Diff old_path new_path devices json stat) = any_dash (string_bytes old_path ∷ string_bytes new_path ∷ map string_bytes devices.items)

@@ -7,6 +7,7 @@ use Rattle.std.specs.Option.{option_or, unwrap_or}
 use Rattle.std.specs.Prelude.{◌-◌, ◌≡◌, ◌⊎◌, ◌||◌, ◌∷◌, ℕ, Bool, false, List, [], None, Option, Some, Result, Ok, Err, IfSome, codes, find, if◌then◌else◌, length, option_map, take, true}
 use Rattle.std.specs.Str.{bytes_eq}
 use Rattle.std.specs.Str.Parse.{digits_value, without_leading_plus}
+use Rattle.hwdb_spec_commands.specs.Checks.{format_of}
 use Rattle.hwdb_spec_commands.specs.CommandLine.{hwdb_app}
 use Rattle.hwdb_spec_commands.specs.DeviceAsked.{device_form}
 use Rattle.hwdb_spec_commands.specs.DeviceTree.{Sight, last_after}
@@ -85,7 +86,7 @@ device_of a root rows =
 -- of `check`
 abbrev pub check_of : Around → (root : List ℕ) (strict : Bool) → List Row → Plan
 check_of a root strict rows =
-    check_plan a.input (values_of (codes "FILE") rows) root (said_of (has_flag (codes "json") rows) strict (values_of (codes "allow") rows))
+    check_plan a.input (values_of (codes "FILE") rows) root (said_of (format_of (has_flag (codes "json") rows) (first_of (codes "format") rows)) strict (values_of (codes "allow") rows))
 
 -- of `ask`
 abbrev pub ask_of : Around → List Row → Plan

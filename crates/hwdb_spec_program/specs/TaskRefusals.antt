@@ -85,7 +85,7 @@ IsTaskReason (Explain device json) root usr before now refusal =
     HasAskedReason (is_dash (string_bytes device)) root before.files.fails before.files.seen before.input.bytes before.input.failures now.input.failures refusal
 IsTaskReason (Ask file device) root usr before now refusal =
     HasGivenReason (is_dash (string_bytes file)) before.files.fails before.files.seen before.input.bytes before.input.failures now.input.failures refusal
-IsTaskReason (Check files allowed json) root usr before now refusal =
+IsTaskReason (Check files allowed json format) root usr before now refusal =
     HasCheckedReason (not (length files.items == 0)) before.files.fails before.files.seen before.input.bytes before.input.failures now.input.failures (map string_bytes files.items) refusal
 IsTaskReason (Near files device limit json) root usr before now refusal =
     HasFilesReason (not (length files.items == 0)) (map string_bytes files.items) before.files.fails before.files.seen before.input.bytes before.input.failures now.input.failures refusal

@@ -13,7 +13,7 @@ use crate::holding::{about, holds, others};
 use crate::malformed_lines::malformed_of;
 use crate::records::{Record, records_of};
 use crate::wanted_lines::WantedLine;
-use hwdb_check::{TextFile, push_count, reports_of};
+use hwdb_check::{TextFile, format_if, push_count, reports_of};
 use hwdb_reader::Db;
 use hwdb_spec::Fault;
 use hwdb_text::{ScanError, scan};
@@ -196,7 +196,13 @@ fn tell_malformed(
     ensures held { OnOk result
         (told.new.held.items ≡ told.old.held.items ++ map (λ f. false) wrong.now) }
 {
-    let reports = reports_of(alloc, json, file.path.as_bytes(), file.bytes, wrong)?;
+    let reports = reports_of(
+        alloc,
+        format_if(json),
+        file.path.as_bytes(),
+        file.bytes,
+        wrong,
+    )?;
     told.text.extend_from_slice(&reports)?;
     count_malformed(&mut told.held, wrong)
 }

@@ -31,6 +31,7 @@ use Rattle.hwdb_tool.proofs.ChosenAsBeforeLemmas.{TextsLead, texts_lead}
 use Rattle.hwdb_tool.proofs.FilesAsBeforeLemmas.{FilesLead, files_lead}
 use Rattle.hwdb_tool.proofs.GivenFoldersAsBeforeLemmas.{NamedLead, named_lead}
 use Rattle.hwdb_tool.proofs.NearAsBeforeLemmas.{some_are}
+use Rattle.hwdb_spec_commands.specs.declared.formats.Format.{Format}
 
 -- ---- chosen files by their stored paths
 module _ (held_at : Choice → Option (List ℕ)) where
@@ -73,20 +74,20 @@ are_chosen root seen texts are = record {
   within = short_stored texts.chosen texts.texts are.within;
 }
 
-module _ (w : Reads) (seen : Contents) (fails : List ℕ → Type 0) (agree : AreReadsOf w seen fails) (input : Option (List ℕ)) (n m : ℕ) (root : List ℕ) (json strict : Bool) (allowed : List (List ℕ)) where
+module _ (w : Reads) (seen : Contents) (fails : List ℕ → Type 0) (agree : AreReadsOf w seen fails) (input : Option (List ℕ)) (n m : ℕ) (root : List ℕ) (format : Format) (strict : Bool) (allowed : List (List ℕ)) where
   abbrev Say : List Source → End
-  Say = said_of json strict allowed
+  Say = said_of format strict allowed
 
   abbrev Checked : (given : List (List ℕ)) → Answer → Type 0
-  Checked given a = OnOut (λ text. IsChecked (AreCheckedFiles given root input seen) json strict allowed text a.status) (texts_in a)
+  Checked given a = OnOut (λ text. IsChecked (AreCheckedFiles given root input seen) format strict allowed text a.status) (texts_in a)
 
   abbrev Refused : (given : List (List ℕ)) → Refusal → Type 0
   Refused given r = IsCheckRefused (AreUncheckable given root seen) (AreCheckedFiles given root input seen) r
 
-  said_so : (Are : List Source → Type 0) (sources : List Source) (a : Answer) → Are sources → end_of a ≡ Say sources → OnOut (λ text. IsChecked Are json strict allowed text a.status) (texts_in a)
+  said_so : (Are : List Source → Type 0) (sources : List Source) (a : Answer) → Are sources → end_of a ≡ Say sources → OnOut (λ text. IsChecked Are format strict allowed text a.status) (texts_in a)
   said_so Are sources a are end =
       let err : a.err.items ≡ [] = cc in
-      let out : a.out.items ≡ check_text json allowed sources = cc in
+      let out : a.out.items ≡ check_text format allowed sources = cc in
       let status : a.status ≡ check_status strict (tally_from allowed empty_tally sources) = cc in
       (err, record { sources = sources; are = are; is = out; says = status })
 

@@ -26,6 +26,7 @@ use Rattle.hwdb_spec_commands.specs.declared.refusals.Refusal.{Refusal}
 use Rattle.hwdb_tool.specs.Views.{texts_in}
 use Rattle.hwdb_tool.specs.declared.answer.Answer.{Answer}
 use Rattle.hwdb_spec.specs.Lemmas.Truth.{or_left, or_right}
+use Rattle.hwdb_spec_commands.specs.declared.formats.Format.{Format}
 
 -- a given file, by its place
 pub given_path : (given : List (String Global)) (k : ℕ) (path : String Global) → path ≡ get_or given k path → k < length given → Contains (map string_bytes given) (string_bytes path)
@@ -208,20 +209,20 @@ chosen_sources root contents usr chosen texts files are named held = record {
 }
 
 -- ---- what is said of them
-pub checked_as : (Are : List Source → Type 0) (files : List TextFile) (json strict : Bool) (allowed : List (List ℕ)) (text : List ℕ) (status : ℕ) → Are (map source_of files)
-    → IsChecked (λ sources. sources ≡ map source_of files) json strict allowed text status → IsChecked Are json strict allowed text status
-checked_as Are files json strict allowed text status are checked = record {
+pub checked_as : (Are : List Source → Type 0) (files : List TextFile) (format : Format) (strict : Bool) (allowed : List (List ℕ)) (text : List ℕ) (status : ℕ) → Are (map source_of files)
+    → IsChecked (λ sources. sources ≡ map source_of files) format strict allowed text status → IsChecked Are format strict allowed text status
+checked_as Are files format strict allowed text status are checked = record {
   sources = checked.sources;
   are = subst Are (sym checked.are) are;
   is = checked.is;
   says = checked.says;
 }
 
-pub all_checked : (Are : List Source → Type 0) (files : List TextFile) (json strict : Bool) (allowed : List (List ℕ)) (r : Result Answer Refusal) → Are (map source_of files)
-    → IfOk r (λ a. OnOut (λ text. IsChecked (λ sources. sources ≡ map source_of files) json strict allowed text a.status) (texts_in a))
-    → IfOk r (λ a. OnOut (λ text. IsChecked Are json strict allowed text a.status) (texts_in a))
-all_checked Are files json strict allowed (Ok a) are checked = (checked.0, checked_as Are files json strict allowed a.out.items a.status are checked.1)
-all_checked Are files json strict allowed (Err e) are checked = tt
+pub all_checked : (Are : List Source → Type 0) (files : List TextFile) (format : Format) (strict : Bool) (allowed : List (List ℕ)) (r : Result Answer Refusal) → Are (map source_of files)
+    → IfOk r (λ a. OnOut (λ text. IsChecked (λ sources. sources ≡ map source_of files) format strict allowed text a.status) (texts_in a))
+    → IfOk r (λ a. OnOut (λ text. IsChecked Are format strict allowed text a.status) (texts_in a))
+all_checked Are files format strict allowed (Ok a) are checked = (checked.0, checked_as Are files format strict allowed a.out.items a.status are checked.1)
+all_checked Are files format strict allowed (Err e) are checked = tt
 
 pub not_checked : {T : Type 0} (Unread : Refusal → Type 0) (Are : List Source → Type 0) (files : List TextFile) (r : Result T Refusal) → Are (map source_of files)
     → IfErr r (AreNotChecked (λ sources. sources ≡ map source_of files)) → IfErr r (IsCheckRefused Unread Are)
@@ -243,12 +244,12 @@ some_given root input contents (path ∷ more) P some p = p
 
 -- ---- the files that given paths mean
 module _ (given paths : List (List ℕ)) (input : Option (List ℕ)) (contents : Contents) (stand : StandFor contents given paths) where
-  pub named_checked : (json strict : Bool) (allowed : List (List ℕ)) (r : Result Answer Refusal)
-      → IfOk r (λ a. OnOut (λ text. IsChecked (AreGivenFiles paths input contents) json strict allowed text a.status) (texts_in a))
-      → IfOk r (λ a. OnOut (λ text. IsChecked (AreNamedFiles given input contents) json strict allowed text a.status) (texts_in a))
-  named_checked json strict allowed (Ok a) checked =
+  pub named_checked : (format : Format) (strict : Bool) (allowed : List (List ℕ)) (r : Result Answer Refusal)
+      → IfOk r (λ a. OnOut (λ text. IsChecked (AreGivenFiles paths input contents) format strict allowed text a.status) (texts_in a))
+      → IfOk r (λ a. OnOut (λ text. IsChecked (AreNamedFiles given input contents) format strict allowed text a.status) (texts_in a))
+  named_checked format strict allowed (Ok a) checked =
       (checked.0, record { sources = checked.1.sources; are = (paths, stand, checked.1.are); is = checked.1.is; says = checked.1.says })
-  named_checked json strict allowed (Err e) checked = tt
+  named_checked format strict allowed (Err e) checked = tt
 
   named_end : (e : Refusal) → IsCheckRefused (IsGivenUnread paths) (AreGivenFiles paths input contents) e
       → IsCheckRefused (IsNamedUnread IsGivenUnread contents given) (AreNamedFiles given input contents) e

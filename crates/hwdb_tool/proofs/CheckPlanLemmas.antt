@@ -25,6 +25,7 @@ use Rattle.hwdb_plan.specs.Plans.Plan.{Done}
 use Rattle.hwdb_tool.specs.Views.{end_of, texts_in}
 use Rattle.hwdb_tool.specs.declared.answer.Answer.{Answer}
 use Rattle.hwdb_tool.proofs.TextErrorLemmas.{long_file}
+use Rattle.hwdb_spec_commands.specs.declared.formats.Format.{Format}
 
 -- files that were read are chosen ones by their stored paths
 pub files_stored : (chosen : List Choice) (texts : List (List ℕ)) (files : List TextFile) → map (λ f. f.path.now) files ≡ map path_of chosen → map (λ f. f.bytes.now) files ≡ texts
@@ -41,20 +42,20 @@ files_stored (c ∷ chosen) (text ∷ texts) (f ∷ files) named held =
     ap (λ (n : List ℕ). source_at n f.bytes.now ∷ map source_of files) name ∙ ap (λ (b : List ℕ). source_at (path_of c) b ∷ map source_of files) bytes
     ∙ ap (λ (l : List Source). source_at (path_of c) text ∷ l) rest
 
-module _ (w : Reads) (json strict : Bool) (allowed : List (List ℕ)) (sources : List Source) where
+module _ (w : Reads) (format : Format) (strict : Bool) (allowed : List (List ℕ)) (sources : List Source) where
   -- they are looked over, which only want of memory can stop
   pub checked_ends : All (λ (s : Source). length s.bytes ≤ max_file) sources → (result : Result Answer Refusal)
-      → IfOk result (λ a. OnOut (λ text. IsChecked (λ some. some ≡ sources) json strict allowed text a.status) (texts_in a)) → IfErr result (AreNotChecked (λ some. some ≡ sources))
-      → Follows end_of w (Done (said_of json strict allowed sources)) result
+      → IfOk result (λ a. OnOut (λ text. IsChecked (λ some. some ≡ sources) format strict allowed text a.status) (texts_in a)) → IfErr result (AreNotChecked (λ some. some ≡ sources))
+      → Follows end_of w (Done (said_of format strict allowed sources)) result
   unfolding Ends
   checked_ends short (Ok a) checked not =
       let err : a.err.items ≡ [] = checked.0 in
-      let out : a.out.items ≡ check_text json allowed sources = checked.1.is ∙ ap (check_text json allowed) checked.1.are in
+      let out : a.out.items ≡ check_text format allowed sources = checked.1.is ∙ ap (check_text format allowed) checked.1.are in
       let status : a.status ≡ check_status strict (tally_from allowed empty_tally sources) = checked.1.says ∙ ap (λ (l : List Source). check_status strict (tally_from allowed empty_tally l)) checked.1.are in
       cc
   checked_ends short (Err r) checked not = by not.error not.is not.refused
     where
-      by : (e : ScanError) → r ≡ refusal.Plain (refusal_of_scan e) → IsCheckRefusal not.sources e → Follows end_of w (Done (said_of json strict allowed sources)) (Err r)
+      by : (e : ScanError) → r ≡ refusal.Plain (refusal_of_scan e) → IsCheckRefusal not.sources e → Follows end_of w (Done (said_of format strict allowed sources)) (Err r)
       by scan.TooManyLines is refused = absurd (long_file sources short (subst HasLongFile not.are refused))
       by scan.Memory is refused = inl is
 

@@ -49,6 +49,7 @@ use Rattle.hwdb_tool.proofs.OutcomeLemmas.{one_assignments, one_kept, one_map, o
 use Rattle.hwdb_tool.proofs.StatusLemmas.{all_masked}
 use Rattle.hwdb_spec_program.specs.Tested.{IsTested}
 use Rattle.hwdb_tool.specs.OneOutcome.{DoneIsNotTold, IsOneInput, IsOneOutcome, IsOneReading, JobsAreOne, LeavesNothingOut, ListingsGiveOneReading, Scene, TasksAreOne, scene_of}
+use Rattle.hwdb_spec_commands.specs.Checks.{format_of}
 
 pub one_value : (o : Option (List ℕ)) (a b : List ℕ) → Some a ≡ o → Some b ≡ o → a ≡ b
 one_value o a b one two = ap (λ (p : Option (List ℕ)). option_map_or (λ (x : List ℕ). x) p []) (one ∙ sym two)
@@ -85,7 +86,7 @@ word_of (ListHits after limit device json) = codes "list"
 word_of (Ask file device) = codes "ask"
 word_of (Near files device limit json) = codes "near"
 word_of (Device path strings json pattern) = codes "device"
-word_of (Check files allowed json) = codes "check"
+word_of (Check files allowed json format) = codes "check"
 word_of (Test files database json) = codes "test"
 word_of (Diff old_path new_path devices json stat) = codes "diff"
 word_of (Verify database) = codes "verify"
@@ -151,10 +152,12 @@ module _ (name : Text) (inner : List Row) (root : List ℕ) (usr strict : Bool) 
   same_task (Ask file1 device1) (Ask file2 device2) t u done =
       subst (λ (f : List ℕ). Prints (λ texts. (status ≡ 0) × IsAsked f (string_bytes device1) input old texts)) (one_value (first_of (codes "FILE") inner) _ _ u.1 t.1)
       (subst (λ (d : List ℕ). Prints (λ texts. (status ≡ 0) × IsAsked (string_bytes file2) d input old texts)) (one_value (first_of (codes "MODALIAS") inner) _ _ u.2 t.2) done)
-  same_task (Check files1 allowed1 json1) (Check files2 allowed2 json2) t u done =
-      subst (λ (fs : List (List ℕ)). Prints (OnOut (λ text. IsChecked (AreCheckedFiles fs root input old) json1 strict (map string_bytes allowed1.items) text status))) (u.1 ∙ sym t.1)
-      (subst (λ (ks : List (List ℕ)). Prints (OnOut (λ text. IsChecked (AreCheckedFiles (map string_bytes files2.items) root input old) json1 strict ks text status))) (u.2 ∙ sym t.2)
-      (subst (λ (j : Bool). Prints (OnOut (λ text. IsChecked (AreCheckedFiles (map string_bytes files2.items) root input old) j strict (map string_bytes allowed2.items) text status))) (u.3 ∙ sym t.3) done))
+  same_task (Check files1 allowed1 json1 format1) (Check files2 allowed2 json2 format2) t u done =
+      let word1 = option_map string_bytes format1 in
+      subst (λ (fs : List (List ℕ)). Prints (OnOut (λ text. IsChecked (AreCheckedFiles fs root input old) (format_of json1 word1) strict (map string_bytes allowed1.items) text status))) (u.1 ∙ sym t.1)
+      (subst (λ (ks : List (List ℕ)). Prints (OnOut (λ text. IsChecked (AreCheckedFiles (map string_bytes files2.items) root input old) (format_of json1 word1) strict ks text status))) (u.2 ∙ sym t.2)
+      (subst (λ (j : Bool). Prints (OnOut (λ text. IsChecked (AreCheckedFiles (map string_bytes files2.items) root input old) (format_of j word1) strict (map string_bytes allowed2.items) text status))) (u.3 ∙ sym t.3)
+      (subst (λ (f : Option (List ℕ)). Prints (OnOut (λ text. IsChecked (AreCheckedFiles (map string_bytes files2.items) root input old) (format_of json2 f) strict (map string_bytes allowed2.items) text status))) (u.4 ∙ sym t.4) done)))
   same_task (Near files1 device1 limit1 json1) (Near files2 device2 limit2 json2) t u done =
       let one = cut_last (map string_bytes files2.items) (map string_bytes files1.items) (string_bytes device2) (string_bytes device1) (one_values (all_of (codes "MODALIAS") inner) _ _ u.2 t.2) in
       subst (λ (fs : List (List ℕ)). Quietly (IsNear fs root (near_form json1 (string_bytes device1) (near_limit limit1)) input old)) one.0

@@ -103,7 +103,7 @@ module _ (root : List â„•) (usr strict : Bool) (seen : Contents) (fails : List â
   reason_alike r (Query devices json) takes has = has
   reason_alike r (Explain device json) takes has = has
   reason_alike r (Ask file device) takes has = has
-  reason_alike r (Check files allowed json) takes has = has
+  reason_alike r (Check files allowed json format) takes has = has
   reason_alike r (Near files device limit json) takes has = has
   reason_alike r (Test files database json) takes has = has
   reason_alike r (ListHits after limit device json) takes has = unwritten_for _ _ _ seen (unwritable_alike _) r has

@@ -49,6 +49,7 @@ use Rattle.hwdb_plan.specs.Verify.{summary, verify_plan}
 use Rattle.hwdb_tool.specs.Views.{end_of}
 use Rattle.hwdb_tool.specs.declared.answer.Answer.{Answer}
 use Rattle.hwdb_tool.proofs.JobLemmas.{one_root}
+use Rattle.hwdb_spec_commands.specs.Checks.{format_of}
 
 -- ---- what words give
 -- texts before a last one
@@ -288,10 +289,11 @@ module _ (w : Reads) (sight : Sight) (input_before input_now : Told) (before now
         ),
       )
 
-      pub check_planned : (files allowed : Vec (String Global) Global) (json : Bool) → IsTask word rows (Check files allowed json)
-          → Told' (λ told. Follows end_of w (check_plan told (map string_bytes files.items) root (said_of json strict (map string_bytes allowed.items))) answer) → At
-      check_planned files allowed json is (told, so, follows) =
+      pub check_planned : (files allowed : Vec (String Global) Global) (json : Bool) (format : Option (String Global)) → IsTask word rows (Check files allowed json format)
+          → Told' (λ told. Follows end_of w (check_plan told (map string_bytes files.items) root (said_of (format_of json (option_map string_bytes format)) strict (map string_bytes allowed.items))) answer) → At
+      check_planned files allowed json format is (told, so, follows) =
           let fs = map string_bytes files.items in
+          let form = format_of json (option_map string_bytes format) in
           let kinds = map string_bytes allowed.items in (
             told,
             so,
@@ -299,9 +301,10 @@ module _ (w : Reads) (sight : Sight) (input_before input_now : Told) (before now
               [],
               refl,
               at_word (around told []) (codes "check") is.0
-                  (subst (λ (j : Bool). Shows (check_plan told (values_of (codes "FILE") rows) root (said_of j strict (values_of (codes "allow") rows)))) is.3
-                  (subst (λ (ks : List Text). Shows (check_plan told (values_of (codes "FILE") rows) root (said_of json strict ks))) is.2
-                  (subst (λ (xs : List Text). Shows (check_plan told xs root (said_of json strict kinds))) is.1 (answered (check_plan told fs root (said_of json strict kinds)) follows)))),
+                  (subst (λ (j : Bool). Shows (check_plan told (values_of (codes "FILE") rows) root (said_of (format_of j (first_of (codes "format") rows)) strict (values_of (codes "allow") rows)))) is.3
+                  (subst (λ (f : Option Text). Shows (check_plan told (values_of (codes "FILE") rows) root (said_of (format_of json f) strict (values_of (codes "allow") rows)))) is.4
+                  (subst (λ (ks : List Text). Shows (check_plan told (values_of (codes "FILE") rows) root (said_of form strict ks))) is.2
+                  (subst (λ (xs : List Text). Shows (check_plan told xs root (said_of form strict kinds))) is.1 (answered (check_plan told fs root (said_of form strict kinds)) follows))))),
             ),
           )
 

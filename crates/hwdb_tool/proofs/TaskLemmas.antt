@@ -8,7 +8,7 @@ use Rattle.hwdb_spec_commands.specs.declared.job.Task.TheVariants.{Ask, Check, D
 use Rattle.hwdb_spec_commands.specs.Done.{AreAskTexts, IsUpdated}
 use Rattle.hwdb_spec_commands.specs.Databases.{IsDiffText, IsDifferent, IsSummary, IsTextOf}
 use Rattle.hwdb_spec.specs.Assignment.{Position}
-use Rattle.hwdb_spec_commands.specs.Checks.{check_status, check_text, empty_tally, tally_from}
+use Rattle.hwdb_spec_commands.specs.Checks.{check_status, check_text, empty_tally, format_of, tally_from}
 use Rattle.hwdb_spec_commands.specs.Comparisons.{comparison_form, devices_named, has_changed}
 use Rattle.hwdb_spec_commands.specs.Dump.{dump_text}
 use Rattle.hwdb_spec_commands.specs.Emptied.{IsLossOf}
@@ -240,14 +240,14 @@ module _ (tree : (bytes : List ℕ) (t u : Tree) → IsDatabase bytes t → IsDa
         one_out = one_text tree (query_text (string_bytes device)) x.database y.database texts.out texts2.out
             (form (map_of_files (lone a.bytes) []) x.database y.database x.written y.written) x.properties y.properties;
       }
-  one_answer_of (Check paths allowed json) = λ root strict input files status status2 texts texts2 one two.
+  one_answer_of (Check paths allowed json format) = λ root strict input files status status2 texts texts2 one two.
       let a = one.1 in
       let b = two.1 in
       let same : a.sources ≡ b.sources = sources (map string_bytes paths.items) root input files a.sources b.sources a.are b.are in
       record {
         one_status = a.says ∙ ap (λ (xs : List Source). check_status strict (tally_from (map string_bytes allowed.items) empty_tally xs)) same ∙ sym b.says;
         one_err = one.0 ∙ sym two.0;
-        one_out = a.is ∙ ap (check_text json (map string_bytes allowed.items)) same ∙ sym b.is;
+        one_out = a.is ∙ ap (check_text (format_of json (option_map string_bytes format)) (map string_bytes allowed.items)) same ∙ sym b.is;
       }
   one_answer_of (Near paths device limit json) = λ root strict input files status status2 texts texts2 one two. record {
     one_status = one.0 ∙ sym two.0;

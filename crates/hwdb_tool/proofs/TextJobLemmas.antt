@@ -84,7 +84,7 @@ misuse_of_job top (Some p) j k one two takes takes2 = same_misuse p.0 p.1 j.task
 
 -- no such command names folders
 no_folders : (task : Task) → takes_text task ≡ true → (files : Contents) (r : Refusal) → IsOfNamedFolder task files r → ⊥
-no_folders (Check files allowed json) takes contents r is = both_words takes refl
+no_folders (Check files allowed json format) takes contents r is = both_words takes refl
 no_folders (Diff old_path new_path devices json stat) takes contents r is = both_words takes refl
 no_folders task takes contents r is = is
 

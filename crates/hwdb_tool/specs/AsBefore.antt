@@ -55,6 +55,7 @@ use Rattle.hwdb_plan.specs.Test.{test_plan}
 use Rattle.hwdb_plan.specs.Verify.{verify_plan}
 use Rattle.hwdb_tool.specs.Views.{end_of, texts_in}
 use Rattle.hwdb_tool.specs.declared.answer.Answer.{Answer}
+use Rattle.hwdb_spec_commands.specs.declared.formats.Format.{Format}
 
 -- with status 0 the summary of the named database is printed; an error is one of `verify`, and what it says of a path is so
 abbrev pub VerifyAsBefore : Reads → Contents → (MayFail : (path : List ℕ) → Type 0) → Type 0
@@ -128,9 +129,9 @@ NearAsBefore w seen MayFail = (input : Option (List ℕ)) (before now : ℕ) (ro
 -- the text and the status are those of the text files that the words mean, or of those of both folders; an error is one of `check`, and
 -- what it says is so
 abbrev pub CheckAsBefore : Reads → Contents → (MayFail : (path : List ℕ) → Type 0) → Type 0
-CheckAsBefore w seen MayFail = (input : Option (List ℕ)) (before now : ℕ) (root : List ℕ) (json strict : Bool) (allowed given : List (List ℕ)) (result : Result Answer Refusal)
-    → OfInput input before now (λ told. Follows end_of w (check_plan told given root (said_of json strict allowed)) result)
-    → IfOk result (λ a. OnOut (λ text. IsChecked (AreCheckedFiles given root input seen) json strict allowed text a.status) (texts_in a))
+CheckAsBefore w seen MayFail = (input : Option (List ℕ)) (before now : ℕ) (root : List ℕ) (format : Format) (strict : Bool) (allowed given : List (List ℕ)) (result : Result Answer Refusal)
+    → OfInput input before now (λ told. Follows end_of w (check_plan told given root (said_of format strict allowed)) result)
+    → IfOk result (λ a. OnOut (λ text. IsChecked (AreCheckedFiles given root input seen) format strict allowed text a.status) (texts_in a))
     × IfErr result (IsCheckRefused (AreUncheckable given root seen) (AreCheckedFiles given root input seen))
     × IfErr result (HasCheckedReason (not (length given == 0)) MayFail seen input before now given)
 

@@ -76,7 +76,7 @@ IsCovered (Query devices json) = is_input (map string_bytes devices.items) ≡ f
 IsCovered (Explain device json) = is_input (string_bytes device ∷ []) ≡ false
 IsCovered (ListHits after limit device json) = Unit {0}
 IsCovered (Ask file device) = Unit {0}
-IsCovered (Check files allowed json) = Unit {0}
+IsCovered (Check files allowed json format) = Unit {0}
 IsCovered (Near files device limit json) = Unit {0}
 IsCovered (Test files database json) = Unit {0}
 IsCovered (Diff old new devices json stat) = Unit {0}
@@ -132,7 +132,7 @@ IsOfDiffed given old_path new_path path = Contains given path ⊎ (IsOfSide old_
 -- such a task may read the path
 abbrev pub MayRead : Task → (root path : List ℕ) → Type 0
 MayRead (Update verbose skip) root path = IsOfFolders root path ⊎ IsOfDatabase None root path
-MayRead (Check files allowed json) root path = IsOfChecked (map string_bytes files.items) root path
+MayRead (Check files allowed json format) root path = IsOfChecked (map string_bytes files.items) root path
 MayRead (Near files device limit json) root path = IsOfCompared (map string_bytes files.items) root path
 MayRead (Test files database json) root path = IsOfTried (map string_bytes files.items) (option_map string_bytes database) root path
 MayRead (Ask file device) root path = path ≡ string_bytes file
@@ -157,7 +157,7 @@ IsOfSideListing side contents refusal =
 
 -- the same of a folder that the words of `check` or `diff` name: no file is there
 abbrev pub IsOfNamedFolder : Task → Contents → Refusal → Type 0
-IsOfNamedFolder (Check files allowed json) contents refusal =
+IsOfNamedFolder (Check files allowed json format) contents refusal =
     (path : List ℕ) × Contains (map string_bytes files.items) path × IsOver TooLong (folder_of path) refusal × (bytes_at contents (folder_of path) ≡ None)
 IsOfNamedFolder (Diff old new devices json stat) contents refusal =
     IsOfSideListing (string_bytes old) contents refusal ⊎ IsOfSideListing (string_bytes new) contents refusal
@@ -220,7 +220,7 @@ IsInNamed given path = (named : List ℕ) × Contains given named × ((path ≡ 
 
 -- the words of a task name text files, folders of `check`, databases of `test` or sides of `diff`, and this path is among them
 abbrev pub NamesFile : Task → Contents → (path : List ℕ) → Type 0
-NamesFile (Check files allowed json) contents path =
+NamesFile (Check files allowed json format) contents path =
     ((paths : List (List ℕ)) × StandFor contents (map string_bytes files.items) paths × Contains paths path) ⊎ IsInNamed (map string_bytes files.items) path
 NamesFile (Near files device limit json) contents path = Contains (map string_bytes files.items) path
 NamesFile (Test files database json) contents path = Contains (map string_bytes files.items) path ⊎ (option_map string_bytes database ≡ Some path)
@@ -230,7 +230,7 @@ NamesFile task contents path = ⊥
 -- the task reads files as a whole that its words name: text files, files of devices or databases
 abbrev pub ReadsFiles : Task → Type 0
 ReadsFiles (Ask file device) = Unit {0}
-ReadsFiles (Check files allowed json) = Unit {0}
+ReadsFiles (Check files allowed json format) = Unit {0}
 ReadsFiles (Near files device limit json) = Unit {0}
 ReadsFiles (Test files database json) = Unit {0}
 ReadsFiles (Diff old new devices json stat) = Unit {0}

@@ -28,18 +28,19 @@ use crate::given_folders::named_files;
 use hwdb_answers::ToolError;
 use hwdb_check::{Telling, TextFile, check_files};
 use hwdb_io::Source;
+use hwdb_spec_commands::Format;
 use hwdb_system::{Refusal, System, selected};
 use hwdb_text::Chosen;
 use std::alloc::{AllocError, Global};
 
-/// What is wrong in the given text files, as JSON or not, and without the kinds of warnings that are allowed. `-` is what `input`
+/// What is wrong in the given text files, in this format, and without the kinds of warnings that are allowed. `-` is what `input`
 /// has left, and a folder is the text files in it. If none is given, both folders below the root are checked. The status is 1 if
 /// there is a fault, or `strict` and a warning, else 0.
 pub fn check<D: System, I: Source>(
     alloc: Global,
     root: &str,
     given: &[String],
-    json: bool,
+    format: Format,
     allowed: &[String],
     strict: bool,
     system: &D,
@@ -48,10 +49,10 @@ pub fn check<D: System, I: Source>(
     ensures follows { D.Store.tells → OfInput (I.left input.old) (I.failures input.old)
         (I.failures input.new) (λ told. Follows end_of (D.System.reads system.now)
         (check_plan told (map string_bytes given.now) root.now
-        (said_of json strict (map string_bytes allowed.now))) result) }
+        (said_of format strict (map string_bytes allowed.now))) result) }
     ensures checked { D.Store.tells → IfOk result (λ a. OnOut (λ text. IsChecked
         (AreCheckedFiles (map string_bytes given.now) root.now (I.left input.old)
-        (D.Store.seen system.now)) json strict (map string_bytes allowed.now)
+        (D.Store.seen system.now)) format strict (map string_bytes allowed.now)
         text a.status) (texts_in a)) }
     ensures refused { D.Store.tells → IfErr result (IsCheckRefused
         (AreUncheckable (map string_bytes given.now) root.now (D.Store.seen system.now))
@@ -63,9 +64,9 @@ pub fn check<D: System, I: Source>(
         (I.failures input.old) (I.failures input.new) (map string_bytes given.now)) }
 {
     if given.is_empty() {
-        check_chosen(alloc, root, json, allowed, strict, system)
+        check_chosen(alloc, root, format, allowed, strict, system)
     } else {
-        check_named(alloc, given, json, allowed, strict, system, input)
+        check_named(alloc, given, format, allowed, strict, system, input)
     }
 }
 
@@ -73,7 +74,7 @@ pub fn check<D: System, I: Source>(
 fn check_named<D: System, I: Source>(
     alloc: Global,
     given: &[String],
-    json: bool,
+    format: Format,
     allowed: &[String],
     strict: bool,
     system: &D,
@@ -83,10 +84,10 @@ fn check_named<D: System, I: Source>(
         (I.failures input.new) (λ told. Follows end_of (D.System.reads system.now)
         (named_files (map string_bytes given.now) [] (λ paths.
         given_files (map string_bytes given.now) told paths (λ sources.
-        Done (said_of json strict (map string_bytes allowed.now) sources)))) result) }
+        Done (said_of format strict (map string_bytes allowed.now) sources)))) result) }
     ensures checked { D.Store.tells → IfOk result (λ a. OnOut (λ text. IsChecked
         (AreNamedFiles (map string_bytes given.now) (I.left input.old) (D.Store.seen system.now))
-        json strict (map string_bytes allowed.now) text a.status) (texts_in a)) }
+        format strict (map string_bytes allowed.now) text a.status) (texts_in a)) }
     ensures refused { D.Store.tells → IfErr result (IsCheckRefused
         (IsNamedUnread IsGivenUnread (D.Store.seen system.now) (map string_bytes given.now))
         (AreNamedFiles (map string_bytes given.now) (I.left input.old)
@@ -97,7 +98,7 @@ fn check_named<D: System, I: Source>(
         (I.failures input.old) (I.failures input.new) (map string_bytes given.now)) }
 {
     let paths = named_files(alloc, given, system)?;
-    check_given(alloc, given, &paths, json, allowed, strict, system, input)
+    check_given(alloc, given, &paths, format, allowed, strict, system, input)
 }
 
 /// The same of the files with these paths. What a folder lists, and none of the words names, is a regular file.
@@ -105,7 +106,7 @@ fn check_given<D: System, I: Source>(
     alloc: Global,
     words: &[String],
     given: &[String],
-    json: bool,
+    format: Format,
     allowed: &[String],
     strict: bool,
     system: &D,
@@ -114,10 +115,10 @@ fn check_given<D: System, I: Source>(
     ensures follows { D.Store.tells → OfInput (I.left input.old) (I.failures input.old)
         (I.failures input.new) (λ told. Follows end_of (D.System.reads system.now)
         (given_files (map string_bytes words.now) told (map string_bytes given.now)
-        (λ sources. Done (said_of json strict (map string_bytes allowed.now) sources))) result) }
+        (λ sources. Done (said_of format strict (map string_bytes allowed.now) sources))) result) }
     ensures checked { D.Store.tells → IfOk result (λ a. OnOut (λ text. IsChecked
         (AreGivenFiles (map string_bytes given.now) (I.left input.old) (D.Store.seen system.now))
-        json strict (map string_bytes allowed.now) text a.status) (texts_in a)) }
+        format strict (map string_bytes allowed.now) text a.status) (texts_in a)) }
     ensures refused { D.Store.tells → IfErr result (IsCheckRefused
         (IsGivenUnread (map string_bytes given.now))
         (AreGivenFiles (map string_bytes given.now) (I.left input.old)
@@ -129,23 +130,23 @@ fn check_given<D: System, I: Source>(
 {
     let texts = given_texts(alloc, words, given, system, input)?;
     let files = with_paths(alloc, given, &texts)?;
-    check_read(alloc, &files, json, allowed, strict)
+    check_read(alloc, &files, format, allowed, strict)
 }
 
 /// The same of the text files of both folders.
 fn check_chosen<D: System>(
     alloc: Global,
     root: &str,
-    json: bool,
+    format: Format,
     allowed: &[String],
     strict: bool,
     system: &D,
 ) -> Result<Answer, Refusal>
     ensures follows { D.Store.tells → Follows end_of (D.System.reads system.now)
-        (texts_of_folders root.now (λ texts. Done (said_of json strict
+        (texts_of_folders root.now (λ texts. Done (said_of format strict
         (map string_bytes allowed.now) (stored texts.chosen texts.texts)))) result }
     ensures checked { D.Store.tells → IfOk result (λ a. OnOut (λ text. IsChecked
-        (AreChosenFiles root.now (D.Store.seen system.now)) json strict
+        (AreChosenFiles root.now (D.Store.seen system.now)) format strict
         (map string_bytes allowed.now) text a.status) (texts_in a)) }
     ensures refused { D.Store.tells → IfErr result (IsCheckRefused
         (AreUnread root.now (D.Store.seen system.now))
@@ -156,24 +157,24 @@ fn check_chosen<D: System>(
     let selection = selected(alloc, root, system)?;
     let paths = stored_paths(alloc, &selection.chosen)?;
     let files = with_paths(alloc, &paths, &selection.texts)?;
-    check_read(alloc, &files, json, allowed, strict)
+    check_read(alloc, &files, format, allowed, strict)
 }
 
 /// The same of files that were read.
 fn check_read(
     alloc: Global,
     files: &[TextFile<'_>],
-    json: bool,
+    format: Format,
     allowed: &[String],
     strict: bool,
 ) -> Result<Answer, Refusal>
     ensures checked { IfOk result (λ a. OnOut (λ text. IsChecked
-        (λ sources. sources ≡ map source_of files.now) json strict
+        (λ sources. sources ≡ map source_of files.now) format strict
         (map string_bytes allowed.now) text a.status) (texts_in a)) }
     ensures refused { IfErr result
         (AreNotChecked (λ sources. sources ≡ map source_of files.now)) }
 {
-    let telling = Telling { json, allowed };
+    let telling = Telling { format, allowed };
     match check_files(alloc, &telling, files, strict) {
         Ok(checked) => Ok(Answer::new(alloc, checked.text, checked.status)),
         Err(error) => Err(Refusal::from(ToolError::from(error))),

@@ -29,6 +29,7 @@ use crate::status_command::status;
 use crate::test_command::test;
 use crate::verify_command::verify;
 use hwdb_answers::ToolError;
+use hwdb_check::format_of;
 use hwdb_cli::{Job, Task, WordsFault, read_words};
 use hwdb_io::{Sink, Source, write_text};
 use hwdb_system::{Machine, Refusal, Rooted, refuse_for, refuse_memory};
@@ -307,10 +308,10 @@ pub fn run<D: Machine, I: Source, O: Sink, E: Sink>(
             files,
             allowed,
             json,
+            format,
         } => {
-            let answer = check(
-                alloc, root, files, *json, allowed, job.strict, system, input,
-            );
+            let form = format_of(*json, format);
+            let answer = check(alloc, root, files, form, allowed, job.strict, system, input);
             printed(answer, out, err)
         }
         Task::Near {

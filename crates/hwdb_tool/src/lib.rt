@@ -91,7 +91,7 @@ pub use failures::{counts_tell_failures, faulty_update_leaves_all};
 pub use hiding::update_telling;
 pub use hwdb_answers::{ToolError, ask, run_list, run_query, run_update};
 pub use hwdb_check::KINDS;
-pub use hwdb_cli::{Job, Task, WordsFault, kind_fault, read_words};
+pub use hwdb_cli::{Job, Task, WordsFault, format_fault, kind_fault, read_words};
 pub use hwdb_io::{
     Cause, DeviceFailed, FromRead, Sink, Source, ToWrite, read_all, testing, write_text,
 };

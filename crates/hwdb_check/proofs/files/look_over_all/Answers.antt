@@ -6,7 +6,7 @@ use Rattle.hwdb_check.specs.Lemmas.Files.{file_refused}
 
 pub loop-file-preserved : goal.loop-file-preserved
 loop-file-preserved c = record {
-  reports = reports_step c.args.telling.now.json (map string_bytes c.args.telling.now.allowed.now) c.args.files.now c.loop-file.file-index _ _ _ _ _ _ c.loop-file-test.true c.as_bytes.ensures.value c.in_ok-found.ensures.reports c.deref.ensures.value c.in_ok-extend_from_slice.ensures.items
+  reports = reports_step c.args.telling.now.format (map string_bytes c.args.telling.now.allowed.now) c.args.files.now c.loop-file.file-index _ _ _ _ _ _ c.loop-file-test.true c.as_bytes.ensures.value c.in_ok-found.ensures.reports c.deref.ensures.value c.in_ok-extend_from_slice.ensures.items
       c.loop-file.invariant.reports;
   found = found_step (map string_bytes c.args.telling.now.allowed.now) c.args.files.now c.loop-file.file-index _ _ _ _ c.loop-file-test.true c.in_ok-found.ensures.found c.together-tally.ensures c.loop-file.invariant.found;
 }

@@ -6,6 +6,6 @@ use Rattle.hwdb_check.proofs.files.look_over_all.Given as goal
 
 abbrev pub invariant-loop-file : goal.invariant-loop-file
 invariant-loop-file l = record {
-  reports : l.reports.items ≡ files_text l.telling.json (map string_bytes l.telling.allowed.now) (map source_of (take l.file-index l.files));
+  reports : l.reports.items ≡ files_text l.telling.format (map string_bytes l.telling.allowed.now) (map source_of (take l.file-index l.files));
   found : l.tally ≡ tally_from (map string_bytes l.telling.allowed.now) empty_tally (map source_of (take l.file-index l.files));
 }

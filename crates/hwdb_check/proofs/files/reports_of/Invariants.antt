@@ -9,5 +9,5 @@ use Rattle.hwdb_check.proofs.files.reports_of.Given as goal
 abbrev pub invariant-loop-fault : goal.invariant-loop-fault
 invariant-loop-fault l = record {
   start : IsStart l.bytes l.start;
-  done : l.text.items ≡ flat_map (λ f. told_fault l.json l.path (text_of_line (lines l.bytes) f.line) f) (take l.fault-index l.faults);
+  done : l.text.items ≡ flat_map (λ f. told_fault l.format l.path (text_of_line (lines l.bytes) f.line) f) (take l.fault-index l.faults);
 }

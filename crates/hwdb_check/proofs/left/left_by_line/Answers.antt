@@ -14,7 +14,7 @@ use Rattle.hwdb_check.proofs.left.left_by_line.Goals as goal
 pub lines-init : goal.lines-init
 lines-init c =
     let allowed = texts c.args.manner.now.allowed.now in
-    let json = c.args.manner.now.json in
+    let format = c.args.manner.now.format in
     let path = c.args.path.now in
     let bytes = c.args.bytes.now in
     let left = lines_left c.new-lines.result in
@@ -22,8 +22,8 @@ lines-init c =
       near = omega (arith, c.new-lines.ensures.few);
       names = names_to_end left;
       are = c.in_ok-kinds.ensures;
-      text = ap (λ (own : List ℕ). own ++ flat_map (left_of_line json allowed path bytes) (marked_from (names_to_end left) 1 left)) c.new.ensures.items
-          ∙ ap (λ (ts : List (List ℕ)). flat_map (left_of_line json allowed path bytes) (marked_from (names_to_end ts) 1 ts)) c.new-lines.ensures.lines;
+      text = ap (λ (own : List ℕ). own ++ flat_map (left_of_line format allowed path bytes) (marked_from (names_to_end left) 1 left)) c.new.ensures.items
+          ∙ ap (λ (ts : List (List ℕ)). flat_map (left_of_line format allowed path bytes) (marked_from (names_to_end ts) 1 ts)) c.new-lines.ensures.lines;
       found = ap (λ own. own ++ flat_map (left_warnings allowed bytes) (marked_from (names_to_end left) 1 left)) c.new-2.ensures.items
           ∙ ap (λ (ts : List (List ℕ)). flat_map (left_warnings allowed bytes) (marked_from (names_to_end ts) 1 ts)) c.new-lines.ensures.lines;
       unknown = ap (λ own. texts own ++ flat_map (λ m. unknown_names m.line.text) (marked_from (names_to_end left) 1 left)) c.new-3.ensures.items
@@ -33,7 +33,7 @@ lines-init c =
 pub lines-preserved : goal.lines-preserved
 lines-preserved c =
     let allowed = texts c.args.manner.now.allowed.now in
-    let json = c.args.manner.now.json in
+    let format = c.args.manner.now.format in
     let path = c.args.path.now in
     let bytes = c.args.bytes.now in
     let names = c.lines.invariant.names in
@@ -48,8 +48,8 @@ lines-preserved c =
       near = omega (arith, ap length c.in-Some.ensures.steps, c.lines.invariant.near);
       names = cond (ends_record text) (names_to_end rest) names;
       are = c.in_ok-kinds-2.ensures names c.lines.invariant.are;
-      text = marked_step (left_of_line json allowed path bytes) _ _ _ names n left text rest c.in-Some.ensures.steps
-          (grown_alike (λ ws. flat_map (told_unknown json path line) (unknown_names text) ++ flat_map (told_warning json path line) ws) _ _ _ all _ bytes line here c.in_ok-known.ensures.1 c.in_ok-put_line.ensures.text)
+      text = marked_step (left_of_line format allowed path bytes) _ _ _ names n left text rest c.in-Some.ensures.steps
+          (grown_alike (λ ws. flat_map (told_unknown format path line) (unknown_names text) ++ flat_map (told_warning format path line) ws) _ _ _ all _ bytes line here c.in_ok-known.ensures.1 c.in_ok-put_line.ensures.text)
           c.lines.invariant.text;
       found = marked_step (left_warnings allowed bytes) _ _ _ names n left text rest c.in-Some.ensures.steps
           (grown_alike (λ ws. ws) _ _ _ all _ bytes line here c.in_ok-known.ensures.1 c.in_ok-put_line.ensures.found)
@@ -59,7 +59,7 @@ lines-preserved c =
 
 pub returns-clause-text : goal.returns-clause-text
 returns-clause-text c =
-    marked_end (left_of_line c.args.manner.now.json (texts c.args.manner.now.allowed.now) c.args.path.now c.args.bytes.now) _ _ c.lines.invariant.names c.lines.number (lines_left c.lines.lines)
+    marked_end (left_of_line c.args.manner.now.format (texts c.args.manner.now.allowed.now) c.args.path.now c.args.bytes.now) _ _ c.lines.invariant.names c.lines.number (lines_left c.lines.lines)
     c.in_default.ensures.steps.0 c.lines.invariant.text
 
 pub returns-clause-found : goal.returns-clause-found

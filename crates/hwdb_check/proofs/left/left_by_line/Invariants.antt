@@ -13,8 +13,8 @@ invariant-lines l =
       near : l.number + length (lines_left l.lines) ≤ length l.bytes + 1;
       names : List (List ℕ);
       are : AreAlike (flat_map names_in (texts l.kinds.items)) (flat_map names_in allowed ++ names);
-      text : l.left.warned.text.items ++ flat_map (left_of_line l.manner.json allowed l.path l.bytes) (marked_from names l.number (lines_left l.lines))
-          ≡ left_text l.manner.json allowed l.path l.bytes;
+      text : l.left.warned.text.items ++ flat_map (left_of_line l.manner.format allowed l.path l.bytes) (marked_from names l.number (lines_left l.lines))
+          ≡ left_text l.manner.format allowed l.path l.bytes;
       found : l.left.warned.found.items ++ flat_map (left_warnings allowed l.bytes) (marked_from names l.number (lines_left l.lines)) ≡ warnings_left allowed l.bytes;
       unknown : texts l.left.unknown.items ++ flat_map (λ m. unknown_names m.line.text) (marked_from names l.number (lines_left l.lines)) ≡ unknown_left l.bytes;
     }

@@ -22,8 +22,8 @@ loop-at-preserved c =
       near = omega (arith, c.loop-at.invariant.near);
       tame = tame_on file _ at end _ rest c.tame_after-tame.ensures;
       quiet = (quiet_on file n at end _ c.loop-at-test.true rest c.end_of-end.ensures.place c.loop-at.invariant.quiet).1;
-      text = told_on (line_text c.args.telling.now.json allowed c.args.path.now file) file _ _ _ n at end _ c.loop-at-test.true rest c.end_of-end.ensures.place
-          (c.in_ok-put_tame.ensures.text ∙ ap (λ (b : List ℕ). c.loop-at.warned.text.items ++ line_text c.args.telling.now.json allowed c.args.path.now b line) c.nothing_known-known.ensures.1)
+      text = told_on (line_text c.args.telling.now.format allowed c.args.path.now file) file _ _ _ n at end _ c.loop-at-test.true rest c.end_of-end.ensures.place
+          (c.in_ok-put_tame.ensures.text ∙ ap (λ (b : List ℕ). c.loop-at.warned.text.items ++ line_text c.args.telling.now.format allowed c.args.path.now b line) c.nothing_known-known.ensures.1)
           c.loop-at.invariant.text;
       found = told_on (line_warnings allowed file) file _ _ _ n at end _ c.loop-at-test.true rest c.end_of-end.ensures.place
           (c.in_ok-put_tame.ensures.found ∙ ap (λ (b : List ℕ). c.loop-at.warned.found.items ++ line_warnings allowed b line) c.nothing_known-known.ensures.1)
@@ -32,7 +32,7 @@ loop-at-preserved c =
 
 pub returns-then-rest-tame-clause-text : goal.returns-then-rest-tame-clause-text
 returns-then-rest-tame-clause-text c =
-    told_tame c.args.telling.now.json (names_of c.args.telling.now) c.args.path.now c.args.bytes.now _ _ _ c.loop-at.number c.loop-at.at c.loop-at.tame
+    told_tame c.args.telling.now.format (names_of c.args.telling.now) c.args.path.now c.args.bytes.now _ _ _ c.loop-at.number c.loop-at.at c.loop-at.tame
     (take_rest c.args.bytes.now c.loop-at.at) c.if-rest-tame.true c.loop-at.invariant.tame c.loop-at.invariant.quiet c.loop-at.invariant.text
 
 pub returns-then-rest-tame-clause-found : goal.returns-then-rest-tame-clause-found
@@ -42,7 +42,7 @@ returns-then-rest-tame-clause-found c =
 
 pub returns-clause-text : goal.returns-clause-text
 returns-clause-text c =
-    told_end (line_text c.args.telling.now.json (names_of c.args.telling.now) c.args.path.now c.args.bytes.now) c.args.bytes.now _ _ c.loop-at.number c.loop-at.at
+    told_end (line_text c.args.telling.now.format (names_of c.args.telling.now) c.args.path.now c.args.bytes.now) c.args.bytes.now _ _ c.loop-at.number c.loop-at.at
     c.loop-at-test.false c.loop-at.invariant.text
 
 pub returns-clause-found : goal.returns-clause-found

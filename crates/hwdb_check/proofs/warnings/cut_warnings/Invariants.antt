@@ -14,8 +14,8 @@ invariant-loop-at l = record {
   tame : IsTame 10 (take l.tame (drop l.at l.bytes));
   quiet : AreQuiet l.bytes (numbered l.number (pieces (is 10) (drop l.at l.bytes)));
   text : l.warned.text.items
-      ++ flat_map (line_text l.telling.json (names_of l.telling) l.path l.bytes) (numbered l.number (pieces (is 10) (drop l.at l.bytes)))
-      ≡ warnings_text l.telling.json (names_of l.telling) l.path l.bytes;
+      ++ flat_map (line_text l.telling.format (names_of l.telling) l.path l.bytes) (numbered l.number (pieces (is 10) (drop l.at l.bytes)))
+      ≡ warnings_text l.telling.format (names_of l.telling) l.path l.bytes;
   found : l.warned.found.items
       ++ flat_map (line_warnings (names_of l.telling) l.bytes) (numbered l.number (pieces (is 10) (drop l.at l.bytes)))
       ≡ warnings (names_of l.telling) l.bytes;

@@ -11,8 +11,8 @@ abbrev pub invariant-loop-text : goal.invariant-loop-text
 invariant-loop-text l = record {
   near : l.number + length (lines_left l.text-iterator) ≤ length l.bytes + 1;
   text : l.warned.text.items
-      ++ flat_map (line_text l.telling.json (names_of l.telling) l.path l.bytes) (numbered l.number (lines_left l.text-iterator))
-      ≡ warnings_text l.telling.json (names_of l.telling) l.path l.bytes;
+      ++ flat_map (line_text l.telling.format (names_of l.telling) l.path l.bytes) (numbered l.number (lines_left l.text-iterator))
+      ≡ warnings_text l.telling.format (names_of l.telling) l.path l.bytes;
   found : l.warned.found.items
       ++ flat_map (line_warnings (names_of l.telling) l.bytes) (numbered l.number (lines_left l.text-iterator))
       ≡ warnings (names_of l.telling) l.bytes;

@@ -26,7 +26,7 @@ returns-clause-checked g c = λ tells.
     ∙ c.in_ok-paths.ensures ∙ ap (λ l. map path_of (map choice_of l)) c.deref.ensures.value in
     let held : map (λ f. f.bytes.now) files ≡ map (λ t. t.items) c.in_ok-selection.selection.texts.items =
     ap (map (λ f. f.bytes.now)) c.deref-4.ensures.value ∙ c.in_ok-files.ensures.bytes ∙ ap (map (λ t. t.items)) c.deref-3.ensures.value in
-    all_checked (AreChosenFiles root seen) files c.args.json c.args.strict (map string_bytes c.args.allowed.now) c.check_read.result
+    all_checked (AreChosenFiles root seen) files c.args.format c.args.strict (map string_bytes c.args.allowed.now) c.check_read.result
     (chosen_sources root seen _ chosen _ files (c.in_ok-selection.ensures.selected tells) named held) c.check_read.ensures.checked
 
 pub returns-clause-refused : goal.returns-clause-refused
@@ -45,7 +45,7 @@ returns-clause-refused g c = λ tells.
 
 pub returns-in_err-selection-clause-follows : goal.returns-in_err-selection-clause-follows
 returns-in_err-selection-clause-follows g c = λ tells.
-    let next : Texts → Plan = λ texts. Done (said_of c.args.json c.args.strict (map string_bytes c.args.allowed.now) (stored texts.chosen texts.texts)) in
+    let next : Texts → Plan = λ texts. Done (said_of c.args.format c.args.strict (map string_bytes c.args.allowed.now) (stored texts.chosen texts.texts)) in
     value_ends_in (g.D.System.reads c.args.system.now) texts_in end_of (texts_of_folders c.args.root.now) next c.in_err-selection.field-0.0 c.from_residual.result
     (c.in_err-selection.ensures.told tells) c.from_residual.ensures.1
 
@@ -54,7 +54,7 @@ returns-clause-follows g c = λ tells.
     let w = g.D.System.reads c.args.system.now in
     let root = c.args.root.now in
     let allowed = map string_bytes c.args.allowed.now in
-    let next : Texts → Plan = λ texts. Done (said_of c.args.json c.args.strict allowed (stored texts.chosen texts.texts)) in
+    let next : Texts → Plan = λ texts. Done (said_of c.args.format c.args.strict allowed (stored texts.chosen texts.texts)) in
     let selection = c.in_ok-selection.selection in
     let chosen = map choice_of selection.chosen.items in
     let texts = map (λ t. t.items) selection.texts.items in
@@ -66,5 +66,5 @@ returns-clause-follows g c = λ tells.
     ap (map (λ f. f.bytes.now)) c.deref-4.ensures.value ∙ c.in_ok-files.ensures.bytes ∙ ap (map (λ t. t.items)) c.deref-3.ensures.value in
     let are = chosen_sources root (g.D.Store.seen c.args.system.now) _ chosen _ files (c.in_ok-selection.ensures.selected tells) named held in
     value_ends w texts_in end_of (texts_of_folders root) next selection c.check_read.result (c.in_ok-selection.ensures.told tells)
-    (subst (λ l. Follows end_of w (Done (said_of c.args.json c.args.strict allowed l)) c.check_read.result) (files_stored chosen texts files named held)
-    (checked_ends w c.args.json c.args.strict allowed (map source_of files) are.within c.check_read.result c.check_read.ensures.checked c.check_read.ensures.refused))
+    (subst (λ l. Follows end_of w (Done (said_of c.args.format c.args.strict allowed l)) c.check_read.result) (files_stored chosen texts files named held)
+    (checked_ends w c.args.format c.args.strict allowed (map source_of files) are.within c.check_read.result c.check_read.ensures.checked c.check_read.ensures.refused))

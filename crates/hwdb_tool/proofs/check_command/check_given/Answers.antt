@@ -24,7 +24,7 @@ returns-clause-checked g c = λ tells.
     let files = c.deref-2.result.now in
     let are = c.in_ok-texts.ensures.files tells (map source_of files) (are_files files given _ (ap (map (λ f. f.path.now)) c.deref-2.ensures.value ∙ c.in_ok-files.ensures.paths)
     (ap (map (λ f. f.bytes.now)) c.deref-2.ensures.value ∙ c.in_ok-files.ensures.bytes ∙ ap (map (λ t. t.items)) c.deref.ensures.value)) in
-    all_checked (AreGivenFiles given input seen) files c.args.json c.args.strict (map string_bytes c.args.allowed.now) c.check_read.result
+    all_checked (AreGivenFiles given input seen) files c.args.format c.args.strict (map string_bytes c.args.allowed.now) c.check_read.result
     are c.check_read.ensures.checked
 
 pub returns-clause-refused : goal.returns-clause-refused
@@ -57,7 +57,7 @@ returns-in_err-texts-clause-follows g c = λ tells.
       told.0,
       told.1,
       files_stopped (λ (v : Vec (Vec ℕ Global) Global). map (λ t. t.items) v.items) end_of given (g.D.System.reads c.args.system.now) (given_files words told.0 given)
-          (λ sources. Done (said_of c.args.json c.args.strict (map string_bytes c.args.allowed.now) sources)) c.in_err-texts.field-0.0 c.from_residual.result told.2 c.from_residual.ensures.1,
+          (λ sources. Done (said_of c.args.format c.args.strict (map string_bytes c.args.allowed.now) sources)) c.in_err-texts.field-0.0 c.from_residual.result told.2 c.from_residual.ensures.1,
     )
 
 pub returns-clause-follows : goal.returns-clause-follows
@@ -72,8 +72,8 @@ returns-clause-follows g c = λ tells.
     (ap (map (λ f. f.bytes.now)) c.deref-2.ensures.value ∙ c.in_ok-files.ensures.bytes ∙ ap (map (λ t. t.items)) c.deref.ensures.value) in (
       told.0,
       told.1,
-      files_go (λ (v : Vec (Vec ℕ Global) Global). map (λ t. t.items) v.items) end_of given w (given_files words told.0 given) (λ sources. Done (said_of c.args.json c.args.strict allowed sources)) c.in_ok-texts.texts
+      files_go (λ (v : Vec (Vec ℕ Global) Global). map (λ t. t.items) v.items) end_of given w (given_files words told.0 given) (λ sources. Done (said_of c.args.format c.args.strict allowed sources)) c.in_ok-texts.texts
           (map source_of files) c.check_read.result told.2 are
-          (checked_ends w c.args.json c.args.strict allowed (map source_of files) (c.in_ok-texts.ensures.files tells (map source_of files) are).within c.check_read.result
+          (checked_ends w c.args.format c.args.strict allowed (map source_of files) (c.in_ok-texts.ensures.files tells (map source_of files) are).within c.check_read.result
           c.check_read.ensures.checked c.check_read.ensures.refused),
     )

@@ -37,7 +37,7 @@ returns-clause-checked g c = λ tells.
     let seen = g.D.Store.seen c.args.system.now in
     named_checked given (map string_bytes c.deref.result.now) (g.I.Source.left c.args.input.now) seen
     (subst (λ l. StandFor seen given (map string_bytes l)) (sym c.deref.ensures.value) (c.in_ok-paths.ensures.files tells))
-    c.args.json c.args.strict (map string_bytes c.args.allowed.now) c.check_given.result (c.check_given.ensures.checked tells)
+    c.args.format c.args.strict (map string_bytes c.args.allowed.now) c.check_given.result (c.check_given.ensures.checked tells)
 
 pub returns-clause-refused : goal.returns-clause-refused
 returns-clause-refused g c = λ tells.
@@ -64,7 +64,7 @@ returns-clause-unread g c = λ none.
 pub returns-in_err-paths-clause-follows : goal.returns-in_err-paths-clause-follows
 returns-in_err-paths-clause-follows g c = λ tells.
     let given = map string_bytes c.args.given.now in
-    let next : Result (List ℕ) Unread → List (List ℕ) → Plan = λ told paths. given_files given told paths (λ sources. Done (said_of c.args.json c.args.strict (map string_bytes c.args.allowed.now) sources)) in (
+    let next : Result (List ℕ) Unread → List (List ℕ) → Plan = λ told paths. given_files given told paths (λ sources. Done (said_of c.args.format c.args.strict (map string_bytes c.args.allowed.now) sources)) in (
       Err unread.Memory,
       tt,
       value_ends_in (g.D.System.reads c.args.system.now) (λ (v : Vec (String Global) Global). map string_bytes v.items) end_of (named_files given []) (next (Err unread.Memory)) c.in_err-paths.field-0.0
@@ -75,7 +75,7 @@ pub returns-clause-follows : goal.returns-clause-follows
 returns-clause-follows g c = λ tells.
     let w = g.D.System.reads c.args.system.now in
     let given = map string_bytes c.args.given.now in
-    let next : Result (List ℕ) Unread → List (List ℕ) → Plan = λ told paths. given_files given told paths (λ sources. Done (said_of c.args.json c.args.strict (map string_bytes c.args.allowed.now) sources)) in
+    let next : Result (List ℕ) Unread → List (List ℕ) → Plan = λ told paths. given_files given told paths (λ sources. Done (said_of c.args.format c.args.strict (map string_bytes c.args.allowed.now) sources)) in
     let told = subst (λ l. OfInput (g.I.Source.left c.args.input.now) (g.I.Source.failures c.args.input.now) (g.I.Source.failures c.check_given.new.input)
     (λ told. Follows end_of w (next told (map string_bytes l)) c.check_given.result)) c.deref.ensures.value (c.check_given.ensures.follows tells) in (
       told.0,

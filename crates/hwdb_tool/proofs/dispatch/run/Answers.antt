@@ -50,6 +50,7 @@ use Rattle.hwdb_spec_commands.specs.declared.devices.DeviceForm.{DeviceForm}
 use Rattle.hwdb_tool.proofs.ProgramPlanLemmas.{ask_planned, check_planned, device_planned, diff_planned, dump_planned, explain_planned, list_planned, near_planned, of_words, query_planned, status_planned, test_planned, update_unplanned, verify_planned}
 use Rattle.hwdb_tool.proofs.dispatch.run.Goals as goal
 use Rattle.hwdb_spec.specs.Lemmas.Calls.{each_error, each_value}
+use Rattle.hwdb_spec_commands.specs.declared.formats.Format.{Format}
 
 pub returns-in-Update-clause-any_moment : goal.returns-in-Update-clause-any_moment
 returns-in-Update-clause-any_moment g c = λ tells.
@@ -138,7 +139,7 @@ returns-in-Check-clause-refused g c = λ tells.
     let now : World = record { files = F c.args.system.now; input = I c.check-answer.new.input; out = O c.printed-in-Check.new.out; err = E c.printed-in-Check.new.err; devices = V c.args.system.now } in
     let fails = before.files.fails in
     let input = before.input.bytes in
-    let task = Check c.in-Check.files c.in-Check.allowed c.in-Check.json in
+    let task = Check c.in-Check.files c.in-Check.allowed c.in-Check.json c.in-Check.format in
     let root = c.root_of-root.result.now in
     let given = c.in-Check.files.items in
     let items = c.deref-in-Check.ensures.value in
@@ -151,10 +152,11 @@ returns-in-Check-clause-refused g c = λ tells.
     (λ s t. IsAnswerOf task (root_of job) job.strict input seen s t) before.err now.err before.out now.out
     (subst (λ r. IfErr answer (IsCheckRefused (AreUncheckable (map string_bytes given) r seen) (AreCheckedFiles (map string_bytes given) r input seen))) c.root_of-root.ensures
     (subst (λ l. IfErr answer (IsCheckRefused (AreUncheckable (map string_bytes l) root seen) (AreCheckedFiles (map string_bytes l) root input seen))) items (c.check-answer.ensures.refused tells)))
-    (subst (λ r. IfOk answer (λ a. OnOut (λ text. IsChecked (AreCheckedFiles (map string_bytes given) r input seen) c.in-Check.json job.strict allowed text a.status) (texts_in a))) c.root_of-root.ensures
-    (subst (λ l. IfOk answer (λ a. OnOut (λ text. IsChecked (AreCheckedFiles (map string_bytes l) root input seen) c.in-Check.json job.strict allowed text a.status) (texts_in a))) items
-    (subst (λ l. IfOk answer (λ a. OnOut (λ text. IsChecked (AreCheckedFiles (map string_bytes c.deref-in-Check.result.now) root input seen) c.in-Check.json job.strict (map string_bytes l) text a.status) (texts_in a))) left_out
-    (c.check-answer.ensures.checked tells))))
+    (subst (λ (f : Format). IfOk answer (λ a. OnOut (λ text. IsChecked (AreCheckedFiles (map string_bytes given) (root_of job) input seen) f job.strict allowed text a.status) (texts_in a))) c.format_of-form.ensures
+    (subst (λ r. IfOk answer (λ a. OnOut (λ text. IsChecked (AreCheckedFiles (map string_bytes given) r input seen) c.format_of-form.result job.strict allowed text a.status) (texts_in a))) c.root_of-root.ensures
+    (subst (λ l. IfOk answer (λ a. OnOut (λ text. IsChecked (AreCheckedFiles (map string_bytes l) root input seen) c.format_of-form.result job.strict allowed text a.status) (texts_in a))) items
+    (subst (λ l. IfOk answer (λ a. OnOut (λ text. IsChecked (AreCheckedFiles (map string_bytes c.deref-in-Check.result.now) root input seen) c.format_of-form.result job.strict (map string_bytes l) text a.status) (texts_in a))) left_out
+    (c.check-answer.ensures.checked tells)))))
     (subst (λ l. IfErr answer (HasCheckedReason (not (length l == 0)) fails seen input before.input.failures now.input.failures (map string_bytes l))) items
     (c.check-answer.ensures.reason tells))
     (λ s t is. checked_write fails seen input before.input.failures now.input.failures given (root_of job) is.1.sources is.1.are) c.printed-in-Check.ensures.refused))
@@ -648,15 +650,16 @@ returns-in-Check-clause-follows g c = λ tells words asked.
     let result = c.printed-in-Check.result in
     let root = root_of c.args.job.now in
     let strict = c.args.job.now.strict in
-    let json = c.in-Check.json in
+    let form = c.format_of-form.result in
     let files = c.deref-in-Check.result.now in
     let kinds = map string_bytes c.in-Check.allowed.items in
     let answer = c.check-answer.result in
     of_words w sight input left before now result words c.args.job.now asked
-    (λ word rows is. check_planned w sight input left before now result root strict word rows answer c.printed-in-Check.ensures.prints c.in-Check.files c.in-Check.allowed json (subst (λ t. IsTask word rows t) c.in-Check.is is)
-    (subst (λ (fs : List (String Global)). OfInput input.bytes input.failures left.failures (λ told. Follows end_of w (check_plan told (map string_bytes fs) root (said_of json strict kinds)) answer)) c.deref-in-Check.ensures.value
-    (subst (λ (ks : List (String Global)). OfInput input.bytes input.failures left.failures (λ told. Follows end_of w (check_plan told (map string_bytes files) root (said_of json strict (map string_bytes ks))) answer)) c.deref-in-Check-2.ensures.value
-    (subst (λ (r : List ℕ). OfInput input.bytes input.failures left.failures (λ told. Follows end_of w (check_plan told (map string_bytes files) r (said_of json strict (map string_bytes c.deref-in-Check-2.result.now))) answer)) c.root_of-root.ensures (c.check-answer.ensures.follows tells)))))
+    (λ word rows is. check_planned w sight input left before now result root strict word rows answer c.printed-in-Check.ensures.prints c.in-Check.files c.in-Check.allowed c.in-Check.json c.in-Check.format (subst (λ t. IsTask word rows t) c.in-Check.is is)
+    (subst (λ (f : Format). OfInput input.bytes input.failures left.failures (λ told. Follows end_of w (check_plan told (map string_bytes c.in-Check.files.items) root (said_of f strict kinds)) answer)) c.format_of-form.ensures
+    (subst (λ (fs : List (String Global)). OfInput input.bytes input.failures left.failures (λ told. Follows end_of w (check_plan told (map string_bytes fs) root (said_of form strict kinds)) answer)) c.deref-in-Check.ensures.value
+    (subst (λ (ks : List (String Global)). OfInput input.bytes input.failures left.failures (λ told. Follows end_of w (check_plan told (map string_bytes files) root (said_of form strict (map string_bytes ks))) answer)) c.deref-in-Check-2.ensures.value
+    (subst (λ (r : List ℕ). OfInput input.bytes input.failures left.failures (λ told. Follows end_of w (check_plan told (map string_bytes files) r (said_of form strict (map string_bytes c.deref-in-Check-2.result.now))) answer)) c.root_of-root.ensures (c.check-answer.ensures.follows tells))))))
 
 pub returns-in-Near-clause-follows : goal.returns-in-Near-clause-follows
 returns-in-Near-clause-follows g c = λ tells words asked.

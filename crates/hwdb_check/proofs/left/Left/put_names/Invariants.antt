@@ -11,8 +11,8 @@ invariant-loop-piece l =
     let left = filter (λ n. not (is_kind n)) (map stripped (pieces_left l.piece-iterator)) in
     let names = unknown_names l.line.text.now in
     record {
-      text : l.self.warned.text.items ++ flat_map (told_unknown l.json l.line.path.now (file_line l.line)) left
-          ≡ l.fn.self.warned.text.items ++ flat_map (told_unknown l.json l.line.path.now (file_line l.line)) names;
+      text : l.self.warned.text.items ++ flat_map (told_unknown l.format l.line.path.now (file_line l.line)) left
+          ≡ l.fn.self.warned.text.items ++ flat_map (told_unknown l.format l.line.path.now (file_line l.line)) names;
       unknown : texts l.self.unknown.items ++ left ≡ texts l.fn.self.unknown.items ++ names;
       found : l.self.warned.found.items ≡ l.fn.self.warned.found.items;
     }

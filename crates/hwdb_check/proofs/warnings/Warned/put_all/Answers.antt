@@ -13,7 +13,7 @@ returns-clause-text c =
     let test = gets (names_of c.args.telling.now) line.bytes.now (read_line line) (clean_of line) in
     let count : length c.kinds_of-kinds.result ≡ 16 = ap length c.kinds_of-kinds.ensures in
     c.loop-kind.invariant.text
-    ∙ ap (λ ks. c.args.self.now.text.items ++ flat_map (told_warning c.args.telling.now.json c.args.path.now (read_line line)) (filter test ks))
+    ∙ ap (λ ks. c.args.self.now.text.items ++ flat_map (told_warning c.args.telling.now.format c.args.path.now (read_line line)) (filter test ks))
     (take_all c.loop-kind.kind-index c.kinds_of-kinds.result (omega (arith, count, c.loop-kind-test.false)) ∙ c.kinds_of-kinds.ensures)
 
 pub returns-clause-found : goal.returns-clause-found

@@ -10,6 +10,6 @@ abbrev pub invariant-loop-kind : goal.invariant-loop-kind
 invariant-loop-kind l =
     let gets = gets (names_of l.telling) l.line.bytes.now (read_line l.line) (clean_of l.line) in
     record {
-      text : l.self.text.items ≡ l.fn.self.text.items ++ flat_map (told_warning l.telling.json l.path (read_line l.line)) (filter gets (take l.kind-index l.kind-items));
+      text : l.self.text.items ≡ l.fn.self.text.items ++ flat_map (told_warning l.telling.format l.path (read_line l.line)) (filter gets (take l.kind-index l.kind-items));
       found : l.self.found.items ≡ l.fn.self.found.items ++ filter gets (take l.kind-index l.kind-items);
     }

@@ -8,7 +8,7 @@ use Rattle.hwdb_check.proofs.warnings.Warned.put_tame.Goals as goal
 pub returns-then-text-tame-clause-text : goal.returns-then-text-tame-clause-text
 returns-then-text-tame-clause-text c =
     let line = line_of c.args.number c.args.text.now in
-    nothing_told (told_warning c.args.telling.now.json c.args.path.now line) _ _
+    nothing_told (told_warning c.args.telling.now.format c.args.path.now line) _ _
     (no_warnings c.args.known.now.bytes.now line c.requires.quiet (line_tame c.args.text.now c.args.tame c.if-text-tame.true c.requires.tame) (names_of c.args.telling.now))
 
 pub returns-then-text-tame-clause-found : goal.returns-then-text-tame-clause-found

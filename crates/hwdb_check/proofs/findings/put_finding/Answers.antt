@@ -2,11 +2,11 @@ use Rattle.std.proofs.Common.{List, ℕ, ◌++◌, ◌∷◌, [], codes, refl, �
 use Rattle.std.proofs.lemmas.Result.{on_ok_weaker}
 use Rattle.json.specs.Json.{Json}
 use Rattle.json.specs.Token.{begin_object}
-use Rattle.hwdb_spec_commands.specs.Findings.{column}
+use Rattle.hwdb_spec_commands.specs.Findings.{column, severity_name}
 use Rattle.hwdb_spec_commands.specs.Json.{number_json, text_json}
 use Rattle.hwdb_show.specs.JsonTokens.{tokens_of_member}
 use Rattle.hwdb_show.specs.Lemmas.Json.{member_behind, no_members_yet, object_closed}
-use Rattle.hwdb_check.proofs.json_lines.put_finding.Goals as goal
+use Rattle.hwdb_check.proofs.findings.put_finding.Goals as goal
 
 pub returns-clause-tokens : goal.returns-clause-tokens
 returns-clause-tokens c =
@@ -18,7 +18,7 @@ returns-clause-tokens c =
     let e : List ℕ × Json = (codes "kind", text_json found.kind.now) in
     let h : List ℕ × Json = (codes "text", text_json found.text.now) in
     let i : List ℕ × Json = (codes "hint", text_json found.hint.now) in
-    let s : List ℕ × Json = (codes "severity", text_json found.severity.now) in
+    let s : List ℕ × Json = (codes "severity", text_json (severity_name found.fault)) in
     let o : List ℕ × Json = (codes "source", text_json found.source.now) in
     let none = no_members_yet front c.begin_object.new.self.tokens c.in_ok-begin_object.ensures.ok in
     let one = member_behind front c.begin_object.new.self.tokens c.put_member.new.json.tokens [] a none c.in_ok-put_member.ensures.tokens in
@@ -30,7 +30,7 @@ returns-clause-tokens c =
     let five = member_behind front c.put_member-2.new.json.tokens c.put_member-3.new.json.tokens (a ∷ b ∷ d ∷ e ∷ []) h four c.in_ok-put_member-3.ensures.tokens in
     let six = member_behind front c.put_member-3.new.json.tokens c.put_member-4.new.json.tokens (a ∷ b ∷ d ∷ e ∷ h ∷ []) i five c.in_ok-put_member-4.ensures.tokens in
     let seven = member_behind front c.put_member-4.new.json.tokens c.put_member-5.new.json.tokens (a ∷ b ∷ d ∷ e ∷ h ∷ i ∷ []) s six
-    (c.in_ok-put_member-5.ensures.tokens ∙ ap (λ k. c.put_member-4.new.json.tokens ++ tokens_of_member (codes "severity", text_json k)) c.as_bytes-2.ensures.value) in
+    (c.in_ok-put_member-5.ensures.tokens ∙ ap (λ k. c.put_member-4.new.json.tokens ++ tokens_of_member (codes "severity", text_json k)) (c.as_bytes-2.ensures.value ∙ c.severity_name.ensures)) in
     let eight = member_behind front c.put_member-5.new.json.tokens c.put_member-6.new.json.tokens (a ∷ b ∷ d ∷ e ∷ h ∷ i ∷ s ∷ []) o seven
     c.in_ok-put_member-6.ensures.tokens in
     let all : List (List ℕ × Json) = a ∷ b ∷ d ∷ e ∷ h ∷ i ∷ s ∷ o ∷ [] in

@@ -1,0 +1,273 @@
+//! What is found in a line, in each format.
+ghost use Rattle.std.specs.Prelude.{◌≡◌, ◌++◌, ◌∷◌, IfOk, OnOk, codes, option_map, string_bytes};
+ghost use Rattle.std.specs.Fmt.{decimal};
+ghost use Rattle.json.specs.Tree.{json_tokens};
+ghost use Rattle.hwdb_spec.specs.Lines.{byte};
+ghost use Rattle.hwdb_spec.specs.Texts.{place_text};
+ghost use Rattle.hwdb_spec.specs.Visible.{shown_name};
+ghost use Rattle.hwdb_spec_commands.specs.Annotations.{annotation};
+ghost use Rattle.hwdb_spec_commands.specs.Checks;
+ghost use Rattle.hwdb_spec_commands.specs.Findings;
+ghost use Rattle.hwdb_spec_commands.specs.Json.{json_line};
+ghost use Rattle.hwdb_spec_commands.specs.Logs.{result_line};
+ghost use Rattle.hwdb_spec_commands.specs.Reports.{hint_line};
+ghost use Rattle.hwdb_check.specs.Found.{finding_of};
+
+use crate::annotations::{Annotation, push_annotation};
+use crate::logs::push_result;
+use hwdb_show::{ended, push_mark_line, push_name, push_shown_line, put_count, put_member};
+use hwdb_spec_commands::Format;
+use itoa::Buffer;
+use json::Writer;
+use std::alloc::{AllocError, Global};
+
+/// What is found in a line.
+#[derive(Clone, Copy)]
+pub struct Finding<'a> {
+    /// The path that is printed for its file.
+    pub path: &'a [u8],
+    /// The line, from 1.
+    pub line: u64,
+    /// How many bytes of the line come before its place.
+    pub place: usize,
+    /// Whether it is a fault; else it is a warning.
+    pub fault: bool,
+    /// The name of its kind.
+    pub kind: &'static str,
+    /// What is found.
+    pub text: &'a [u8],
+    /// What to do about it.
+    pub hint: &'a [u8],
+    /// The line.
+    pub source: &'a [u8],
+}
+
+/// Lines of JSON, or reports.
+pub fn format_if(json: bool) -> Format
+    ensures { result ≡ Findings.format_if json }
+{
+    if json { Format::Json } else { Format::Text }
+}
+
+/// The format that a word of `--format` names; reports if it is none of the others.
+fn format_named(word: &str) -> Format
+    ensures { result ≡ Checks.format_named word.now }
+{
+    if word == "json" {
+        return Format::Json;
+    }
+    if word == "github" {
+        return Format::Github;
+    }
+    if word == "sarif" {
+        return Format::Sarif;
+    }
+    Format::Text
+}
+
+/// The format of findings: `--json` comes before a word of `--format`.
+pub fn format_of(json: bool, word: &Option<String>) -> Format
+    ensures { result ≡ Checks.format_of json (option_map string_bytes word.now) }
+{
+    if json {
+        return Format::Json;
+    }
+    match word {
+        Some(word) => format_named(word.as_str()),
+        None => Format::Text,
+    }
+}
+
+/// The column after so many bytes of a line, from 1.
+fn column_of(place: usize) -> u64
+    ensures { result ≡ Findings.column place }
+{
+    (place as u64).saturating_add(1)
+}
+
+/// Its severity.
+fn severity_name(fault: bool) -> &'static str
+    ensures { result.now ≡ Findings.severity_name fault }
+{
+    if fault { "error" } else { "warning" }
+}
+
+/// Adds a number. The only error, here and below, is `AllocError`.
+pub fn push_count(text: &mut Vec<u8>, number: u64) -> Result<(), AllocError>
+    ensures { OnOk result (text.new.items ≡ text.old.items ++ decimal number) }
+{
+    let mut digits = Buffer::new();
+    text.extend_from_slice(digits.format(number).as_bytes())?;
+    Ok(())
+}
+
+/// Adds its path and line.
+fn push_line_place(text: &mut Vec<u8>, found: &Finding<'_>) -> Result<(), AllocError>
+    ensures { OnOk result (text.new.items
+        ≡ text.old.items ++ place_text found.now.path.now found.now.line) }
+{
+    push_name(text, found.path)?;
+    text.push(b':')?;
+    push_count(text, found.line)
+}
+
+/// Adds its column and severity, after colons.
+fn push_severity(text: &mut Vec<u8>, found: &Finding<'_>) -> Result<(), AllocError>
+    ensures { OnOk result (text.new.items ≡ text.old.items
+        ++ (byte ":" ∷ (decimal (Findings.column found.now.place) ++ (codes ": "
+        ++ Findings.severity_name found.now.fault)))) }
+{
+    text.push(b':')?;
+    push_count(text, column_of(found.place))?;
+    text.extend_from_slice(b": ")?;
+    text.extend_from_slice(severity_name(found.fault).as_bytes())?;
+    Ok(())
+}
+
+/// Adds what it is, after a colon, and its kind.
+fn push_named(text: &mut Vec<u8>, found: &Finding<'_>) -> Result<(), AllocError>
+    ensures { OnOk result (text.new.items ≡ text.old.items ++ (codes ": "
+        ++ (found.now.text.now ++ (codes " [" ++ (found.now.kind.now ++ codes "]\n"))))) }
+{
+    text.extend_from_slice(b": ")?;
+    text.extend_from_slice(found.text)?;
+    text.extend_from_slice(b" [")?;
+    text.extend_from_slice(found.kind.as_bytes())?;
+    text.extend_from_slice(b"]\n")?;
+    Ok(())
+}
+
+/// Adds its line, as compilers write it.
+fn push_finding_line(text: &mut Vec<u8>, found: &Finding<'_>) -> Result<(), AllocError>
+    ensures { OnOk result (text.new.items
+        ≡ text.old.items ++ Findings.finding_line (finding_of found.now)) }
+{
+    push_line_place(text, found)?;
+    push_severity(text, found)?;
+    push_named(text, found)
+}
+
+/// Adds the line of what to do.
+fn push_hint_line(text: &mut Vec<u8>, hint: &[u8]) -> Result<(), AllocError>
+    ensures { OnOk result (text.new.items ≡ text.old.items ++ hint_line hint.now) }
+{
+    text.extend_from_slice(b"    hint: ")?;
+    text.extend_from_slice(hint)?;
+    text.push(b'\n')?;
+    Ok(())
+}
+
+/// Adds its report: its line, the line of the file, the mark, and what to do.
+fn push_report(alloc: Global, text: &mut Vec<u8>, found: &Finding<'_>) -> Result<(), AllocError>
+    ensures { OnOk result
+        (text.new.items ≡ text.old.items ++ Findings.report (finding_of found.now)) }
+{
+    push_finding_line(text, found)?;
+    push_shown_line(text, found.source, found.place)?;
+    push_mark_line(alloc, text, found.source, found.place)?;
+    push_hint_line(text, found.hint)
+}
+
+/// Adds its object.
+fn put_finding(json: &mut Writer, found: &Finding<'_>) -> Result<(), AllocError>
+    ensures before { json.new.before ≡ json.old.before }
+    ensures tokens { OnOk result (json.new.tokens ≡ json.old.tokens
+        ++ json_tokens (Findings.finding_json (finding_of found.now))) }
+{
+    json.begin_object()?;
+    put_member(json, "path", found.path)?;
+    put_count(json, "line", found.line)?;
+    put_count(json, "column", column_of(found.place))?;
+    put_member(json, "kind", found.kind.as_bytes())?;
+    put_member(json, "text", found.text)?;
+    put_member(json, "hint", found.hint)?;
+    put_member(json, "severity", severity_name(found.fault).as_bytes())?;
+    put_member(json, "source", found.source)?;
+    json.end_object()
+}
+
+/// Its line of JSON.
+fn json_of(alloc: Global, found: &Finding<'_>) -> Result<Vec<u8>, AllocError>
+    ensures { IfOk result
+        (λ line. line.items ≡ json_line (Findings.finding_json (finding_of found.now))) }
+{
+    let mut json = Writer::new(Vec::new(alloc));
+    put_finding(&mut json, found)?;
+    ended(alloc, json)
+}
+
+/// What is found, and what to do about it.
+fn message(alloc: Global, found: &Finding<'_>) -> Result<Vec<u8>, AllocError>
+    ensures { IfOk result (λ text. text.items ≡ Findings.message (finding_of found.now)) }
+{
+    let mut text = Vec::new(alloc);
+    text.extend_from_slice(found.text)?;
+    text.extend_from_slice(b"; ")?;
+    text.extend_from_slice(found.hint)?;
+    Ok(text)
+}
+
+/// A path, as it is shown.
+fn name_of(alloc: Global, path: &[u8]) -> Result<Vec<u8>, AllocError>
+    ensures { IfOk result (λ name. name.items ≡ shown_name path.now) }
+{
+    let mut name = Vec::new(alloc);
+    push_name(&mut name, path)?;
+    Ok(name)
+}
+
+/// It, with another path and text, as it stands beside its line.
+fn beside<'a>(found: &Finding<'a>, path: &'a [u8], text: &'a [u8]) -> Annotation<'a>
+    ensures severity { result.severity.now ≡ Findings.severity_name found.now.fault }
+    ensures path { result.path.now ≡ path.now }
+    ensures line { result.line ≡ found.now.line }
+    ensures column { result.column ≡ Findings.column found.now.place }
+    ensures kind { result.kind.now ≡ found.now.kind.now }
+    ensures text { result.text.now ≡ text.now }
+{
+    Annotation {
+        severity: severity_name(found.fault),
+        path,
+        line: found.line,
+        column: column_of(found.place),
+        kind: found.kind,
+        text,
+    }
+}
+
+/// Adds its workflow command of GitHub.
+fn push_github(alloc: Global, text: &mut Vec<u8>, found: &Finding<'_>) -> Result<(), AllocError>
+    ensures { OnOk result (text.new.items ≡ text.old.items
+        ++ Findings.told Format.Github (finding_of found.now)) }
+{
+    let name = name_of(alloc, found.path)?;
+    let message = message(alloc, found)?;
+    push_annotation(text, &beside(found, &name, &message))
+}
+
+/// Adds its result of a log in SARIF.
+fn push_sarif(alloc: Global, text: &mut Vec<u8>, found: &Finding<'_>) -> Result<(), AllocError>
+    ensures { OnOk result (text.new.items ≡ text.old.items
+        ++ Findings.told Format.Sarif (finding_of found.now)) }
+{
+    let message = message(alloc, found)?;
+    push_result(alloc, text, &beside(found, found.path, &message))
+}
+
+/// Adds what is printed of it.
+pub fn push_finding(
+    alloc: Global,
+    format: Format,
+    text: &mut Vec<u8>,
+    found: &Finding<'_>,
+) -> Result<(), AllocError>
+    ensures { OnOk result
+        (text.new.items ≡ text.old.items ++ Findings.told format (finding_of found.now)) }
+{
+    match format {
+        Format::Text => push_report(alloc, text, found),
+        Format::Json => text.extend_from_slice(&json_of(alloc, found)?),
+        Format::Github => push_github(alloc, text, found),
+        Format::Sarif => push_sarif(alloc, text, found),
+    }
+}

@@ -1,0 +1,174 @@
+//! Findings as a log in SARIF.
+ghost use Rattle.std.specs.Prelude.{◌≡◌, ◌++◌, ◌∷◌, [], IfOk, OnOk, codes, drop, flat_map};
+ghost use Rattle.hex.specs.Hex.{encode_upper};
+ghost use Rattle.hwdb_spec.specs.Lines.{byte};
+ghost use Rattle.json.specs.Tree.{json_tokens};
+ghost use Rattle.hwdb_spec_commands.specs.Json.{json_text, object_of, text_json};
+ghost use Rattle.hwdb_spec_commands.specs.Logs;
+
+use crate::annotations::Annotation;
+use crate::findings::push_count;
+use hwdb_show::{closed, put_member};
+use json::Writer;
+use std::alloc::{AllocError, Global};
+
+/// What a log begins with.
+const LOG_HEAD: &str =
+    "{\"$schema\":\"https://json.schemastore.org/sarif-2.1.0.json\",\"version\":\"2.1.0\",\"runs\":[{\"tool\":{\"driver\":{\"name\":\"hwdb\"}},\"results\":[\n";
+
+/// What it ends with.
+const LOG_END: &str = "]}]}\n";
+
+/// The hexadecimal digits of a URI.
+const DIGITS: [u8; 16] = *b"0123456789ABCDEF";
+
+/// Whether a byte of a path stands for itself in a URI.
+fn is_plain(byte: u8) -> bool
+    ensures { result ≡ Logs.is_plain byte }
+{
+    matches!(
+        byte,
+        b'0'..=b'9' | b'A'..=b'Z' | b'a'..=b'z' | b'-' | b'.' | b'_' | b'~' | b'/'
+    )
+}
+
+/// Adds `%` and a byte's two hexadecimal digits. The only error, here and below, is `AllocError`.
+#[tactic(auto, unfolding(hex::specs::Hex::encode_with))]
+fn push_escape(text: &mut Vec<u8>, byte: u8) -> Result<(), AllocError>
+    ensures { OnOk result
+        (text.new.items ≡ text.old.items ++ (byte "%" ∷ encode_upper (byte ∷ []))) }
+{
+    text.push(b'%')?;
+    text.push(DIGITS[(byte / 16) as usize])?;
+    text.push(DIGITS[(byte % 16) as usize])?;
+    Ok(())
+}
+
+/// Adds a byte of a path in a URI.
+fn push_uri_byte(text: &mut Vec<u8>, byte: u8) -> Result<(), AllocError>
+    ensures { OnOk result (text.new.items ≡ text.old.items ++ Logs.uri_byte byte) }
+{
+    if is_plain(byte) {
+        text.push(byte)?;
+        return Ok(());
+    }
+    push_escape(text, byte)
+}
+
+/// Adds a path in a URI.
+fn push_uri(text: &mut Vec<u8>, path: &[u8]) -> Result<(), AllocError>
+    ensures { OnOk result (text.new.items ≡ text.old.items ++ flat_map Logs.uri_byte path.now) }
+{
+    for byte in path {
+        push_uri_byte(text, *byte)?;
+    }
+    Ok(())
+}
+
+/// Adds where a finding begins, after its path.
+fn push_region(text: &mut Vec<u8>, found: &Annotation<'_>) -> Result<(), AllocError>
+    ensures { OnOk result (text.new.items
+        ≡ text.old.items ++ Logs.region_part found.now.line found.now.column) }
+{
+    text.extend_from_slice("\"},\"region\":{\"startLine\":".as_bytes())?;
+    push_count(text, found.line)?;
+    text.extend_from_slice(",\"startColumn\":".as_bytes())?;
+    push_count(text, found.column)?;
+    text.extend_from_slice(b"}}}]")?;
+    Ok(())
+}
+
+/// Adds where a finding is.
+fn push_place(text: &mut Vec<u8>, found: &Annotation<'_>) -> Result<(), AllocError>
+    ensures { OnOk result (text.new.items ≡ text.old.items
+        ++ Logs.place_member found.now.path.now found.now.line found.now.column) }
+{
+    text.extend_from_slice(
+        "\"locations\":[{\"physicalLocation\":{\"artifactLocation\":{\"uri\":\"".as_bytes(),
+    )?;
+    push_uri(text, found.path)?;
+    push_region(text, found)
+}
+
+/// Adds the object of a text.
+fn put_object(json: &mut Writer, text: &[u8]) -> Result<(), AllocError>
+    ensures before { json.new.before ≡ json.old.before }
+    ensures tokens { OnOk result (json.new.tokens ≡ json.old.tokens
+        ++ json_tokens (object_of ((codes "text", text_json text.now) ∷ []))) }
+{
+    json.begin_object()?;
+    put_member(json, "text", text)?;
+    json.end_object()
+}
+
+/// A text as an object.
+fn object_of(alloc: Global, text: &[u8]) -> Result<Vec<u8>, AllocError>
+    ensures { IfOk result (λ json. json.items
+        ≡ json_text (object_of ((codes "text", text_json text.now) ∷ []))) }
+{
+    let mut json = Writer::new(Vec::new(alloc));
+    put_object(&mut json, text)?;
+    closed(alloc, json)
+}
+
+/// Adds what is found.
+fn push_message(alloc: Global, text: &mut Vec<u8>, found: &[u8]) -> Result<(), AllocError>
+    ensures { OnOk result (text.new.items ≡ text.old.items ++ Logs.message_member found.now) }
+{
+    let object = object_of(alloc, found)?;
+    text.extend_from_slice("\"message\":".as_bytes())?;
+    text.extend_from_slice(&object)?;
+    Ok(())
+}
+
+/// Adds the kind of a finding and its severity.
+fn push_rule(text: &mut Vec<u8>, found: &Annotation<'_>) -> Result<(), AllocError>
+    ensures { OnOk result (text.new.items
+        ≡ text.old.items ++ Logs.rule_part found.now.kind.now found.now.severity.now) }
+{
+    text.extend_from_slice(",{\"ruleId\":\"".as_bytes())?;
+    text.extend_from_slice(found.kind.as_bytes())?;
+    text.extend_from_slice("\",\"level\":\"".as_bytes())?;
+    text.extend_from_slice(found.severity.as_bytes())?;
+    text.extend_from_slice("\",".as_bytes())?;
+    Ok(())
+}
+
+/// Adds the result of a finding, after a comma, on a line of its own.
+pub fn push_result(
+    alloc: Global,
+    text: &mut Vec<u8>,
+    found: &Annotation<'_>,
+) -> Result<(), AllocError>
+    ensures { OnOk result (text.new.items ≡ text.old.items ++ Logs.result_line
+        found.now.severity.now found.now.path.now found.now.line found.now.column
+        found.now.kind.now found.now.text.now) }
+{
+    push_rule(text, found)?;
+    push_message(alloc, text, found.text)?;
+    text.push(b',')?;
+    push_place(text, found)?;
+    text.extend_from_slice(b"}\n")?;
+    Ok(())
+}
+
+/// The bytes after the first one.
+fn after_first(bytes: &[u8]) -> &[u8]
+    ensures { result.now ≡ drop 1 bytes.now }
+{
+    if bytes.is_empty() {
+        return bytes;
+    }
+    &bytes[1..]
+}
+
+/// The log of results.
+pub fn log_of(alloc: Global, results: &[u8]) -> Result<Vec<u8>, AllocError>
+    ensures { IfOk result (λ log. log.items ≡ Logs.log_text results.now) }
+{
+    let mut log = Vec::new(alloc);
+    log.extend_from_slice(LOG_HEAD.as_bytes())?;
+    log.extend_from_slice(after_first(results))?;
+    log.extend_from_slice(LOG_END.as_bytes())?;
+    Ok(log)
+}

@@ -1,0 +1,51 @@
+-- Findings as a log that tools of code review read: SARIF 2.1.0, of OASIS. Its names are those of sections 3.13 (the log), 3.14 (a run),
+-- 3.27 (a result), 3.29 (a place) and 3.30 (a region). How it is laid out is our choice.
+use Rattle.std.specs.Prelude.{Bool, ℕ, List, [], ◌∷◌, ◌++◌, ◌||◌, codes, drop, flat_map, if◌then◌else◌}
+use Rattle.std.specs.Fmt.{decimal}
+use Rattle.hex.specs.Hex.{encode_upper}
+use Rattle.hwdb_spec.specs.Lines.{byte, has}
+use Rattle.hwdb_spec.specs.Patterns.{in_span}
+use Rattle.hwdb_spec_commands.specs.Json.{json_text, object_of, text_json}
+
+-- whether a byte of a path stands for itself in a URI: a digit, a letter, one of four others, or a `/` (RFC 3986, 2.3 and 3.3)
+abbrev pub is_plain : ℕ → Bool
+is_plain b = in_span b (48, 57) || (in_span b (65, 90) || (in_span b (97, 122) || has b (codes "-._~/")))
+
+-- a byte of a path in a URI: another one as `%` and its two hexadecimal digits (2.1)
+abbrev pub uri_byte : ℕ → List ℕ
+uri_byte b = if is_plain b then b ∷ [] else byte "%" ∷ encode_upper (b ∷ [])
+
+-- where it begins, after the path: the column counts bytes, as compilers do
+abbrev pub region_part : (line column : ℕ) → List ℕ
+region_part line column = codes "\"},\"region\":{\"startLine\":" ++ (decimal line ++ (codes ",\"startColumn\":" ++ (decimal column ++ codes "}}}]")))
+
+-- where a finding is
+abbrev pub place_member : (path : List ℕ) (line column : ℕ) → List ℕ
+place_member path line column =
+    codes "\"locations\":[{\"physicalLocation\":{\"artifactLocation\":{\"uri\":\"" ++ (flat_map uri_byte path ++ region_part line column)
+
+-- what is found, and what to do about it
+abbrev pub message_member : (text : List ℕ) → List ℕ
+message_member text = codes "\"message\":" ++ json_text (object_of ((codes "text", text_json text) ∷ []))
+
+-- the kind of a finding and its severity, which are words that need no escape
+abbrev pub rule_part : (kind severity : List ℕ) → List ℕ
+rule_part kind severity = codes ",{\"ruleId\":\"" ++ (kind ++ (codes "\",\"level\":\"" ++ (severity ++ codes "\",")))
+
+-- a result of the log, after a comma, on a line of its own
+abbrev pub result_line : (severity path : List ℕ) (line column : ℕ) (kind text : List ℕ) → List ℕ
+result_line severity path line column kind text =
+    rule_part kind severity ++ (message_member text ++ (byte "," ∷ (place_member path line column ++ codes "}\n")))
+
+-- what the log begins with
+abbrev pub log_head : List ℕ
+log_head =
+    codes "{\"$schema\":\"https://json.schemastore.org/sarif-2.1.0.json\",\"version\":\"2.1.0\",\"runs\":[{\"tool\":{\"driver\":{\"name\":\"hwdb\"}},\"results\":[\n"
+
+-- what it ends with
+abbrev pub log_end : List ℕ
+log_end = codes "]}]}\n"
+
+-- the log of results: there is no comma before the first of them
+abbrev pub log_text : (results : List ℕ) → List ℕ
+log_text results = log_head ++ (drop 1 results ++ log_end)
