@@ -155,6 +155,7 @@ check-peer: $(PROGRAM) out/libhwdb.so.0
 	tests/peer/clients out/hwdb
 	tests/peer/device out/hwdb
 	tests/peer/near out/hwdb
+	tests/peer/editors out/hwdb
 	tests/peer/parse-hwdb
 	tests/peer/machines out/hwdb
 	tests/peer/releases out/hwdb out/libhwdb.so.0

@@ -216,25 +216,6 @@ fn name_of(alloc: Global, path: &[u8]) -> Result<Vec<u8>, AllocError>
     Ok(name)
 }
 
-/// It, with another path and text, as it stands beside its line.
-fn beside<'a>(found: &Finding<'a>, path: &'a [u8], text: &'a [u8]) -> Annotation<'a>
-    ensures severity { result.severity.now ≡ Findings.severity_name found.now.fault }
-    ensures path { result.path.now ≡ path.now }
-    ensures line { result.line ≡ found.now.line }
-    ensures column { result.column ≡ Findings.column found.now.place }
-    ensures kind { result.kind.now ≡ found.now.kind.now }
-    ensures text { result.text.now ≡ text.now }
-{
-    Annotation {
-        severity: severity_name(found.fault),
-        path,
-        line: found.line,
-        column: column_of(found.place),
-        kind: found.kind,
-        text,
-    }
-}
-
 /// Adds its workflow command of GitHub.
 fn push_github(alloc: Global, text: &mut Vec<u8>, found: &Finding<'_>) -> Result<(), AllocError>
     ensures { OnOk result (text.new.items ≡ text.old.items
@@ -242,7 +223,15 @@ fn push_github(alloc: Global, text: &mut Vec<u8>, found: &Finding<'_>) -> Result
 {
     let name = name_of(alloc, found.path)?;
     let message = message(alloc, found)?;
-    push_annotation(text, &beside(found, &name, &message))
+    let annotation = Annotation {
+        severity: severity_name(found.fault),
+        path: &name,
+        line: found.line,
+        column: column_of(found.place),
+        kind: found.kind,
+        text: &message,
+    };
+    push_annotation(text, &annotation)
 }
 
 /// Adds its result of a log in SARIF.
@@ -251,7 +240,15 @@ fn push_sarif(alloc: Global, text: &mut Vec<u8>, found: &Finding<'_>) -> Result<
         ++ Findings.told Format.Sarif (finding_of found.now)) }
 {
     let message = message(alloc, found)?;
-    push_result(alloc, text, &beside(found, found.path, &message))
+    let result = Annotation {
+        severity: severity_name(found.fault),
+        path: found.path,
+        line: found.line,
+        column: column_of(found.place),
+        kind: found.kind,
+        text: &message,
+    };
+    push_result(alloc, text, &result)
 }
 
 /// Adds what is printed of it.

@@ -30,12 +30,12 @@ fn hint_of(kind: FaultKind) -> &'static str
 }
 
 /// Adds what is printed of a fault of a line with this text. The only error is `AllocError`.
-pub fn push_fault(
+pub fn push_fault<'a>(
     alloc: Global,
     format: Format,
     text: &mut Vec<u8>,
-    path: &[u8],
-    line: &[u8],
+    path: &'a [u8],
+    line: &'a [u8],
     fault: Fault,
 ) -> Result<(), AllocError>
     ensures { OnOk result

@@ -213,12 +213,12 @@ fn finding_of<'a>(
 }
 
 /// Adds what is printed of a warning.
-fn push_told(
+fn push_told<'a>(
     alloc: Global,
     format: Format,
     text: &mut Vec<u8>,
-    path: &[u8],
-    line: &Read<'_>,
+    path: &'a [u8],
+    line: &Read<'a>,
     kind: WarningKind,
 ) -> Result<(), AllocError>
     requires { IsRead line.now }

@@ -79,7 +79,6 @@ returns-in-Update-clause-done g c = λ tells.
     let I = told_by g.I.Source.left g.I.Source.failures in
     let O = told_by g.O.Sink.taken g.O.Sink.failures in
     let E = told_by g.E.Sink.taken g.E.Sink.failures in
-    let seen = g.D.Store.seen c.args.system.now in
     let before : World = record { files = F c.args.system.now; input = I c.args.input.now; out = O c.args.out.now; err = E c.args.err.now; devices = V c.args.system.now } in
     let now : World = record { files = F c.update_telling.new.system; input = I c.args.input.now; out = O c.args.out.now; err = E c.update_telling.new.err; devices = V c.update_telling.new.system } in
     let task = Update c.in-Update.verbose c.in-Update.skip_unreadable in
@@ -96,7 +95,6 @@ returns-in-Update-clause-refused g c = λ tells.
     let I = told_by g.I.Source.left g.I.Source.failures in
     let O = told_by g.O.Sink.taken g.O.Sink.failures in
     let E = told_by g.E.Sink.taken g.E.Sink.failures in
-    let seen = g.D.Store.seen c.args.system.now in
     let before : World = record { files = F c.args.system.now; input = I c.args.input.now; out = O c.args.out.now; err = E c.args.err.now; devices = V c.args.system.now } in
     let now : World = record { files = F c.update_telling.new.system; input = I c.args.input.now; out = O c.args.out.now; err = E c.update_telling.new.err; devices = V c.update_telling.new.system } in
     let task = Update c.in-Update.verbose c.in-Update.skip_unreadable in
@@ -215,7 +213,6 @@ returns-in-Diff-clause-refused g c = λ tells.
     let of_old = c.as_str-old.ensures.value in
     let of_new = c.as_str-new.ensures.value in
     let new_path = c.as_str-new.result.now in
-    let given = map string_bytes c.in-Diff.devices.items in
     let items = c.deref-in-Diff.ensures.value in
     let paths = map string_bytes c.deref-in-Diff.result.now in
     let answer = c.diff-answer.result in
@@ -325,7 +322,6 @@ returns-in-Test-clause-refused g c = λ tells.
     let of_path = c.text_of-database.ensures in
     let given = map string_bytes c.in-Test.files.items in
     let items = c.deref-in-Test.ensures.value in
-    let paths = map string_bytes c.deref-in-Test.result.now in
     let answer = c.test-answer.result in
     subst (λ t. IfErr c.printed-in-Test.result (IsNotDone t (root_of job) job.usr job.strict before now)) (sym c.in-Test.is)
     (each_error _ (IsNotDone task (root_of job) job.usr job.strict before now) c.printed-in-Test.result (λ r both. ((both.0, record { same = λ p. refl; no_more = λ p v l. l }), both.1))
@@ -353,15 +349,11 @@ returns-in-Verify-clause-done g c = λ tells.
     let seen = g.D.Store.seen c.args.system.now in
     let before : World = record { files = F c.args.system.now; input = I c.args.input.now; out = O c.args.out.now; err = E c.args.err.now; devices = V c.args.system.now } in
     let now : World = record { files = F c.args.system.now; input = I c.verify-answer.new.input; out = O c.printed-in-Verify.new.out; err = E c.printed-in-Verify.new.err; devices = V c.args.system.now } in
-    let fails = before.files.fails in
     let input = before.input.bytes in
-    let n = before.input.failures in
-    let m = now.input.failures in
     let task = Verify c.in-Verify.database in
     let root = c.root_of-root.result.now in
     let of_root = c.root_of-root.ensures in
     let given = option_map string_bytes c.in-Verify.database in
-    let path = option_map (λ t. t.now) c.text_of-given-in-Verify.result in
     let of_given = c.text_of-given-in-Verify.ensures in
     let answer = c.verify-answer.result in
     let is = both_values _ _ (λ a. (a.status ≡ 0) × OnOut (λ text. OfNamed given input seen (λ g f. IsPrinted g (root_of job) IsSummary f text)) (texts_in a)) answer (λ a zero p. (zero, p)) c.verify-answer.ensures.status
@@ -390,7 +382,6 @@ returns-in-Verify-clause-refused g c = λ tells.
     let root = c.root_of-root.result.now in
     let of_root = c.root_of-root.ensures in
     let given = option_map string_bytes c.in-Verify.database in
-    let path = option_map (λ t. t.now) c.text_of-given-in-Verify.result in
     let of_given = c.text_of-given-in-Verify.ensures in
     let answer = c.verify-answer.result in
     let is = both_values _ _ (λ a. (a.status ≡ 0) × OnOut (λ text. OfNamed given input seen (λ g f. IsPrinted g (root_of job) IsSummary f text)) (texts_in a)) answer (λ a zero p. (zero, p)) c.verify-answer.ensures.status
@@ -416,15 +407,11 @@ returns-in-Dump-clause-done g c = λ tells.
     let seen = g.D.Store.seen c.args.system.now in
     let before : World = record { files = F c.args.system.now; input = I c.args.input.now; out = O c.args.out.now; err = E c.args.err.now; devices = V c.args.system.now } in
     let now : World = record { files = F c.args.system.now; input = I c.dump-answer.new.input; out = O c.printed-in-Dump.new.out; err = E c.printed-in-Dump.new.err; devices = V c.args.system.now } in
-    let fails = before.files.fails in
     let input = before.input.bytes in
-    let n = before.input.failures in
-    let m = now.input.failures in
     let task = Dump c.in-Dump.database in
     let root = c.root_of-root.result.now in
     let of_root = c.root_of-root.ensures in
     let given = option_map string_bytes c.in-Dump.database in
-    let path = option_map (λ t. t.now) c.text_of-given-in-Dump.result in
     let of_given = c.text_of-given-in-Dump.ensures in
     let answer = c.dump-answer.result in
     let is = both_values _ _ (λ a. (a.status ≡ 0) × OnOut (λ text. OfNamed given input seen (λ g f. IsDumped g (root_of job) f text)) (texts_in a)) answer (λ a zero p. (zero, p)) c.dump-answer.ensures.status
@@ -453,7 +440,6 @@ returns-in-Dump-clause-refused g c = λ tells.
     let root = c.root_of-root.result.now in
     let of_root = c.root_of-root.ensures in
     let given = option_map string_bytes c.in-Dump.database in
-    let path = option_map (λ t. t.now) c.text_of-given-in-Dump.result in
     let of_given = c.text_of-given-in-Dump.ensures in
     let answer = c.dump-answer.result in
     let is = both_values _ _ (λ a. (a.status ≡ 0) × OnOut (λ text. OfNamed given input seen (λ g f. IsDumped g (root_of job) f text)) (texts_in a)) answer (λ a zero p. (zero, p)) c.dump-answer.ensures.status
