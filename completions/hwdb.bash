@@ -64,7 +64,7 @@ _hwdb() {
         [list]='-r --root --color --after --limit --text --json -h --help'
         [near]='-r --root --color --limit --text --json -h --help'
         [device]='-r --root --color --text --strings --json --pattern -h --help'
-        [check]='-s --strict -r --root --color --allow --json -h --help'
+        [check]='-s --strict -r --root --color --allow --format --json -h --help'
         [test]='-r --root --color --database --text --json -h --help'
         [diff]='-r --root --color --devices --stat --json -h --help'
         [verify]='-r --root --color --text -h --help'
@@ -79,10 +79,12 @@ _hwdb() {
         [--after]='POS'
         [--limit]='N'
         [--allow]='KIND'
+        [--format]='FORMAT'
         [--database]='DATABASE'
         [--devices]='FILE'
     )
     local -A kinds_of=(
+        [FORMAT]='text json github sarif'
         [KIND]='byte-order-mark leading-tab carriage-return open-bracket empty-range spaced-equals cut-value repeated-match replaced near-name old-name scan-code unknown-key unfit-value zero-row singular-matrix two-defaults unread unknown-property unpaired unknown-prefix dead-pattern unlikely-pattern too-long-for-udev'
         [WHEN]='auto always never'
     )
