@@ -9,6 +9,7 @@ use Rattle.hwdb_spec_commands.specs.Findings.{faults_text, warnings_text}
 use Rattle.hwdb_spec_commands.specs.Kinds.{is_told}
 use Rattle.hwdb_spec_commands.specs.Warnings.{line_warnings, warnings}
 use Rattle.hwdb_spec_commands.specs.declared.formats.Format.{Format}
+use Rattle.hwdb_spec_commands.specs.declared.formats.Format.TheVariants.{Json as JsonLines, Text as Reports}
 
 -- each line of a file is there once, in order
 abbrev pub LinesAreMarked : Type 0
@@ -58,8 +59,8 @@ pub record CommentRows : Type 0 where
   pub unknown : unknown_names (codes "# hwdb: allow unred, unread, no-equals") ≡ codes "unred" ∷ codes "no-equals" ∷ []
   pub meant : unknown_hint (codes "unred") ≡ codes "did you mean unread?"
   pub fault : unknown_hint (codes "no-equals") ≡ codes "hwdb-format(7) has all kinds; a fault can't be allowed"
-  pub empty : left_text true [] (codes "f") [] ≡ warnings_text true [] (codes "f") []
+  pub empty : left_text JsonLines [] (codes "f") [] ≡ warnings_text JsonLines [] (codes "f") []
   pub none : warnings_left [] [] ≡ warnings [] []
   pub place : comment_place (codes " K=1 # hwdb: allow x") ≡ 5
-  pub report : told_unknown false (codes "f") (record { number = 3; text = codes "# hwdb: allow unred" }) (codes "unred")
-      ≡ codes "f:3: warning: no kind of warning that a comment may allow: unred\n    # hwdb: allow unred\n    ^\n    hint: did you mean unread?\n"
+  pub report : told_unknown Reports (codes "f") (record { number = 3; text = codes "# hwdb: allow unred" }) (codes "unred")
+      ≡ codes "f:3:1: warning: no kind of warning that a comment may allow: unred [unknown-kind]\n    # hwdb: allow unred\n    ^\n    hint: did you mean unread?\n"

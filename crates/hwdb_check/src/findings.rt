@@ -1,6 +1,7 @@
 //! What is found in a line, in each format.
 ghost use Rattle.std.specs.Prelude.{◌≡◌, ◌++◌, ◌∷◌, IfOk, OnOk, codes, option_map, string_bytes};
 ghost use Rattle.std.specs.Fmt.{decimal};
+ghost use Rattle.std.specs.Str.{bytes_eq};
 ghost use Rattle.json.specs.Tree.{json_tokens};
 ghost use Rattle.hwdb_spec.specs.Lines.{byte};
 ghost use Rattle.hwdb_spec.specs.Texts.{place_text};
@@ -49,17 +50,24 @@ pub fn format_if(json: bool) -> Format
     if json { Format::Json } else { Format::Text }
 }
 
+/// Whether a word is this name.
+fn is_name(word: &str, name: &str) -> bool
+    ensures { result ≡ bytes_eq word.now name.now }
+{
+    word == name
+}
+
 /// The format that a word of `--format` names; reports if it is none of the others.
 fn format_named(word: &str) -> Format
     ensures { result ≡ Checks.format_named word.now }
 {
-    if word == "json" {
+    if is_name(word, "json") {
         return Format::Json;
     }
-    if word == "github" {
+    if is_name(word, "github") {
         return Format::Github;
     }
-    if word == "sarif" {
+    if is_name(word, "sarif") {
         return Format::Sarif;
     }
     Format::Text

@@ -34,13 +34,13 @@ fn is_plain(byte: u8) -> bool
 
 /// Adds `%` and a byte's two hexadecimal digits. The only error, here and below, is `AllocError`.
 #[tactic(auto, unfolding(hex::specs::Hex::encode_with))]
-fn push_escape(text: &mut Vec<u8>, byte: u8) -> Result<(), AllocError>
+fn push_escape(text: &mut Vec<u8>, code: u8) -> Result<(), AllocError>
     ensures { OnOk result
-        (text.new.items ≡ text.old.items ++ (byte "%" ∷ encode_upper (byte ∷ []))) }
+        (text.new.items ≡ text.old.items ++ (byte "%" ∷ encode_upper (code ∷ []))) }
 {
     text.push(b'%')?;
-    text.push(DIGITS[(byte / 16) as usize])?;
-    text.push(DIGITS[(byte % 16) as usize])?;
+    text.push(DIGITS[(code / 16) as usize])?;
+    text.push(DIGITS[(code % 16) as usize])?;
     Ok(())
 }
 

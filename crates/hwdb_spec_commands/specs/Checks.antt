@@ -4,7 +4,8 @@ use Rattle.std.specs.Fmt.{decimal}
 use Rattle.hwdb_spec.specs.Lines.{byte}
 use Rattle.hwdb_spec.specs.Records.{assignments, faults}
 use Rattle.std.specs.Option.{unwrap_or}
-use Rattle.hwdb_spec.specs.Folders.{Source, same}
+use Rattle.std.specs.Str.{bytes_eq}
+use Rattle.hwdb_spec.specs.Folders.{Source}
 use Rattle.hwdb_spec_commands.specs.AllowedKinds.{file_text, unknown_left, warnings_left}
 use Rattle.hwdb_spec_commands.specs.Logs.{log_text}
 use Rattle.hwdb_spec_commands.specs.declared.Tally.{Tally}
@@ -57,8 +58,8 @@ tally_line t =
 -- the format that a word of `--format` names; reports if it is none of the others
 abbrev pub format_named : (word : List ℕ) → Format
 format_named word =
-    if same word (codes "json") then JsonLines
-    else (if same word (codes "github") then Github else (if same word (codes "sarif") then Sarif else Reports))
+    if bytes_eq word (codes "json") then JsonLines
+    else (if bytes_eq word (codes "github") then Github else (if bytes_eq word (codes "sarif") then Sarif else Reports))
 
 -- the format of findings: `--json` is short for `--format json`, and comes before another one
 abbrev pub format_of : (json : Bool) → (word : Option (List ℕ)) → Format
