@@ -72,3 +72,4 @@ pub mod Reasons
 pub mod Replacements
 pub mod Sides
 pub mod OverText
+pub mod KeysAsked

@@ -1,6 +1,6 @@
 use Rattle.std.proofs.Common.{◌∷◌, ◌≡◌, ◌⊎◌, false, ap, inl, inr, ⊎_elim, refl, string_bytes, subst, sym, ◌==◌, length, map, not, Global, IfOk, IfErr, List, Option, String, ℕ}
 use Rattle.std.specs.Prelude.{option_map}
-use Rattle.hwdb_spec_commands.specs.declared.job.Task.TheVariants.{Ask, Check, Device, Diff, Dump, Near, Status, Test, Update, Verify}
+use Rattle.hwdb_spec_commands.specs.declared.job.Task.TheVariants.{Ask, Check, Device, Diff, Dump, Keys, Near, Status, Test, Update, Verify}
 use Rattle.hwdb_spec_commands.specs.Asked.{IsAnswered, IsDumped, IsListFrom, IsPrinted}
 use Rattle.hwdb_spec_commands.specs.Databases.{IsSummary}
 use Rattle.hwdb_spec_program.specs.GivenDatabases.{HasDatabaseReason, OfNamed, names_input}
@@ -9,9 +9,11 @@ use Rattle.hwdb_spec_commands.specs.CheckedFiles.{AreCheckedFiles, IsChecked}
 use Rattle.hwdb_spec_commands.specs.Done.{IsAsked, IsLeftByUpdateLess, OldOrUpdatedLess}
 use Rattle.hwdb_spec_commands.specs.Given.{any_dash, is_dash}
 use Rattle.hwdb_spec.specs.Outputs.{TookOne}
+use Rattle.hwdb_spec.specs.declared.errors.ToolError.TheVariants.{Memory}
 use Rattle.hwdb_spec_commands.specs.Status.{IsStatus}
 use Rattle.hwdb_spec_commands.specs.StatusErrors.{IsStatusRefused}
 use Rattle.hwdb_spec_commands.specs.Runs.{OnOut, World, files_by, told_by}
+use Rattle.hwdb_spec_commands.specs.KeysAsked.{keys_status, keys_text}
 use Rattle.hwdb_spec_commands.specs.NearAsked.{IsNear, near_form, near_limit}
 use Rattle.hwdb_spec_commands.specs.SysfsAnswers.{sight_by}
 use Rattle.hwdb_spec_program.specs.ComparedDatabases.{HasDiffReason, IsDiffed, IsDiffRefused}
@@ -39,6 +41,7 @@ use Rattle.hwdb_plan.specs.Dump.{dump_plan}
 use Rattle.hwdb_plan.specs.Ended.{ShowsEnd, outs}
 use Rattle.hwdb_plan.specs.Files.{OfInput}
 use Rattle.hwdb_plan.specs.Input.{OverGiven, OverNamed}
+use Rattle.hwdb_plan.specs.Keys.{keys_plan}
 use Rattle.hwdb_plan.specs.List.{list_plan}
 use Rattle.hwdb_plan.specs.Near.{near_plan}
 use Rattle.hwdb_plan.specs.Plans.{Follows}
@@ -46,8 +49,9 @@ use Rattle.hwdb_plan.specs.Status.{status_plan}
 use Rattle.hwdb_plan.specs.Test.{test_plan}
 use Rattle.hwdb_plan.specs.Verify.{verify_plan}
 use Rattle.hwdb_spec_commands.specs.Jobs.{IsTask}
+use Rattle.hwdb_spec_commands.specs.declared.refusals.Refusal.TheVariants.{Plain}
 use Rattle.hwdb_spec_commands.specs.declared.devices.DeviceForm.{DeviceForm}
-use Rattle.hwdb_tool.proofs.ProgramPlanLemmas.{ask_planned, check_planned, device_planned, diff_planned, dump_planned, explain_planned, list_planned, near_planned, of_words, query_planned, status_planned, test_planned, update_unplanned, verify_planned}
+use Rattle.hwdb_tool.proofs.ProgramPlanLemmas.{ask_planned, check_planned, device_planned, diff_planned, dump_planned, explain_planned, keys_planned, list_planned, near_planned, of_words, query_planned, status_planned, test_planned, update_unplanned, verify_planned}
 use Rattle.hwdb_tool.proofs.dispatch.run.Goals as goal
 use Rattle.hwdb_spec.specs.Lemmas.Calls.{each_error, each_value}
 
@@ -797,3 +801,60 @@ returns-in-Dump-clause-follows g c = λ tells words asked.
     (λ word rows is. dump_planned w sight input left before now result root c.args.job.now.strict word rows answer c.printed-in-Dump.ensures.prints c.in-Dump.database (subst (λ t. IsTask word rows t) c.in-Dump.is is)
     (subst (λ (d : Option (List ℕ)). OverNamed d input.bytes input.failures left.failures w (λ given reads. Follows end_of reads (dump_plan given root) answer)) c.text_of-given-in-Dump.ensures
     (subst (λ (r : List ℕ). OverNamed database input.bytes input.failures left.failures w (λ given reads. Follows end_of reads (dump_plan given r) answer)) c.root_of-root.ensures (c.dump-answer.ensures.follows tells))))
+
+pub returns-in-Keys-clause-done : goal.returns-in-Keys-clause-done
+returns-in-Keys-clause-done g c = λ tells.
+    let job = c.args.job.now in
+    let F = files_by g.D.Store.seen g.D.System.may_fail g.D.Store.may_leave g.D.Store.failures in
+    let V = sight_by g.D.DeviceFiles.answers in
+    let I = told_by g.I.Source.left g.I.Source.failures in
+    let O = told_by g.O.Sink.taken g.O.Sink.failures in
+    let E = told_by g.E.Sink.taken g.E.Sink.failures in
+    let seen = g.D.Store.seen c.args.system.now in
+    let before : World = record { files = F c.args.system.now; input = I c.args.input.now; out = O c.args.out.now; err = E c.args.err.now; devices = V c.args.system.now } in
+    let now : World = record { files = F c.args.system.now; input = I c.args.input.now; out = O c.printed-in-Keys.new.out; err = E c.printed-in-Keys.new.err; devices = V c.args.system.now } in
+    let json = c.in-Keys.json in
+    let task = Keys c.in-Keys.words json in
+    let answer = c.keys.result in
+    let found = subst (λ ws. IfOk answer (λ a. OnOut (λ text. (text ≡ keys_text json (map string_bytes ws)) × (a.status ≡ keys_status text)) (texts_in a))) c.deref-in-Keys.ensures.value c.keys.ensures.found in
+    subst (λ t. IfOk c.printed-in-Keys.result (λ s. IsTaskDone t (root_of job) job.usr job.strict s before now)) (sym c.in-Keys.is)
+    (each_value _ (λ s. IsTaskDone task (root_of job) job.usr job.strict s before now) c.printed-in-Keys.result (λ s done. (done, tt, record { same = λ p. refl; no_more = λ p v l. l }))
+    (printed_done answer c.printed-in-Keys.result (λ s t. IsAnswerOf task (root_of job) job.strict before.input.bytes seen s t) before.err now.err before.out now.out found c.printed-in-Keys.ensures.done))
+
+pub returns-in-Keys-clause-refused : goal.returns-in-Keys-clause-refused
+returns-in-Keys-clause-refused g c = λ tells.
+    let job = c.args.job.now in
+    let F = files_by g.D.Store.seen g.D.System.may_fail g.D.Store.may_leave g.D.Store.failures in
+    let V = sight_by g.D.DeviceFiles.answers in
+    let I = told_by g.I.Source.left g.I.Source.failures in
+    let O = told_by g.O.Sink.taken g.O.Sink.failures in
+    let E = told_by g.E.Sink.taken g.E.Sink.failures in
+    let seen = g.D.Store.seen c.args.system.now in
+    let before : World = record { files = F c.args.system.now; input = I c.args.input.now; out = O c.args.out.now; err = E c.args.err.now; devices = V c.args.system.now } in
+    let now : World = record { files = F c.args.system.now; input = I c.args.input.now; out = O c.printed-in-Keys.new.out; err = E c.printed-in-Keys.new.err; devices = V c.args.system.now } in
+    let json = c.in-Keys.json in
+    let task = Keys c.in-Keys.words json in
+    let answer = c.keys.result in
+    let found = subst (λ ws. IfOk answer (λ a. OnOut (λ text. (text ≡ keys_text json (map string_bytes ws)) × (a.status ≡ keys_status text)) (texts_in a))) c.deref-in-Keys.ensures.value c.keys.ensures.found in
+    subst (λ t. IfErr c.printed-in-Keys.result (IsNotDone t (root_of job) job.usr job.strict before now)) (sym c.in-Keys.is)
+    (each_error _ (IsNotDone task (root_of job) job.usr job.strict before now) c.printed-in-Keys.result (λ r both. ((both.0, record { same = λ p. refl; no_more = λ p v l. l }), both.1))
+    (printed_refused answer c.printed-in-Keys.result (Refuses task (root_of job) before.input.bytes seen) (IsTaskReason task (root_of job) job.usr before now)
+    (λ s t. IsAnswerOf task (root_of job) job.strict before.input.bytes seen s t) before.err now.err before.out now.out c.keys.ensures.refused found
+    (each_error _ (IsTaskReason task (root_of job) job.usr before now) answer (λ r is. subst (IsTaskReason task (root_of job) job.usr before now) (sym is) tt) c.keys.ensures.refused)
+    tt c.printed-in-Keys.ensures.refused))
+
+pub returns-in-Keys-clause-follows : goal.returns-in-Keys-clause-follows
+returns-in-Keys-clause-follows g c = λ tells words asked.
+    let w = g.D.System.reads c.args.system.now in
+    let sight = sight_by g.D.DeviceFiles.answers c.args.system.now in
+    let I = told_by g.I.Source.left g.I.Source.failures in
+    let O = told_by g.O.Sink.taken g.O.Sink.failures in
+    let E = told_by g.E.Sink.taken g.E.Sink.failures in
+    let input = I c.args.input.now in
+    let before = outs (E c.args.err.now) (O c.args.out.now) in
+    let now = outs (E c.printed-in-Keys.new.err) (O c.printed-in-Keys.new.out) in
+    let result = c.printed-in-Keys.result in
+    let json = c.in-Keys.json in
+    of_words w sight input input before now result words c.args.job.now asked
+    (λ word rows is. keys_planned w sight input input before now result (root_of c.args.job.now) c.args.job.now.strict word rows c.keys.result c.printed-in-Keys.ensures.prints c.in-Keys.words json (subst (λ t. IsTask word rows t) c.in-Keys.is is)
+    (subst (λ (ws : List (String Global)). Follows end_of w (keys_plan json (map string_bytes ws)) c.keys.result) c.deref-in-Keys.ensures.value (c.keys.ensures.follows w)))
