@@ -53,6 +53,7 @@ _hwdb() {
         [verify]='DATABASE'
         [dump]='DATABASE'
         [status]=''
+        [keys]='WORD..'
         [help]='COMMAND'
     )
     local -A options=(
@@ -70,6 +71,7 @@ _hwdb() {
         [verify]='-r --root --color --text -h --help'
         [dump]='-r --root --color --text -h --help'
         [status]='-r --root --color --json -h --help'
+        [keys]='-r --root --color --json -h --help'
         [help]=''
     )
     local -A values=(

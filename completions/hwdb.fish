@@ -72,7 +72,7 @@ end
 
 # The words that `help` takes.
 function __hwdb_command
-    printf '%s\n' update query explain ask list near device check test diff verify dump status help
+    printf '%s\n' update query explain ask list near device check test diff verify dump status keys help
 end
 
 complete -c hwdb -n __hwdb_none -a update -d 'Compiles the text files of /etc/udev/hwdb.d and /usr/lib/udev/hwdb.d into /etc/udev/hwdb.bin'
@@ -88,6 +88,7 @@ complete -c hwdb -n __hwdb_none -a diff -d 'Prints what changed from one databas
 complete -c hwdb -n __hwdb_none -a verify -d 'Says whether a file is a database that can be read, and how much is in it'
 complete -c hwdb -n __hwdb_none -a dump -d 'Prints a database as a text file'
 complete -c hwdb -n __hwdb_none -a status -d 'Says which database is asked, and whether it is what the text files make'
+complete -c hwdb -n __hwdb_none -a keys -d 'Prints the keys that a value of KEYBOARD_KEY_.. may be, each with its code'
 complete -c hwdb -n __hwdb_none -a help -d 'Print this message or the help of the given subcommand(s)'
 
 complete -c hwdb -n __hwdb_none -l usr -d 'With update: write /usr/lib/udev/hwdb.bin'
@@ -109,6 +110,7 @@ complete -c hwdb -n '__hwdb_at diff' -l color -x -a 'auto always never' -d 'Colo
 complete -c hwdb -n '__hwdb_at verify' -l color -x -a 'auto always never' -d 'Color the output: auto, always or never; auto does so on a terminal'
 complete -c hwdb -n '__hwdb_at dump' -l color -x -a 'auto always never' -d 'Color the output: auto, always or never; auto does so on a terminal'
 complete -c hwdb -n '__hwdb_at status' -l color -x -a 'auto always never' -d 'Color the output: auto, always or never; auto does so on a terminal'
+complete -c hwdb -n '__hwdb_at keys' -l color -x -a 'auto always never' -d 'Color the output: auto, always or never; auto does so on a terminal'
 complete -c hwdb -n 'not __hwdb_at help' -s h -l help -d 'Print help'
 complete -c hwdb -n __hwdb_none -s V -l version -d 'Print version'
 complete -c hwdb -n '__hwdb_at update' -l verbose -d 'Say which files are taken, and how many assignments they have'
@@ -132,6 +134,7 @@ complete -c hwdb -n '__hwdb_at check' -l json -d 'Print JSON, one object a line'
 complete -c hwdb -n '__hwdb_at test' -l json -d 'Print JSON, one object a line'
 complete -c hwdb -n '__hwdb_at diff' -l json -d 'Print JSON, one object a line'
 complete -c hwdb -n '__hwdb_at status' -l json -d 'Print JSON, one object a line'
+complete -c hwdb -n '__hwdb_at keys' -l json -d 'Print JSON, one object a line'
 complete -c hwdb -n '__hwdb_at list' -l after -x -d 'Print only what stands after this position, as list prints it'
 complete -c hwdb -n '__hwdb_at list' -l limit -x -d 'Print at most N lines; 0 prints nothing'
 complete -c hwdb -n '__hwdb_at near' -l limit -x -d 'Print at most N patterns that don\'t match, in place of 3'
@@ -157,5 +160,6 @@ complete -c hwdb -n '__hwdb_at diff 1' -k -a '(__hwdb_side)' -d OLD
 complete -c hwdb -n '__hwdb_at diff 2' -k -a '(__hwdb_side)' -d NEW
 complete -c hwdb -n '__hwdb_at verify 1' -k -a '(__hwdb_database)' -d DATABASE
 complete -c hwdb -n '__hwdb_at dump 1' -k -a '(__hwdb_database)' -d DATABASE
+complete -c hwdb -n '__hwdb_at keys' -a '' -d WORD
 complete -c hwdb -n '__hwdb_at help 1' -a '(__hwdb_command)' -d COMMAND
 # Until here.

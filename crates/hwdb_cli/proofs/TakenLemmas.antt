@@ -13,7 +13,7 @@ use Rattle.clap.specs.Simple.{App, Shape, argument_words, built, built_leaf, ent
 use Rattle.clap.proofs.WalkLemmas.{both}
 use Rattle.clap.proofs.ValueTestLemmas.{accepts-Accepts}
 use Rattle.clap.specs.declared.builder.value_parser.ValueParser.TheVariants as vp
-use Rattle.hwdb_spec_commands.specs.CommandLine.{ask_app, check_app, device_app, device_rule, devices_rule, diff_app, dump_app, explain_app, file_rule, hwdb_app, limit_rule, list_app, near_app, new_database_rule, old_database_rule, query_app, status_app, test_app, test_files_rule, update_app, verify_app}
+use Rattle.hwdb_spec_commands.specs.CommandLine.{ask_app, check_app, device_app, device_rule, devices_rule, diff_app, dump_app, explain_app, file_rule, hwdb_app, keys_app, limit_rule, list_app, near_app, new_database_rule, old_database_rule, query_app, status_app, test_app, test_files_rule, update_app, verify_app}
 use Rattle.hwdb_spec_commands.specs.Jobs.{HasValue, IsCommand, IsNumber}
 use Rattle.hwdb_cli.proofs.WalkLemmas.{IsNotHelp, none_of_both, walk_not_help}
 use Rattle.hwdb_cli.proofs.UseLemmas.{Each, RowFits, StandsAlone, found_each, keeps_values, required_value, rows_fit, same_id, text_read}
@@ -172,7 +172,10 @@ test_gives words e = inr (inr (inr (inr (inr (inr (inr (inr (inr (inr (inr (inl 
 ))))))))))))
 
 status_gives : Gives (built_command status_app)
-status_gives words e = inr (inr (inr (inr (inr (inr (inr (inr (inr (inr (inr (inr refl)))))))))))
+status_gives words e = inr (inr (inr (inr (inr (inr (inr (inr (inr (inr (inr (inr (inl refl))))))))))))
+
+keys_gives : Gives (built_command keys_app)
+keys_gives words e = inr (inr (inr (inr (inr (inr (inr (inr (inr (inr (inr (inr (inr refl))))))))))))
 
 -- ---- the command line
 
@@ -229,5 +232,5 @@ command_taken words e =
     let has = subcommand_there a.top (finished a.top.rules end.held) (is_some (entered a end.stopped)) refl checks.1 in
     let other = walk_not_help a.top refl (names_of a) (walk_from nothing_held) left tt steps.0 in
     command_entered a end.stopped
-    (inl update_gives, (inl query_gives, (inl explain_gives, (inl ask_gives, (inl list_gives, (inl near_gives, (inl device_gives, (inl check_gives, (inl test_gives, (inl diff_gives, (inl verify_gives, (inl dump_gives, (inl status_gives, (inr refl, tt))))))))))))))
+    (inl update_gives, (inl query_gives, (inl explain_gives, (inl ask_gives, (inl list_gives, (inl near_gives, (inl device_gives, (inl check_gives, (inl test_gives, (inl diff_gives, (inl verify_gives, (inl dump_gives, (inl status_gives, (inl keys_gives, (inr refl, tt)))))))))))))))
     other below.0 has

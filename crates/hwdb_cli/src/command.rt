@@ -7,7 +7,7 @@ ghost use Rattle.hwdb_cli.specs.Drafts.{IsDraft};
 
 use crate::drafts::{Draft, shared, with_command};
 use crate::{
-    ask, check, device, diff, dump, explain, list, near, query, status, test, update, verify,
+    ask, check, device, diff, dump, explain, keys, list, near, query, status, test, update, verify,
 };
 use clap::Command;
 use std::alloc::{AllocError, Global};
@@ -43,5 +43,6 @@ pub fn hwdb_command<'a>(alloc: Global) -> Result<Command<'a>, AllocError>
     let diff = with_command(test, diff::command(alloc));
     let verify = with_command(diff, verify::command(alloc));
     let dump = with_command(verify, dump::command(alloc));
-    with_command(dump, status::command(alloc))
+    let status = with_command(dump, status::command(alloc));
+    with_command(status, keys::command(alloc))
 }

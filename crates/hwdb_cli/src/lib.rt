@@ -16,6 +16,7 @@ mod drafts;
 mod dump;
 mod explain;
 mod help;
+mod keys;
 mod kinds;
 mod list;
 mod matched;

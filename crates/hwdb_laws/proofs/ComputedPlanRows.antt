@@ -5,7 +5,7 @@ use Rattle.hex.specs.Hex.{encode_with}
 use Rattle.hwdb_spec.specs.Lines.{pieces}
 use Rattle.hwdb_spec.specs.Visible.{visible_after}
 use Rattle.hwdb_spec_commands.specs.DeviceTree.{last_after}
-use Rattle.hwdb_laws.specs.PlanRows.{CheckRows, DeviceRows, DiffRows, FreshRows, InputRows, ListRows, NamedRows, NearRows, NoneRows, QueryRows, StatusRows, SysfsRows}
+use Rattle.hwdb_laws.specs.PlanRows.{CheckRows, DeviceRows, DiffRows, FreshRows, InputRows, KeysRows, ListRows, NamedRows, NearRows, NoneRows, QueryRows, StatusRows, SysfsRows}
 use Rattle.std.specs.Char.{encode_utf8}
 use Rattle.std.specs.Fmt.{digits}
 use Rattle.std.specs.Str.{chars, is_utf8}
@@ -42,6 +42,10 @@ diff_rows = λ a. refl
 pub fresh_rows : FreshRows
 unfolding pieces visible_after is_utf8 chars encode_utf8 encode_with digits bundle_met walked flags_fault walk_fault defaults_fault last_after
 fresh_rows = λ a. refl
+
+pub keys_rows : KeysRows
+unfolding pieces visible_after is_utf8 chars encode_utf8 encode_with digits bundle_met walked flags_fault walk_fault defaults_fault last_after
+keys_rows = λ a. refl
 
 pub none_rows : NoneRows
 unfolding pieces visible_after is_utf8 chars encode_utf8 encode_with digits bundle_met walked flags_fault walk_fault defaults_fault last_after

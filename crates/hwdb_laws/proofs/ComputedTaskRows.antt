@@ -56,7 +56,7 @@ diff_rows word other words others w o ws os =
 
 pub named_rows : NamedRows
 named_rows word words none w n =
-    (λ i. (w i == 0) ∷ (n i == 0) ∷ (w i == 0) ∷ (n i == 0) ∷ false ∷ true ∷ false ∷ false ∷ false ∷ false ∷ true ∷ []) ∙ refl
+    (λ i. (w i == 0) ∷ (n i == 0) ∷ (w i == 0) ∷ (n i == 0) ∷ false ∷ true ∷ false ∷ false ∷ false ∷ false ∷ false ∷ true ∷ []) ∙ refl
 
 pub status_rows : StatusRows
 status_rows word words = refl

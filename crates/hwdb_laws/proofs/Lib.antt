@@ -17,4 +17,5 @@ pub mod ComputedWordRows
 pub mod ComputedDeviceRows
 pub mod ComputedTaskRows
 pub mod ComputedPlanRows
+pub mod ComputedKeyRows
 pub mod PlannedLemmas

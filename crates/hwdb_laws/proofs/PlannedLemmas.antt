@@ -381,7 +381,7 @@ module _ (w : Reads) (e : End) (Lost : Type 0) where
                             (
                               refl,
                               diff_moves given old new (change_of (has_flag (codes "stat") rows) json) (names_twice given old new),
-                              (refl, λ ends. inl ends, update_moves root rows),
+                              (refl, λ ends. inl ends, (refl, λ ends. inl ends, update_moves root rows)),
                             ),
                           ),
                         ),

@@ -16,4 +16,5 @@ pub mod WordRows
 pub mod DeviceRows
 pub mod TaskRows
 pub mod PlanRows
+pub mod KeyRows
 pub mod PlannedRuns

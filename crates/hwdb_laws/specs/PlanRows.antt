@@ -21,6 +21,7 @@ use Rattle.hwdb_plan.specs.Check.{check_plan, said_of}
 use Rattle.hwdb_plan.specs.Device.{device_plan}
 use Rattle.hwdb_plan.specs.Diff.{change_of, diff_plan}
 use Rattle.hwdb_plan.specs.Dump.{dump_plan}
+use Rattle.hwdb_plan.specs.Keys.{keys_plan}
 use Rattle.hwdb_plan.specs.List.{list_plan}
 use Rattle.hwdb_plan.specs.Near.{near_plan}
 use Rattle.hwdb_plan.specs.Plans.{Plan}
@@ -96,6 +97,13 @@ FreshRows =
     (a : Around)
     → asked a (codes "status" ∷ codes "--json" ∷ codes "-r" ∷ codes "/r" ∷ []) ∷ asked a (codes "-r/r" ∷ codes "update" ∷ codes "--check" ∷ []) ∷ asked a (codes "status" ∷ []) ∷ []
     ≡ Some (status_plan (codes "/r") true false) ∷ Some (status_plan (codes "/r") false true) ∷ Some (status_plan [] false false) ∷ []
+
+-- Words of keys. Without one all keys are asked for, whatever the root is.
+abbrev pub KeysRows : Type 0
+KeysRows =
+    (a : Around)
+    → asked a (codes "keys" ∷ codes "super" ∷ codes "--json" ∷ codes "f1" ∷ []) ∷ asked a (codes "-r/r" ∷ codes "keys" ∷ []) ∷ []
+    ≡ Some (keys_plan true (codes "super" ∷ codes "f1" ∷ [])) ∷ Some (keys_plan false []) ∷ []
 
 -- Words that ask for no command, for an update, or for `--text`.
 abbrev pub NoneRows : Type 0

@@ -12,7 +12,7 @@ use Rattle.hwdb_spec.specs.Store.{Contents, database_file}
 use Rattle.hwdb_spec_program.specs.TaskRefusals.{refused_status, with_err}
 use Rattle.hwdb_spec_commands.specs.declared.job.Job.{Job}
 use Rattle.hwdb_spec_commands.specs.declared.job.Task.{Task}
-use Rattle.hwdb_spec_commands.specs.declared.job.Task.TheVariants.{Ask, Check, Device, Diff, Dump, Explain, List as ListHits, Near, Query, Status, Test, Update, Verify}
+use Rattle.hwdb_spec_commands.specs.declared.job.Task.TheVariants.{Ask, Check, Device, Diff, Dump, Explain, Keys, List as ListHits, Near, Query, Status, Test, Update, Verify}
 
 -- ---- tasks that name no file
 
@@ -50,14 +50,14 @@ DiffRows =
     → reads_input (Diff word other others false false) ∷ reads_input (Diff other word others false false) ∷ reads_input (Diff other other words false false) ∷ reads_input (Diff other other others false false) ∷ []
     ≡ true ∷ true ∷ true ∷ false ∷ []
 
--- Files and databases that are named are no files below the root, and of `diff` an error has status 2.
+-- Files and databases that are named are no files below the root, and `keys` reads none. Of `diff` an error has status 2.
 abbrev pub NamedRows : Type 0
 NamedRows =
     (word : String Global) (words none : Vec (String Global) Global) → length words.items ≡ 1 → length none.items ≡ 0
     → (looks_below_root (Check words words false) ∷ looks_below_root (Check none words false) ∷ looks_below_root (Near words word None false) ∷ looks_below_root (Near none word None false)
     ∷ looks_below_root (Test words (Some word) false) ∷ looks_below_root (Test words None false) ∷ looks_below_root (Verify (Some word)) ∷ looks_below_root (Dump (Some word)) ∷ looks_below_root (Ask word word)
-    ∷ looks_below_root (Diff word word words false false) ∷ looks_below_root (Query words false) ∷ [])
-    ≡ false ∷ true ∷ false ∷ true ∷ false ∷ true ∷ false ∷ false ∷ false ∷ false ∷ true ∷ []
+    ∷ looks_below_root (Diff word word words false false) ∷ looks_below_root (Keys words false) ∷ looks_below_root (Query words false) ∷ [])
+    ≡ false ∷ true ∷ false ∷ true ∷ false ∷ true ∷ false ∷ false ∷ false ∷ false ∷ false ∷ true ∷ []
 
 abbrev pub StatusRows : Type 0
 StatusRows = (word : String Global) (words : Vec (String Global) Global) → refused_status (Diff word word words false false) ∷ refused_status (Query words false) ∷ [] ≡ 2 ∷ 1 ∷ []

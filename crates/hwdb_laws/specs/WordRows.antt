@@ -119,6 +119,12 @@ StatusRows =
     (codes "json" ∷ codes "usr" ∷ codes "strict" ∷ []) (codes "root" ∷ [])
     ≡ (codes "status", true ∷ false ∷ true ∷ [], Some (codes "/r" ∷ []) ∷ [])
 
+abbrev pub KeysRows : Type 0
+KeysRows =
+    read (codes "keys" ∷ codes "super" ∷ codes "--json" ∷ codes "f1" ∷ [])
+    (codes "json" ∷ []) (codes "WORD" ∷ [])
+    ≡ (codes "keys", true ∷ [], Some (codes "super" ∷ codes "f1" ∷ []) ∷ [])
+
 -- Options before the command are its own too.
 abbrev pub BeforeRows : Type 0
 BeforeRows =

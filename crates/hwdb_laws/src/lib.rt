@@ -23,6 +23,7 @@
 //! | `DeviceRows` | what `device` prints |
 //! | `TaskRows` | what tasks read, and what `explain --text` says besides |
 //! | `PlanRows` | which plans words ask for |
+//! | `KeyRows` | keys with their codes, and which of them words ask for |
 //!
 //! `rows` shows them. `planned` shows `PlannedRuns`: two runs with the same words are one, if the words have a plan.
 #![tactic(auto)]
@@ -33,6 +34,7 @@ mod rows;
 pub use planned::planned_runs_are_one;
 pub use rows::{
     answer_rows, change_rows, check_rows, colour_rows, compare_rows, device_rows, error_rows,
-    explain_rows, form_rows, likely_rows, near_rows, over_text_rows, place_rows, plan_rows,
-    status_rows, sysfs_rows, task_rows, update_rows, verify_rows, wanted_rows, word_rows,
+    explain_rows, form_rows, key_rows, likely_rows, near_rows, over_text_rows, place_rows,
+    plan_rows, status_rows, sysfs_rows, task_rows, update_rows, verify_rows, wanted_rows,
+    word_rows,
 };

@@ -7,6 +7,7 @@ ghost use Rattle.hwdb_laws.specs.CompareRows;
 ghost use Rattle.hwdb_laws.specs.DeviceRows;
 ghost use Rattle.hwdb_laws.specs.ErrorRows;
 ghost use Rattle.hwdb_laws.specs.FormRows;
+ghost use Rattle.hwdb_laws.specs.KeyRows;
 ghost use Rattle.hwdb_laws.specs.LikelyRows;
 ghost use Rattle.hwdb_laws.specs.OverTextRows;
 ghost use Rattle.hwdb_laws.specs.PlaceRows;
@@ -219,6 +220,7 @@ pub fn word_rows()
     ensures verify { WordRows.VerifyRows }
     ensures dump { WordRows.DumpRows }
     ensures status { WordRows.StatusRows }
+    ensures keys { WordRows.KeysRows }
     ensures before { WordRows.BeforeRows }
     ensures wrong { WordRows.WrongRows }
     ensures right { WordRows.RightRows }
@@ -304,8 +306,20 @@ pub fn plan_rows()
     ensures named { PlanRows.NamedRows }
     ensures diff { PlanRows.DiffRows }
     ensures fresh { PlanRows.FreshRows }
+    ensures keys { PlanRows.KeysRows }
     ensures none { PlanRows.NoneRows }
     ensures status { PlanRows.StatusRows }
     ensures input { PlanRows.InputRows }
     ensures sysfs { PlanRows.SysfsRows }
+{}
+
+/// Keys with their codes, and which of them words ask for.
+pub fn key_rows()
+    ensures known { KeyRows.CodeRows }
+    ensures parts { KeyRows.PartRows }
+    ensures others { KeyRows.OtherRows }
+    ensures several { KeyRows.SeveralRows }
+    ensures all { KeyRows.AllRows }
+    ensures as_json { KeyRows.JsonRows }
+    ensures status { KeyRows.StatusRows }
 {}

@@ -22,5 +22,6 @@ pub mod Put
 pub mod Readable
 pub mod Update
 pub mod Status
+pub mod Keys
 pub mod Putting
 pub mod Lemmas

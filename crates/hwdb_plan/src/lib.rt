@@ -21,6 +21,7 @@
 //! | `Sides` | the bytes of a side of `diff`, as the front of a plan |
 //! | `Diff` | that of `diff`, over two sides |
 //! | `Status` | that of `status`, and the test that two maps say the same |
+//! | `Keys` | that of `keys`, which asks nothing |
 //! | `Readable` | the text files of both folders, of which some may be left out, as the front of a plan |
 //! | `Update`, `Put` | the plans of `update`, and their end |
 //! | `Putting` | what a run leaves that puts a database in its place |

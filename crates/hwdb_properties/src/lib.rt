@@ -11,12 +11,14 @@
 //! | `matrices` | matrices whose determinant is 0 |
 //! | `values` | texts that are values of a form |
 //! | `remarks` | what is said of a property that doesn't fit |
+//! | `keys` | the keys that words ask for, each with its code |
 //! | `laws` | worked rows of the definitions |
 //! | `surroundings` | below which prefixes a property is read, and with which others |
 #![tactic(auto)]
 
 mod common;
 mod cuts;
+mod keys;
 mod laws;
 mod matrices;
 mod names;
@@ -29,6 +31,7 @@ mod words;
 
 pub use common::is_common;
 pub use cuts::{after, before, same};
+pub use keys::keys_text;
 pub use laws::{
     axes_are_told, codes_are_told, keys_are_told, matrices_are_told, names_are_told,
     numbers_are_told, pairs_are_told, prefixes_are_told, resolutions_are_told,

@@ -196,7 +196,7 @@ fn inside(byte: u8, text: &[u8]) -> &[u8]
 }
 
 /// A text without `key_` before it.
-fn without_key(text: &[u8]) -> &[u8]
+pub fn without_key(text: &[u8]) -> &[u8]
     ensures { result.now ≡ Properties.without_key text.now }
 {
     if same_letters(front(text, 4), b"key_") {

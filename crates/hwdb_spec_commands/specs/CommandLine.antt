@@ -118,6 +118,10 @@ pattern_rule = record (new_rule (codes "pattern")) { long = Some (codes "pattern
 abbrev pub path_rule : Rule
 path_rule = record (new_rule (codes "DEVICE")) { action = Some Set }
 
+-- words of a key's name, or none
+abbrev pub words_rule : Rule
+words_rule = record (new_rule (codes "WORD")) { action = Some Append }
+
 -- the options that come before or after the command's word
 abbrev pub with_shared : App → App
 with_shared a = with_rule (with_rule (with_rule (with_rule a usr_rule) strict_rule) root_rule) color_rule
@@ -178,6 +182,10 @@ dump_app = with_rule (with_rule (with_shared (new_app (codes "dump"))) text_rule
 abbrev pub status_app : App
 status_app = with_rule (with_shared (new_app (codes "status"))) json_rule
 
+-- `keys`
+abbrev pub keys_app : App
+keys_app = with_rule (with_rule (with_shared (new_app (codes "keys"))) json_rule) words_rule
+
 -- the program's own options
 abbrev pub top_app : App
 top_app = on_top (λ (s : Shape). record s { has_version = true; subcommand_required = true }) (with_shared (new_app (codes "hwdb")))
@@ -192,4 +200,4 @@ with_inspections app = with_subcommand (with_subcommand (with_subcommand (with_s
 
 -- the command line: the program and its commands
 abbrev pub hwdb_app : App
-hwdb_app = with_inspections (with_answers (with_subcommand top_app update_app.top))
+hwdb_app = with_subcommand (with_inspections (with_answers (with_subcommand top_app update_app.top))) keys_app.top

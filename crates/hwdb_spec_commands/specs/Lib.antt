@@ -74,3 +74,4 @@ pub mod Reasons
 pub mod Replacements
 pub mod Sides
 pub mod OverText
+pub mod KeysAsked

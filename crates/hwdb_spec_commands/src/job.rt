@@ -119,6 +119,13 @@ pub enum Task {
         /// Whether the status alone says it, as that of `update --check`.
         quiet: bool,
     },
+    /// Print the keys that the values of `KEYBOARD_KEY_..` name, with their codes.
+    Keys {
+        /// Words, one of which a key's name has; none if all keys are meant.
+        words: Vec<String>,
+        /// Whether as JSON.
+        json: bool,
+    },
 }
 
 /// What a command line asks for.

@@ -5,72 +5,98 @@ pub const KEY_HINT: &str =
     "write a key of Linux 7.2's linux/input-event-codes.h in lower case, without key_";
 
 /// The names that the values of `KEYBOARD_KEY_..` have: those of linux/input-event-codes.h in lower case, without
-/// `KEY_`. A name a line. `tests/proofs/key-names` makes it from the newest header that Debian has.
+/// `KEY_`. A line each: the name, and after a space its code. `tests/proofs/key-names` makes it from the newest header that
+/// Debian has.
 pub const KEY_NAMES: &str = "\
-    0\n1\n102nd\n10channelsdown\n10channelsup\n2\n3\n3d_mode\n4\n5\n6\n7\n8\n9\na\nab\naccessibility\n\
-    action_on_selection\naddressbook\nagain\nall_applications\nals_toggle\nalterase\nangle\napostrophe\n\
-    appselect\narchive\naspect_ratio\nassistant\nattendant_off\nattendant_on\nattendant_toggle\naudio\n\
-    audio_desc\nautopilot_engage_toggle\naux\nb\nback\nbackslash\nbackspace\nbassboost\nbattery\nblue\nbluetooth\n\
-    bookmarks\nbreak\nbrightness_auto\nbrightness_cycle\nbrightness_max\nbrightness_menu\nbrightness_min\n\
-    brightness_toggle\nbrightness_zero\nbrightnessdown\nbrightnessup\nbrl_dot1\nbrl_dot10\nbrl_dot2\nbrl_dot3\n\
-    brl_dot4\nbrl_dot5\nbrl_dot6\nbrl_dot7\nbrl_dot8\nbrl_dot9\nbtn_0\nbtn_1\nbtn_2\nbtn_3\nbtn_4\nbtn_5\nbtn_6\n\
-    btn_7\nbtn_8\nbtn_9\nbtn_a\nbtn_b\nbtn_back\nbtn_base\nbtn_base2\nbtn_base3\nbtn_base4\nbtn_base5\nbtn_base6\n\
-    btn_c\nbtn_dead\nbtn_dpad_down\nbtn_dpad_left\nbtn_dpad_right\nbtn_dpad_up\nbtn_east\nbtn_extra\nbtn_forward\n\
-    btn_gear_down\nbtn_gear_up\nbtn_gripl\nbtn_gripl2\nbtn_gripr\nbtn_gripr2\nbtn_left\nbtn_middle\nbtn_mode\n\
-    btn_north\nbtn_pinkie\nbtn_right\nbtn_select\nbtn_side\nbtn_south\nbtn_start\nbtn_stylus\nbtn_stylus2\n\
-    btn_stylus3\nbtn_task\nbtn_thumb\nbtn_thumb2\nbtn_thumbl\nbtn_thumbr\nbtn_tl\nbtn_tl2\nbtn_tool_airbrush\n\
-    btn_tool_brush\nbtn_tool_doubletap\nbtn_tool_finger\nbtn_tool_lens\nbtn_tool_mouse\nbtn_tool_pen\n\
-    btn_tool_pencil\nbtn_tool_quadtap\nbtn_tool_quinttap\nbtn_tool_rubber\nbtn_tool_tripletap\nbtn_top\nbtn_top2\n\
-    btn_touch\nbtn_tr\nbtn_tr2\nbtn_trigger\nbtn_trigger_happy1\nbtn_trigger_happy10\nbtn_trigger_happy11\n\
-    btn_trigger_happy12\nbtn_trigger_happy13\nbtn_trigger_happy14\nbtn_trigger_happy15\nbtn_trigger_happy16\n\
-    btn_trigger_happy17\nbtn_trigger_happy18\nbtn_trigger_happy19\nbtn_trigger_happy2\nbtn_trigger_happy20\n\
-    btn_trigger_happy21\nbtn_trigger_happy22\nbtn_trigger_happy23\nbtn_trigger_happy24\nbtn_trigger_happy25\n\
-    btn_trigger_happy26\nbtn_trigger_happy27\nbtn_trigger_happy28\nbtn_trigger_happy29\nbtn_trigger_happy3\n\
-    btn_trigger_happy30\nbtn_trigger_happy31\nbtn_trigger_happy32\nbtn_trigger_happy33\nbtn_trigger_happy34\n\
-    btn_trigger_happy35\nbtn_trigger_happy36\nbtn_trigger_happy37\nbtn_trigger_happy38\nbtn_trigger_happy39\n\
-    btn_trigger_happy4\nbtn_trigger_happy40\nbtn_trigger_happy5\nbtn_trigger_happy6\nbtn_trigger_happy7\n\
-    btn_trigger_happy8\nbtn_trigger_happy9\nbtn_west\nbtn_x\nbtn_y\nbtn_z\nbuttonconfig\nc\ncalc\ncalendar\n\
-    camera\ncamera_access_disable\ncamera_access_enable\ncamera_access_toggle\ncamera_down\ncamera_focus\n\
-    camera_left\ncamera_right\ncamera_up\ncamera_zoomin\ncamera_zoomout\ncancel\ncapslock\ncd\nchannel\n\
-    channeldown\nchannelup\nchat\nclear\nclearvu_sonar\nclose\nclosecd\ncoffee\ncomma\ncompose\ncomputer\nconfig\n\
-    connect\ncontext_menu\ncontextual_insert\ncontextual_query\ncontrolpanel\ncopy\ncut\ncyclewindows\nd\n\
-    dashboard\ndata\ndatabase\ndel_eol\ndel_eos\ndel_line\ndelete\ndeletefile\ndictate\ndigits\ndirection\n\
-    directory\ndisplay_off\ndisplaytoggle\ndo_not_disturb\ndocuments\ndollar\ndot\ndown\ndual_range_radar\ndvd\n\
-    e\nedit\neditor\nejectcd\nejectclosecd\nemail\nemoji_picker\nend\nenter\nepg\neprivacy_screen_off\n\
-    eprivacy_screen_on\nequal\nesc\neuro\nexit\nf\nf1\nf10\nf11\nf12\nf13\nf14\nf15\nf16\nf17\nf18\nf19\nf2\nf20\n\
-    f21\nf22\nf23\nf24\nf3\nf4\nf5\nf6\nf7\nf8\nf9\nfastforward\nfastreverse\nfavorites\nfile\nfinance\nfind\n\
-    first\nfishing_chart\nfn\nfn_1\nfn_2\nfn_b\nfn_d\nfn_e\nfn_esc\nfn_f\nfn_f1\nfn_f10\nfn_f11\nfn_f12\nfn_f2\n\
-    fn_f3\nfn_f4\nfn_f5\nfn_f6\nfn_f7\nfn_f8\nfn_f9\nfn_right_shift\nfn_s\nforward\nforwardmail\nframeback\n\
-    frameforward\nfront\nfull_screen\ng\ngames\ngoto\ngraphicseditor\ngrave\ngreen\nh\nhangeul\nhanguel\n\
-    hangup_phone\nhanja\nhelp\nhenkan\nhiragana\nhome\nhomepage\nhp\ni\nimages\ninfo\nins_line\ninsert\niso\nj\n\
-    journal\nk\nkatakana\nkatakanahiragana\nkbd_layout_next\nkbd_lcd_menu1\nkbd_lcd_menu2\nkbd_lcd_menu3\n\
-    kbd_lcd_menu4\nkbd_lcd_menu5\nkbdillumdown\nkbdillumtoggle\nkbdillumup\nkbdinputassist_accept\n\
-    kbdinputassist_cancel\nkbdinputassist_next\nkbdinputassist_nextgroup\nkbdinputassist_prev\n\
-    kbdinputassist_prevgroup\nkeyboard\nkp0\nkp1\nkp2\nkp3\nkp4\nkp5\nkp6\nkp7\nkp8\nkp9\nkpasterisk\nkpcomma\n\
-    kpdot\nkpenter\nkpequal\nkpjpcomma\nkpleftparen\nkpminus\nkpplus\nkpplusminus\nkprightparen\nkpslash\nl\n\
-    language\nlast\nleft\nleft_down\nleft_up\nleftalt\nleftbrace\nleftctrl\nleftmeta\nleftshift\nlights_toggle\n\
-    linefeed\nlink_phone\nlist\nlogoff\nm\nmacro\nmacro1\nmacro10\nmacro11\nmacro12\nmacro13\nmacro14\nmacro15\n\
-    macro16\nmacro17\nmacro18\nmacro19\nmacro2\nmacro20\nmacro21\nmacro22\nmacro23\nmacro24\nmacro25\nmacro26\n\
-    macro27\nmacro28\nmacro29\nmacro3\nmacro30\nmacro4\nmacro5\nmacro6\nmacro7\nmacro8\nmacro9\nmacro_preset1\n\
-    macro_preset2\nmacro_preset3\nmacro_preset_cycle\nmacro_record_start\nmacro_record_stop\nmail\nmark_waypoint\n\
-    media\nmedia_repeat\nmedia_top_menu\nmemo\nmenu\nmessenger\nmhp\nmicmute\nminus\nmode\nmove\nmp3\nmsdos\n\
-    muhenkan\nmute\nn\nnav_chart\nnav_info\nnew\nnews\nnext\nnext_element\nnext_favorite\nnextsong\n\
-    notification_center\nnumeric_0\nnumeric_1\nnumeric_11\nnumeric_12\nnumeric_2\nnumeric_3\nnumeric_4\n\
-    numeric_5\nnumeric_6\nnumeric_7\nnumeric_8\nnumeric_9\nnumeric_a\nnumeric_b\nnumeric_c\nnumeric_d\n\
-    numeric_pound\nnumeric_star\nnumlock\no\nok\nonscreen_keyboard\nopen\noption\np\npagedown\npageup\npaste\n\
-    pause\npause_record\npausecd\npc\nperformance\nphone\npickup_phone\nplay\nplaycd\nplayer\nplaypause\npower\n\
-    power2\npresentation\nprevious\nprevious_element\nprevioussong\nprint\nprivacy_screen_toggle\nprog1\nprog2\n\
-    prog3\nprog4\nprogram\nprops\npvr\nq\nquestion\nr\nradar_overlay\nradio\nrecord\nred\nredo\nrefresh\n\
-    refresh_rate_toggle\nreply\nreserved\nrestart\nrewind\nrfkill\nright\nright_down\nright_up\nrightalt\n\
-    rightbrace\nrightctrl\nrightmeta\nrightshift\nro\nroot_menu\nrotate_display\nrotate_lock_toggle\ns\nsat\n\
-    sat2\nsave\nscale\nscreen\nscreenlock\nscreensaver\nscrolldown\nscrolllock\nscrollup\nsearch\nselect\n\
-    selective_screenshot\nsemicolon\nsend\nsendfile\nsetup\nshop\nshuffle\nsidevu_sonar\nsingle_range_radar\n\
-    slash\nsleep\nslow\nslowreverse\nsos\nsound\nspace\nspellcheck\nsport\nspreadsheet\nstop\nstop_record\n\
-    stopcd\nsubtitle\nsuspend\nswitchvideomode\nsysrq\nt\ntab\ntape\ntaskmanager\nteen\ntext\ntime\ntitle\n\
-    touchpad_off\ntouchpad_on\ntouchpad_toggle\ntraditional_sonar\ntuner\ntv\ntv2\ntwen\nu\nundo\nunknown\n\
-    unmute\nup\nuwb\nv\nvcr\nvcr2\nvendor\nvideo\nvideo_next\nvideo_prev\nvideophone\nvod\nvoicecommand\n\
-    voicemail\nvolumedown\nvolumeup\nw\nwakeup\nwimax\nwlan\nwordprocessor\nwps_button\nwwan\nwww\nx\nxfer\ny\n\
-    yellow\nyen\nz\nzenkakuhankaku\nzoom\nzoomin\nzoomout\nzoomreset\n";
+    0 11\n1 2\n102nd 86\n10channelsdown 441\n10channelsup 440\n2 3\n3 4\n3d_mode 623\n4 5\n5 6\n6 7\n7 8\n8 9\n\
+    9 10\na 30\nab 406\naccessibility 590\naction_on_selection 596\naddressbook 429\nagain 129\n\
+    all_applications 204\nals_toggle 560\nalterase 222\nangle 371\napostrophe 40\nappselect 580\narchive 361\n\
+    aspect_ratio 375\nassistant 583\nattendant_off 540\nattendant_on 539\nattendant_toggle 541\naudio 392\n\
+    audio_desc 622\nautopilot_engage_toggle 637\naux 390\nb 48\nback 158\nbackslash 43\nbackspace 14\n\
+    bassboost 209\nbattery 236\nblue 401\nbluetooth 237\nbookmarks 156\nbreak 411\nbrightness_auto 244\n\
+    brightness_cycle 243\nbrightness_max 593\nbrightness_menu 649\nbrightness_min 592\nbrightness_toggle 431\n\
+    brightness_zero 244\nbrightnessdown 224\nbrightnessup 225\nbrl_dot1 497\nbrl_dot10 506\nbrl_dot2 498\n\
+    brl_dot3 499\nbrl_dot4 500\nbrl_dot5 501\nbrl_dot6 502\nbrl_dot7 503\nbrl_dot8 504\nbrl_dot9 505\nbtn_0 256\n\
+    btn_1 257\nbtn_2 258\nbtn_3 259\nbtn_4 260\nbtn_5 261\nbtn_6 262\nbtn_7 263\nbtn_8 264\nbtn_9 265\nbtn_a 304\n\
+    btn_b 305\nbtn_back 278\nbtn_base 294\nbtn_base2 295\nbtn_base3 296\nbtn_base4 297\nbtn_base5 298\n\
+    btn_base6 299\nbtn_c 306\nbtn_dead 303\nbtn_dpad_down 545\nbtn_dpad_left 546\nbtn_dpad_right 547\n\
+    btn_dpad_up 544\nbtn_east 305\nbtn_extra 276\nbtn_forward 277\nbtn_gear_down 336\nbtn_gear_up 337\n\
+    btn_gripl 548\nbtn_gripl2 550\nbtn_gripr 549\nbtn_gripr2 551\nbtn_left 272\nbtn_middle 274\nbtn_mode 316\n\
+    btn_north 307\nbtn_pinkie 293\nbtn_right 273\nbtn_select 314\nbtn_side 275\nbtn_south 304\nbtn_start 315\n\
+    btn_stylus 331\nbtn_stylus2 332\nbtn_stylus3 329\nbtn_task 279\nbtn_thumb 289\nbtn_thumb2 290\n\
+    btn_thumbl 317\nbtn_thumbr 318\nbtn_tl 310\nbtn_tl2 312\nbtn_tool_airbrush 324\nbtn_tool_brush 322\n\
+    btn_tool_doubletap 333\nbtn_tool_finger 325\nbtn_tool_lens 327\nbtn_tool_mouse 326\nbtn_tool_pen 320\n\
+    btn_tool_pencil 323\nbtn_tool_quadtap 335\nbtn_tool_quinttap 328\nbtn_tool_rubber 321\n\
+    btn_tool_tripletap 334\nbtn_top 291\nbtn_top2 292\nbtn_touch 330\nbtn_tr 311\nbtn_tr2 313\nbtn_trigger 288\n\
+    btn_trigger_happy1 704\nbtn_trigger_happy10 713\nbtn_trigger_happy11 714\nbtn_trigger_happy12 715\n\
+    btn_trigger_happy13 716\nbtn_trigger_happy14 717\nbtn_trigger_happy15 718\nbtn_trigger_happy16 719\n\
+    btn_trigger_happy17 720\nbtn_trigger_happy18 721\nbtn_trigger_happy19 722\nbtn_trigger_happy2 705\n\
+    btn_trigger_happy20 723\nbtn_trigger_happy21 724\nbtn_trigger_happy22 725\nbtn_trigger_happy23 726\n\
+    btn_trigger_happy24 727\nbtn_trigger_happy25 728\nbtn_trigger_happy26 729\nbtn_trigger_happy27 730\n\
+    btn_trigger_happy28 731\nbtn_trigger_happy29 732\nbtn_trigger_happy3 706\nbtn_trigger_happy30 733\n\
+    btn_trigger_happy31 734\nbtn_trigger_happy32 735\nbtn_trigger_happy33 736\nbtn_trigger_happy34 737\n\
+    btn_trigger_happy35 738\nbtn_trigger_happy36 739\nbtn_trigger_happy37 740\nbtn_trigger_happy38 741\n\
+    btn_trigger_happy39 742\nbtn_trigger_happy4 707\nbtn_trigger_happy40 743\nbtn_trigger_happy5 708\n\
+    btn_trigger_happy6 709\nbtn_trigger_happy7 710\nbtn_trigger_happy8 711\nbtn_trigger_happy9 712\nbtn_west 308\n\
+    btn_x 307\nbtn_y 308\nbtn_z 309\nbuttonconfig 576\nc 46\ncalc 140\ncalendar 397\ncamera 212\n\
+    camera_access_disable 588\ncamera_access_enable 587\ncamera_access_toggle 589\ncamera_down 536\n\
+    camera_focus 528\ncamera_left 537\ncamera_right 538\ncamera_up 535\ncamera_zoomin 533\ncamera_zoomout 534\n\
+    cancel 223\ncapslock 58\ncd 383\nchannel 363\nchanneldown 403\nchannelup 402\nchat 216\nclear 355\n\
+    clearvu_sonar 646\nclose 206\nclosecd 160\ncoffee 152\ncomma 51\ncompose 127\ncomputer 157\nconfig 171\n\
+    connect 218\ncontext_menu 438\ncontextual_insert 597\ncontextual_query 598\ncontrolpanel 579\ncopy 133\n\
+    cut 137\ncyclewindows 154\nd 32\ndashboard 204\ndata 631\ndatabase 426\ndel_eol 448\ndel_eos 449\n\
+    del_line 451\ndelete 111\ndeletefile 146\ndictate 586\ndigits 413\ndirection 153\ndirectory 394\n\
+    display_off 245\ndisplaytoggle 431\ndo_not_disturb 591\ndocuments 235\ndollar 434\ndot 52\ndown 108\n\
+    dual_range_radar 643\ndvd 389\ne 18\nedit 176\neditor 422\nejectcd 161\nejectclosecd 162\nemail 215\n\
+    emoji_picker 585\nend 107\nenter 28\nepg 365\neprivacy_screen_off 595\neprivacy_screen_on 594\nequal 13\n\
+    esc 1\neuro 435\nexit 174\nf 33\nf1 59\nf10 68\nf11 87\nf12 88\nf13 183\nf14 184\nf15 185\nf16 186\nf17 187\n\
+    f18 188\nf19 189\nf2 60\nf20 190\nf21 191\nf22 192\nf23 193\nf24 194\nf3 61\nf4 62\nf5 63\nf6 64\nf7 65\n\
+    f8 66\nf9 67\nfastforward 208\nfastreverse 629\nfavorites 364\nfile 144\nfinance 219\nfind 136\nfirst 404\n\
+    fishing_chart 641\nfn 464\nfn_1 478\nfn_2 479\nfn_b 484\nfn_d 480\nfn_e 481\nfn_esc 465\nfn_f 482\nfn_f1 466\n\
+    fn_f10 475\nfn_f11 476\nfn_f12 477\nfn_f2 467\nfn_f3 468\nfn_f4 469\nfn_f5 470\nfn_f6 471\nfn_f7 472\n\
+    fn_f8 473\nfn_f9 474\nfn_right_shift 485\nfn_s 483\nforward 159\nforwardmail 233\nframeback 436\n\
+    frameforward 437\nfront 132\nfull_screen 372\ng 34\ngames 417\ngoto 354\ngraphicseditor 424\ngrave 41\n\
+    green 399\nh 35\nhangeul 122\nhanguel 122\nhangup_phone 446\nhanja 123\nhelp 138\nhenkan 92\nhiragana 91\n\
+    home 102\nhomepage 172\nhp 211\ni 23\nimages 442\ninfo 358\nins_line 450\ninsert 110\niso 170\nj 36\n\
+    journal 578\nk 37\nkatakana 90\nkatakanahiragana 93\nkbd_layout_next 584\nkbd_lcd_menu1 696\n\
+    kbd_lcd_menu2 697\nkbd_lcd_menu3 698\nkbd_lcd_menu4 699\nkbd_lcd_menu5 700\nkbdillumdown 229\n\
+    kbdillumtoggle 228\nkbdillumup 230\nkbdinputassist_accept 612\nkbdinputassist_cancel 613\n\
+    kbdinputassist_next 609\nkbdinputassist_nextgroup 611\nkbdinputassist_prev 608\nkbdinputassist_prevgroup 610\n\
+    keyboard 374\nkp0 82\nkp1 79\nkp2 80\nkp3 81\nkp4 75\nkp5 76\nkp6 77\nkp7 71\nkp8 72\nkp9 73\nkpasterisk 55\n\
+    kpcomma 121\nkpdot 83\nkpenter 96\nkpequal 117\nkpjpcomma 95\nkpleftparen 179\nkpminus 74\nkpplus 78\n\
+    kpplusminus 118\nkprightparen 180\nkpslash 98\nl 38\nlanguage 368\nlast 405\nleft 105\nleft_down 617\n\
+    left_up 616\nleftalt 56\nleftbrace 26\nleftctrl 29\nleftmeta 125\nleftshift 42\nlights_toggle 542\n\
+    linefeed 101\nlink_phone 447\nlist 395\nlogoff 433\nm 50\nmacro 112\nmacro1 656\nmacro10 665\nmacro11 666\n\
+    macro12 667\nmacro13 668\nmacro14 669\nmacro15 670\nmacro16 671\nmacro17 672\nmacro18 673\nmacro19 674\n\
+    macro2 657\nmacro20 675\nmacro21 676\nmacro22 677\nmacro23 678\nmacro24 679\nmacro25 680\nmacro26 681\n\
+    macro27 682\nmacro28 683\nmacro29 684\nmacro3 658\nmacro30 685\nmacro4 659\nmacro5 660\nmacro6 661\n\
+    macro7 662\nmacro8 663\nmacro9 664\nmacro_preset1 691\nmacro_preset2 692\nmacro_preset3 693\n\
+    macro_preset_cycle 690\nmacro_record_start 688\nmacro_record_stop 689\nmail 155\nmark_waypoint 638\n\
+    media 226\nmedia_repeat 439\nmedia_top_menu 619\nmemo 396\nmenu 139\nmessenger 430\nmhp 367\nmicmute 248\n\
+    minus 12\nmode 373\nmove 175\nmp3 391\nmsdos 151\nmuhenkan 94\nmute 113\nn 49\nnav_chart 640\nnav_info 648\n\
+    new 181\nnews 427\nnext 407\nnext_element 635\nnext_favorite 624\nnextsong 163\nnotification_center 444\n\
+    numeric_0 512\nnumeric_1 513\nnumeric_11 620\nnumeric_12 621\nnumeric_2 514\nnumeric_3 515\nnumeric_4 516\n\
+    numeric_5 517\nnumeric_6 518\nnumeric_7 519\nnumeric_8 520\nnumeric_9 521\nnumeric_a 524\nnumeric_b 525\n\
+    numeric_c 526\nnumeric_d 527\nnumeric_pound 523\nnumeric_star 522\nnumlock 69\no 24\nok 352\n\
+    onscreen_keyboard 632\nopen 134\noption 357\np 25\npagedown 109\npageup 104\npaste 135\npause 119\n\
+    pause_record 626\npausecd 201\npc 376\nperformance 701\nphone 169\npickup_phone 445\nplay 207\nplaycd 200\n\
+    player 387\nplaypause 164\npower 116\npower2 356\npresentation 425\nprevious 412\nprevious_element 636\n\
+    previoussong 165\nprint 210\nprivacy_screen_toggle 633\nprog1 148\nprog2 149\nprog3 202\nprog4 203\n\
+    program 362\nprops 130\npvr 366\nq 16\nquestion 214\nr 19\nradar_overlay 644\nradio 385\nrecord 167\nred 398\n\
+    redo 182\nrefresh 173\nrefresh_rate_toggle 562\nreply 232\nreserved 0\nrestart 408\nrewind 168\nrfkill 247\n\
+    right 106\nright_down 615\nright_up 614\nrightalt 100\nrightbrace 27\nrightctrl 97\nrightmeta 126\n\
+    rightshift 54\nro 89\nroot_menu 618\nrotate_display 153\nrotate_lock_toggle 561\ns 31\nsat 381\nsat2 382\n\
+    save 234\nscale 120\nscreen 375\nscreenlock 152\nscreensaver 581\nscrolldown 178\nscrolllock 70\n\
+    scrollup 177\nsearch 217\nselect 353\nselective_screenshot 634\nsemicolon 39\nsend 231\nsendfile 145\n\
+    setup 141\nshop 221\nshuffle 410\nsidevu_sonar 647\nsingle_range_radar 642\nslash 53\nsleep 142\nslow 409\n\
+    slowreverse 630\nsos 639\nsound 213\nspace 57\nspellcheck 432\nsport 220\nspreadsheet 423\nstop 128\n\
+    stop_record 625\nstopcd 166\nsubtitle 370\nsuspend 205\nswitchvideomode 227\nsysrq 99\nt 20\ntab 15\n\
+    tape 384\ntaskmanager 577\nteen 414\ntext 388\ntime 359\ntitle 369\ntouchpad_off 532\ntouchpad_on 531\n\
+    touchpad_toggle 530\ntraditional_sonar 645\ntuner 386\ntv 377\ntv2 378\ntwen 415\nu 22\nundo 131\n\
+    unknown 240\nunmute 628\nup 103\nuwb 239\nv 47\nvcr 379\nvcr2 380\nvendor 360\nvideo 393\nvideo_next 241\n\
+    video_prev 242\nvideophone 416\nvod 627\nvoicecommand 582\nvoicemail 428\nvolumedown 114\nvolumeup 115\nw 17\n\
+    wakeup 143\nwimax 246\nwlan 238\nwordprocessor 421\nwps_button 529\nwwan 246\nwww 150\nx 45\nxfer 147\ny 21\n\
+    yellow 400\nyen 124\nz 44\nzenkakuhankaku 85\nzoom 372\nzoomin 418\nzoomout 419\nzoomreset 420\n";
 
 /// What people call keys that have other names. A line each: what they say, and after a space the key, or several with `or` between.
 /// These are names of X's keysyms, and what keys have on them.

@@ -12,7 +12,7 @@ use Rattle.hwdb_spec_commands.specs.Runs.{AreKept, HasTaken, OnOut, Printed, Tol
 use Rattle.hwdb_spec.specs.Store.{Contents, InPlace, Outcomes}
 use Rattle.hwdb_spec.specs.System.{database_folder}
 use Rattle.hwdb_spec_commands.specs.declared.form.Form.TheVariants as form
-use Rattle.hwdb_spec_commands.specs.declared.job.Task.TheVariants.{Ask, Check, Device, Diff, Dump, Explain, List as ListHits, Near, Query, Status, Test, Update, Verify}
+use Rattle.hwdb_spec_commands.specs.declared.job.Task.TheVariants.{Ask, Check, Device, Diff, Dump, Explain, Keys, List as ListHits, Near, Query, Status, Test, Update, Verify}
 use Rattle.hwdb_spec_commands.specs.declared.job.Task.{Task}
 use Rattle.hwdb_spec_commands.specs.declared.job.Job.{Job}
 use Rattle.hwdb_spec_commands.specs.Checks.{format_of}
@@ -21,6 +21,7 @@ use Rattle.hwdb_spec_commands.specs.Status.{IsMade, IsStatus}
 use Rattle.hwdb_spec_commands.specs.Asked.{IsDumped, IsPrinted, IsAnswered, IsListFrom}
 use Rattle.hwdb_spec_program.specs.ComparedDatabases.{IsDiffed}
 use Rattle.hwdb_spec_commands.specs.Databases.{IsSummary}
+use Rattle.hwdb_spec_commands.specs.KeysAsked.{keys_status, keys_text}
 use Rattle.hwdb_spec_commands.specs.NearAsked.{IsNear, near_form, near_limit}
 use Rattle.hwdb_spec_commands.specs.DeviceAsked.{IsDevicePrinted, device_form}
 use Rattle.hwdb_spec_commands.specs.DeviceTree.{Sight}
@@ -46,6 +47,7 @@ looks_below_root (Near files device limit json) = length files.items == 0
 looks_below_root (Verify database) = not (is_some database)
 looks_below_root (Dump database) = not (is_some database)
 looks_below_root (Test files database json) = not (is_some database)
+looks_below_root (Keys words json) = false
 looks_below_root _ = true
 
 -- What a task prints, and its status. An update says what it does while it goes on, and `device` asks sysfs, too.
@@ -73,6 +75,8 @@ IsAnswerOf (Verify database) root strict input files status texts =
 IsAnswerOf (Dump database) root strict input files status texts =
     (status ≡ 0) × OnOut (λ text. OfNamed (option_map string_bytes database) input files (λ given seen. IsDumped given root seen text)) texts
 IsAnswerOf (Status json quiet) root strict input files status texts = OnOut (λ text. IsStatus root json quiet files text status) texts
+IsAnswerOf (Keys words json) root strict input files status texts =
+    OnOut (λ text. (text ≡ keys_text json (map string_bytes words.items)) × (status ≡ keys_status text)) texts
 
 -- what `device` prints in this form, and its status
 abbrev pub IsDeviceAnswer : DeviceForm → (root : List ℕ) (given : Option (List ℕ)) → Sight → Contents → (status : ℕ) → Texts → Type 0

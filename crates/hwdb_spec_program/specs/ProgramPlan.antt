@@ -31,6 +31,7 @@ use Rattle.hwdb_plan.specs.Dump.{text_form}
 use Rattle.hwdb_plan.specs.Ended.{Outs, ShowsEnd, outs, outs_of}
 use Rattle.hwdb_plan.specs.Files.{OfInput}
 use Rattle.hwdb_plan.specs.Given.{given_at, given_or_asked}
+use Rattle.hwdb_plan.specs.Keys.{keys_plan}
 use Rattle.hwdb_plan.specs.List.{list_plan}
 use Rattle.hwdb_plan.specs.Near.{near_plan}
 use Rattle.hwdb_plan.specs.Plans.{Plan}
@@ -121,6 +122,7 @@ plans a root strict rows =
     ∷ (codes "dump", given_or_asked a.input (first_of (codes "DATABASE") rows) root text_form)
     ∷ (codes "diff", diff_of a rows)
     ∷ (codes "status", status_plan root json false)
+    ∷ (codes "keys", keys_plan json (values_of (codes "WORD") rows))
     ∷ update_plans root rows
 
 -- that of one, by its word

@@ -5,7 +5,7 @@ use Rattle.clap.specs.Faults.{fault_of}
 use Rattle.hwdb_spec_commands.specs.CommandLine.{hwdb_app}
 use Rattle.hwdb_spec_program.specs.Words.{AskFor, AskForText, AreToldBy}
 use Rattle.hwdb_spec_commands.specs.declared.job.Job.{Job}
-use Rattle.hwdb_spec_commands.specs.declared.job.Task.TheVariants.{Ask, Check, Device, Diff, Dump, Explain, List as ListHits, Near, Query, Status, Test, Update, Verify}
+use Rattle.hwdb_spec_commands.specs.declared.job.Task.TheVariants.{Ask, Check, Device, Diff, Dump, Explain, Keys, List as ListHits, Near, Query, Status, Test, Update, Verify}
 use Rattle.hwdb_spec_commands.specs.declared.job.Task.{Task}
 use Rattle.hwdb_spec_commands.specs.declared.job.WordsFault.TheVariants as words_fault
 use Rattle.hwdb_spec_commands.specs.declared.job.WordsFault.{WordsFault}
@@ -51,6 +51,7 @@ Refuses (Diff old_path new_path devices json stat) root input files refusal =
 Refuses (Verify database) root input files refusal = OfNamed (option_map string_bytes database) input files (λ given seen. IsVerifyRefused given root seen refusal)
 Refuses (Dump database) root input files refusal = OfNamed (option_map string_bytes database) input files (λ given seen. IsDumpRefused given root seen refusal)
 Refuses (Status json quiet) root input files refusal = IsStatusRefused root files refusal
+Refuses (Keys words json) root input files refusal = refusal ≡ Plain Memory
 Refuses task root input files refusal = IsUnanswered root files refusal
 
 -- what it might have printed, with whatever status

@@ -12,7 +12,7 @@ use Rattle.hwdb_spec_commands.specs.WordFaults.{IsToldOfOne}
 use Rattle.hwdb_spec_program.specs.Words.{AskFor}
 use Rattle.hwdb_spec_commands.specs.declared.job.Job.{Job}
 use Rattle.hwdb_spec_commands.specs.declared.job.Task.{Task}
-use Rattle.hwdb_spec_commands.specs.declared.job.Task.TheVariants.{Ask, Check, Device, Diff, Dump, Explain, List as ListHits, Near, Query, Status, Test, Update, Verify}
+use Rattle.hwdb_spec_commands.specs.declared.job.Task.TheVariants.{Ask, Check, Device, Diff, Dump, Explain, Keys, List as ListHits, Near, Query, Status, Test, Update, Verify}
 use Rattle.hwdb_spec_commands.specs.declared.job.WordsFault.TheVariants as words_fault
 use Rattle.hwdb_spec_commands.specs.declared.job.WordsFault.{WordsFault}
 use Rattle.hwdb_spec_commands.specs.Given.{is_input}
@@ -47,6 +47,7 @@ module _ (name : Text) (inner : List Row) where
   same_kind (Diff old1 new1 devices1 json1 stat1) (Diff old2 new2 devices2 json2 stat2) t u kind = tt
   same_kind (Verify database1) (Verify database2) t u kind = tt
   same_kind (Dump database1) (Dump database2) t u kind = tt
+  same_kind (Keys words1 json1) (Keys words2 json2) t u kind = tt
   same_kind (Status json1 false) (Status json2 false) t u kind = tt
   same_kind (Status json1 true) (Status json2 true) t u kind = tt
   same_kind (Status json1 true) (Update v2 k2) t u kind = both_words t.1 u.1
@@ -70,6 +71,7 @@ module _ (name : Text) (inner : List Row) where
   same_status (Diff old1 new1 devices1 json1 stat1) (Diff old2 new2 devices2 json2 stat2) t u = refl
   same_status (Verify database1) (Verify database2) t u = refl
   same_status (Dump database1) (Dump database2) t u = refl
+  same_status (Keys words1 json1) (Keys words2 json2) t u = refl
   same_status (Status json1 false) (Status json2 false) t u = refl
   same_status (Status json1 true) (Status json2 true) t u = refl
   same_status (Status json1 true) (Update v2 k2) t u = refl
@@ -98,6 +100,7 @@ module _ (name : Text) (inner : List Row) where
         (subst (λ (ds : List (List ℕ)). Undiffed ds (string_bytes old2) (string_bytes new2) input files r) (u.3 ∙ sym t.3) is))
     same_why (Verify database1) (Verify database2) t u is = subst (λ (d : Option (List ℕ)). NoVerify header fails U root files d input r) (u.1 ∙ sym t.1) is
     same_why (Dump database1) (Dump database2) t u is = subst (λ (d : Option (List ℕ)). NoDump header fails U root files d input r) (u.1 ∙ sym t.1) is
+    same_why (Keys words1 json1) (Keys words2 json2) t u is = absurd is
     same_why (Status json1 false) (Status json2 false) t u is = is
     same_why (Status json1 true) (Status json2 true) t u is = is
     same_why (Status json1 true) (Update v2 k2) t u is = both_words t.1 u.1
@@ -128,6 +131,7 @@ module _ (name : Text) (inner : List Row) where
   same_said header tree root usr files (Diff old1 new1 devices1 json1 stat1) (Diff old2 new2 devices2 json2 stat2) t u = refl
   same_said header tree root usr files (Verify database1) (Verify database2) t u = refl
   same_said header tree root usr files (Dump database1) (Dump database2) t u = refl
+  same_said header tree root usr files (Keys words1 json1) (Keys words2 json2) t u = refl
   same_said header tree root usr files (Status json1 false) (Status json2 false) t u = refl
   same_said header tree root usr files (Status json1 true) (Status json2 true) t u = refl
   same_said header tree root usr files (Status json1 true) (Update v2 k2) t u = both_words t.1 u.1

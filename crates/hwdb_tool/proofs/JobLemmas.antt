@@ -14,7 +14,7 @@ use Rattle.hwdb_spec_commands.specs.Jobs.{IsJob, IsJobOf, IsLimit, IsTask}
 use Rattle.hwdb_spec_commands.specs.CommandLine.{hwdb_app}
 use Rattle.hwdb_spec_commands.specs.declared.job.Job.{Job}
 use Rattle.hwdb_spec_commands.specs.declared.job.Task.{Task}
-use Rattle.hwdb_spec_commands.specs.declared.job.Task.TheVariants.{Ask, Check, Device, Diff, Dump, Explain, List as ListHits, Near, Query, Status, Test, Update, Verify}
+use Rattle.hwdb_spec_commands.specs.declared.job.Task.TheVariants.{Ask, Check, Device, Diff, Dump, Explain, Keys, List as ListHits, Near, Query, Status, Test, Update, Verify}
 use Rattle.hwdb_spec.specs.Outputs.{Texts}
 use Rattle.std.specs.Io.KnownBytes.{Appends}
 use Rattle.hwdb_spec.specs.Answers.{is_wanted}
@@ -29,6 +29,7 @@ use Rattle.hwdb_spec_program.specs.GivenDatabases.{OfNamed}
 use Rattle.hwdb_spec_commands.specs.Done.{IsAsked}
 use Rattle.hwdb_spec_commands.specs.Status.{IsMade, IsStatus}
 use Rattle.hwdb_spec_commands.specs.Databases.{IsSummary}
+use Rattle.hwdb_spec_commands.specs.KeysAsked.{keys_status, keys_text}
 use Rattle.hwdb_spec_commands.specs.NearAsked.{IsNear, near_form, near_limit}
 use Rattle.hwdb_spec_commands.specs.DeviceAsked.{device_form}
 use Rattle.hwdb_spec_commands.specs.declared.devices.DeviceForm.{DeviceForm}
@@ -91,6 +92,7 @@ word_of (Test files database json) = codes "test"
 word_of (Diff old_path new_path devices json stat) = codes "diff"
 word_of (Verify database) = codes "verify"
 word_of (Dump database) = codes "dump"
+word_of (Keys words json) = codes "keys"
 word_of (Status json false) = codes "status"
 word_of (Status json true) = codes "update"
 
@@ -183,6 +185,9 @@ module _ (name : Text) (inner : List Row) (root : List ℕ) (usr strict : Bool) 
       subst (λ (d : Option (List ℕ)). Quietly (λ text. OfNamed d input old (λ g fs. IsPrinted g root IsSummary fs text))) (u.1 ∙ sym t.1) done
   same_task (Dump database1) (Dump database2) t u done =
       subst (λ (d : Option (List ℕ)). Quietly (λ text. OfNamed d input old (λ g fs. IsDumped g root fs text))) (u.1 ∙ sym t.1) done
+  same_task (Keys words1 json1) (Keys words2 json2) t u done =
+      subst (λ (ws : List (List ℕ)). Prints (OnOut (λ text. (text ≡ keys_text json1 ws) × (status ≡ keys_status text)))) (u.2 ∙ sym t.2)
+      (subst (λ (j : Bool). Prints (OnOut (λ text. (text ≡ keys_text j (map string_bytes words2.items)) × (status ≡ keys_status text)))) (u.1 ∙ sym t.1) done)
   same_task (Status json1 false) (Status json2 false) t u done =
       subst (λ (j : Bool). Prints (OnOut (λ text. IsStatus root j false old text status))) (u.1 ∙ sym t.1) done
   same_task (Status json1 true) (Status json2 true) t u done =
@@ -266,11 +271,13 @@ same_misuse name inner (Ask file1 device1) task2 t u takes takes2 = both_words t
 same_misuse name inner (Check files1 allowed1 json1) task2 t u takes takes2 = both_words takes refl
 same_misuse name inner (Diff old1 new1 devices1 json1 stat1) task2 t u takes takes2 = both_words takes refl
 same_misuse name inner (Status json1 quiet1) task2 t u takes takes2 = both_words takes refl
+same_misuse name inner (Keys words1 json1) task2 t u takes takes2 = both_words takes refl
 same_misuse name inner task1 (Update v2 k2) t u takes takes2 = both_words takes2 refl
 same_misuse name inner task1 (Ask file2 device2) t u takes takes2 = both_words takes2 refl
 same_misuse name inner task1 (Check files2 allowed2 json2) t u takes takes2 = both_words takes2 refl
 same_misuse name inner task1 (Diff old2 new2 devices2 json2 stat2) t u takes takes2 = both_words takes2 refl
 same_misuse name inner task1 (Status json2 quiet2) t u takes takes2 = both_words takes2 refl
+same_misuse name inner task1 (Keys words2 json2) t u takes takes2 = both_words takes2 refl
 same_misuse name inner task1 task2 t u takes takes2 = apart (word_of task1) (word_of task2) refl (sym (is_named name inner task1 t) ∙ is_named name inner task2 u)
 
 -- what is said besides is of the words, too
@@ -291,11 +298,13 @@ same_besides name inner (Ask file1 device1) task2 t u takes takes2 etc usr = bot
 same_besides name inner (Check files1 allowed1 json1) task2 t u takes takes2 etc usr = both_words takes refl
 same_besides name inner (Diff old1 new1 devices1 json1 stat1) task2 t u takes takes2 etc usr = both_words takes refl
 same_besides name inner (Status json1 quiet1) task2 t u takes takes2 etc usr = both_words takes refl
+same_besides name inner (Keys words1 json1) task2 t u takes takes2 etc usr = both_words takes refl
 same_besides name inner task1 (Update v2 k2) t u takes takes2 etc usr = both_words takes2 refl
 same_besides name inner task1 (Ask file2 device2) t u takes takes2 etc usr = both_words takes2 refl
 same_besides name inner task1 (Check files2 allowed2 json2) t u takes takes2 etc usr = both_words takes2 refl
 same_besides name inner task1 (Diff old2 new2 devices2 json2 stat2) t u takes takes2 etc usr = both_words takes2 refl
 same_besides name inner task1 (Status json2 quiet2) t u takes takes2 etc usr = both_words takes2 refl
+same_besides name inner task1 (Keys words2 json2) t u takes takes2 etc usr = both_words takes2 refl
 same_besides name inner task1 task2 t u takes takes2 etc usr = apart (word_of task1) (word_of task2) refl (sym (is_named name inner task1 t) ∙ is_named name inner task2 u)
 
 pub takes_of : (text : Bool) (task : Task) → (text && takes_text task) ≡ true → takes_text task ≡ true

@@ -17,7 +17,7 @@ use Rattle.hwdb_spec_commands.specs.NearAsked.{near_form, near_limit}
 use Rattle.hwdb_spec_commands.specs.Runs.{Told}
 use Rattle.hwdb_spec_commands.specs.Told.{Reads, stop_of}
 use Rattle.hwdb_spec_commands.specs.declared.job.Job.{Job}
-use Rattle.hwdb_spec_commands.specs.declared.job.Task.TheVariants.{Ask, Check, Device, Diff, Dump, Explain, List as ListHits, Near, Query, Status, Test, Update, Verify}
+use Rattle.hwdb_spec_commands.specs.declared.job.Task.TheVariants.{Ask, Check, Device, Diff, Dump, Explain, Keys, List as ListHits, Near, Query, Status, Test, Update, Verify}
 use Rattle.hwdb_spec_commands.specs.declared.refusals.Refusal.{Refusal}
 use Rattle.hwdb_spec_commands.specs.declared.unread.Unread.{Unread}
 use Rattle.hwdb_spec_commands.specs.declared.unread.Unread.TheVariants as unread
@@ -38,6 +38,7 @@ use Rattle.hwdb_plan.specs.Files.{OfInput}
 use Rattle.hwdb_plan.specs.Given.{given_at, given_or_asked}
 use Rattle.hwdb_plan.specs.Input.{OverGiven, OverNamed, reads_with}
 use Rattle.hwdb_plan.specs.Lemmas.Ends.{answer_shows}
+use Rattle.hwdb_plan.specs.Keys.{keys_plan}
 use Rattle.hwdb_plan.specs.List.{list_plan}
 use Rattle.hwdb_plan.specs.Near.{near_plan}
 use Rattle.hwdb_plan.specs.Plans.{End, Ends, Follows, Next, Plan}
@@ -390,6 +391,19 @@ module _ (w : Reads) (sight : Sight) (input_before input_now : Told) (before now
           at_word (around (Err unread.Memory) []) (codes "update") is.0
               (subst (λ (b : Bool). IfSome (checked_plan b) Shows) (sym is.1)
               (subst (λ (j : Bool). Shows (status_plan root j true)) is.2 (answered (status_plan root json true) follows))),
+        ),
+      )
+
+      pub keys_planned : (words : Vec (String Global) Global) (json : Bool) → IsTask word rows (Keys words json) → Follows end_of w (keys_plan json (map string_bytes words.items)) answer → At
+      keys_planned words json is follows = (
+        Err unread.Memory,
+        tt,
+        (
+          [],
+          refl,
+          at_word (around (Err unread.Memory) []) (codes "keys") is.0
+              (subst (λ (j : Bool). Shows (keys_plan j (values_of (codes "WORD") rows))) is.1
+              (subst (λ (ws : List Text). Shows (keys_plan json ws)) is.2 (answered (keys_plan json (map string_bytes words.items)) follows))),
         ),
       )
 

@@ -4,7 +4,7 @@ use Rattle.std.proofs.lemmas.List.{append-nil}
 use Rattle.std.specs.Io.KnownBytes.{Appends}
 use Rattle.std.specs.Prelude.{Contains, option_map}
 use Rattle.hwdb_spec_commands.specs.declared.job.Task.{Task}
-use Rattle.hwdb_spec_commands.specs.declared.job.Task.TheVariants.{Ask, Check, Device, Diff, Dump, Explain, List as ListHits, Near, Query, Status, Test, Update, Verify}
+use Rattle.hwdb_spec_commands.specs.declared.job.Task.TheVariants.{Ask, Check, Device, Diff, Dump, Explain, Keys, List as ListHits, Near, Query, Status, Test, Update, Verify}
 use Rattle.hwdb_spec_commands.specs.Asked.{IsAnswered, IsDumped, IsPrinted, database_path}
 use Rattle.hwdb_spec_commands.specs.CheckedFiles.{AreCheckedFiles, AreChosenFiles, AreNamedFiles, StandFor, folder_of}
 use Rattle.hwdb_spec_commands.specs.Databases.{IsSummary, IsTextOf}
@@ -25,7 +25,7 @@ use Rattle.hwdb_spec_commands.specs.Streams.{texts_of}
 use Rattle.hwdb_spec_commands.specs.declared.form.Form.{Form}
 use Rattle.hwdb_spec_commands.specs.declared.form.Form.TheVariants as forms
 use Rattle.hwdb_spec_commands.specs.Refusals.{IsOver}
-use Rattle.hwdb_spec.specs.declared.errors.ToolError.TheVariants.{TooLong, TooManyFiles}
+use Rattle.hwdb_spec.specs.declared.errors.ToolError.TheVariants.{Memory, TooLong, TooManyFiles}
 use Rattle.hwdb_spec_commands.specs.declared.refusals.Refusal.{Refusal}
 use Rattle.hwdb_spec_commands.specs.declared.refusals.Refusal.TheVariants.{Plain}
 use Rattle.hwdb_tool.specs.OneOutcome.{IsOneInput, ListingsGiveOneChoice, ListingsGiveOneReading, Scene, TellOne, scene_of}
@@ -180,6 +180,7 @@ module _ (header : OneHeader) (tree : OneTree) where
   Why fails U input files (Update verbose skip) root r = Unupdated root files r
   Why fails U input files (Device path strings json pattern) root r = ⊥
   Why fails U input files (Status json quiet) root r = Unstated root files r
+  Why fails U input files (Keys words json) root r = ⊥
 
   -- what a task says before all else
   abbrev pub said_first : Task → (root : List ℕ) (usr : Bool) → Contents → List ℕ
@@ -252,6 +253,9 @@ module _ (header : OneHeader) (tree : OneTree) where
           left_then found.1 not.0.1.same,
         )
     why (Device path strings json pattern) kind never named not = absurd kind
+    why (Keys words json) kind never named not =
+        let found = unprinted (λ x. x ≡ Plain Memory) (MayPrint (Keys words json) root strict before.input.bytes before.files) r before.err now.err before.out now.out of not.0.0 in
+        (subst IsOfWhatIsRead found.0 of, left_then found.1 not.0.1.same)
     why (Status json quiet) kind never named not =
         let found = unprinted (IsStatusRefused root before.files) (MayPrint (Status json quiet) root strict before.input.bytes before.files) r before.err now.err before.out now.out of not.0.0 in
         let asked = never_asked fails root before.files (λ p is. never p (inr is)) in
@@ -281,6 +285,7 @@ module _ (header : OneHeader) (tree : OneTree) where
     one_why fails fails2 U U2 files root r r2 (Test paths database json) kind one two = test_test header (map string_bytes paths.items) (option_map string_bytes database) root files told r r2 one two
     one_why fails fails2 U U2 files root r r2 (Update verbose skip) kind one two = unupdated_one choice reading root files r r2 one two
     one_why fails fails2 U U2 files root r r2 (Device path strings json pattern) kind one two = absurd kind
+    one_why fails fails2 U U2 files root r r2 (Keys words json) kind one two = absurd one
     one_why fails fails2 U U2 files root r r2 (Status json quiet) kind one two = status_status choice reading form root files r r2 one two
 
   same_told : (one two one_now two_now : Told) → TellOne one two → one_now ≡ one → two_now ≡ two → one_now.bytes ≡ two_now.bytes
@@ -360,6 +365,7 @@ module _ (header : OneHeader) (tree : OneTree) where
         test_done header given path root before.files.seen told json done.0.texts.out status r
         (subst (λ (i : Option (List ℕ)). IsTested json given path root i before.files.seen done.0.texts.out status) tells done.0.are.1) not
     not_both_ends (Device path strings json pattern) kind done not = absurd kind
+    not_both_ends (Keys words json) kind done not = absurd not
     not_both_ends (Status json quiet) kind done not = status_done choice reading form root before.files.seen json quiet done.0.texts.out status r done.0.are.1 not
     not_both_ends (Update verbose skip) kind done not =
         let place : List ℕ → Type 0 = λ database. InPlace (database_folder usr root) database before.files.seen now.files.seen now.files.left in

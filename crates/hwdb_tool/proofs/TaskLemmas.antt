@@ -4,7 +4,7 @@ use Rattle.std.specs.Prelude.{option_map}
 use Rattle.std.specs.Option.{option_map_or}
 use Rattle.std.specs.Io.KnownBytes.{Appends}
 use Rattle.hwdb_spec_commands.specs.declared.job.Task.{Task}
-use Rattle.hwdb_spec_commands.specs.declared.job.Task.TheVariants.{Ask, Check, Device, Diff, Dump, Explain, List as ListHits, Near, Query, Status, Test, Update, Verify}
+use Rattle.hwdb_spec_commands.specs.declared.job.Task.TheVariants.{Ask, Check, Device, Diff, Dump, Explain, Keys, List as ListHits, Near, Query, Status, Test, Update, Verify}
 use Rattle.hwdb_spec_commands.specs.Done.{AreAskTexts, IsUpdated}
 use Rattle.hwdb_spec_commands.specs.Databases.{IsDiffText, IsDifferent, IsSummary, IsTextOf}
 use Rattle.hwdb_spec.specs.Assignment.{Position}
@@ -41,6 +41,7 @@ use Rattle.hwdb_spec.specs.Outputs.{Texts}
 use Rattle.hwdb_spec_commands.specs.declared.devices.DeviceForm.{DeviceForm}
 use Rattle.hwdb_spec_program.specs.DeviceErrors.{asked_names}
 use Rattle.hwdb_spec_commands.specs.Near.{PatternAt}
+use Rattle.hwdb_spec_commands.specs.KeysAsked.{keys_status}
 use Rattle.hwdb_spec_commands.specs.NearAsked.{IsNear, database_patterns, near_form, near_limit, patterns_from}
 use Rattle.hwdb_spec_commands.specs.Asked.{IsAnswered, IsDumped, IsFrom, IsListFrom, IsPrinted, list_form, named_database}
 use Rattle.hwdb_spec_commands.specs.Sides.{IsSide}
@@ -305,6 +306,11 @@ module _ (tree : (bytes : List ℕ) (t u : Tree) → IsDatabase bytes t → IsDa
     one_err = one.1.0 ∙ sym two.1.0;
     one_out = both_named (option_map string_bytes database) input files (λ g fs. IsDumped g root fs texts.out) (λ g fs. IsDumped g root fs texts2.out) (texts.out ≡ texts2.out)
         (λ g fs a b. one_text tree dump_text a.bytes b.bytes texts.out texts2.out (one_held (named_database g root fs) a.bytes b.bytes a.named b.named) a.is b.is) one.1.1 two.1.1;
+  }
+  one_answer_of (Keys words json) = λ root strict input files status status2 texts texts2 one two. record {
+    one_status = one.1.1 ∙ ap keys_status (one.1.0 ∙ sym two.1.0) ∙ sym two.1.1;
+    one_err = one.0 ∙ sym two.0;
+    one_out = one.1.0 ∙ sym two.1.0;
   }
   one_answer_of (Status json quiet) = λ root strict input files status status2 texts texts2 one two.
       let same = one_status_text tree form one_reading root json quiet files texts.out texts2.out status status2 one.1 two.1 in

@@ -16,7 +16,7 @@ use Rattle.hwdb_spec.specs.declared.errors.ToolError.TheVariants.{BadDatabase, M
 use Rattle.hwdb_spec_commands.specs.declared.job.Job.{Job}
 use Rattle.hwdb_spec_commands.specs.declared.job.WordsFault.TheVariants as words_fault
 use Rattle.hwdb_spec_commands.specs.declared.job.Task.{Task}
-use Rattle.hwdb_spec_commands.specs.declared.job.Task.TheVariants.{Ask, Check, Device, Diff, Dump, Explain, List as ListHits, Near, Query, Status, Test, Update, Verify}
+use Rattle.hwdb_spec_commands.specs.declared.job.Task.TheVariants.{Ask, Check, Device, Diff, Dump, Explain, Keys, List as ListHits, Near, Query, Status, Test, Update, Verify}
 use Rattle.hwdb_spec_commands.specs.Runs.{Told}
 use Rattle.hwdb_spec_commands.specs.CheckedFiles.{StandFor, folder_of}
 use Rattle.hwdb_spec.specs.Store.{Contents, Outcomes, path_in}
@@ -83,6 +83,7 @@ IsCovered (Diff old new devices json stat) = Unit {0}
 IsCovered (Verify database) = Unit {0}
 IsCovered (Dump database) = Unit {0}
 IsCovered (Status json quiet) = Unit {0}
+IsCovered (Keys words json) = Unit {0}
 IsCovered (Device path strings json pattern) = ⊥
 
 -- it answers devices of standard input, each as it comes
@@ -140,6 +141,7 @@ MayRead (Diff old new devices json stat) root path = IsOfDiffed (map string_byte
 MayRead (Verify database) root path = IsOfDatabase (option_map string_bytes database) root path
 MayRead (Dump database) root path = IsOfDatabase (option_map string_bytes database) root path
 MayRead (Status json quiet) root path = IsOfFolders root path ⊎ IsOfDatabase None root path
+MayRead (Keys words json) root path = ⊥
 MayRead task root path = IsOfDatabase None root path
 
 -- no reading that the task does may fail

@@ -20,6 +20,7 @@ use crate::device_command::{device, device_form};
 use crate::diff_command::diff;
 use crate::dump_command::dump;
 use crate::hiding::update_telling;
+use crate::keys_command::keys;
 use crate::near_command::near;
 use crate::outlet::Outlet;
 use crate::over_text::{asks_text, run_over_text};
@@ -126,7 +127,7 @@ fn looks_below_root(task: &Task) -> bool
     ensures { result ≡ looks_below_root task.now }
 {
     match task {
-        Task::Ask { .. } | Task::Diff { .. } => false,
+        Task::Ask { .. } | Task::Diff { .. } | Task::Keys { .. } => false,
         Task::Check { files, .. } | Task::Near { files, .. } => files.is_empty(),
         Task::Verify { database } | Task::Dump { database } => database.is_none(),
         Task::Test { database, .. } => database.is_none(),
@@ -358,6 +359,7 @@ pub fn run<D: Machine, I: Source, O: Sink, E: Sink>(
         Task::Status { json, quiet } => {
             printed(status(alloc, root, *json, *quiet, system), out, err)
         }
+        Task::Keys { words, json } => printed(keys(alloc, words, *json), out, err),
         Task::Verify { database } => {
             let given = text_of(database);
             let answer = verify(alloc, root, given, system, input);

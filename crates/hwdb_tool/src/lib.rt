@@ -19,6 +19,7 @@
 //! | `diff_command` | `diff` |
 //! | `verify_command` | `verify`; `verdicts`: its words on bytes that are no database |
 //! | `dump_command` | `dump` |
+//! | `keys_command` | `keys` |
 //! | `status_command` | `status`; `commands`: the command that makes a database anew |
 //! | `over_text` | `--text`: the text files in place of a database; `besides`: what `explain` tells of them that no database can |
 //! | `databases` | the database that a command asks for |
@@ -55,6 +56,7 @@ mod given_folders;
 mod hiding;
 mod in_parts;
 mod input_devices;
+mod keys_command;
 mod laws;
 mod missing;
 mod near_command;

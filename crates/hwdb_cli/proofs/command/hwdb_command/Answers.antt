@@ -15,4 +15,5 @@ returns c =
     let diff = c.with_command-diff.ensures _ _ test c.command-10.ensures in
     let verify = c.with_command-verify.ensures _ _ diff c.command-11.ensures in
     let dump = c.with_command-dump.ensures _ _ verify c.command-12.ensures in
-    IfOk-weaker c.with_command.result _ _ (λ r is. is.app) (c.with_command.ensures _ _ dump c.command-13.ensures)
+    let status = c.with_command-status.ensures _ _ dump c.command-13.ensures in
+    IfOk-weaker c.with_command.result _ _ (λ r is. is.app) (c.with_command.ensures _ _ status c.command-14.ensures)

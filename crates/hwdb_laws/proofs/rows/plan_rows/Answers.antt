@@ -1,4 +1,4 @@
-use Rattle.hwdb_laws.proofs.ComputedPlanRows.{check_rows, device_rows, diff_rows, fresh_rows, input_rows, list_rows, named_rows, near_rows, none_rows, query_rows, status_rows, sysfs_rows}
+use Rattle.hwdb_laws.proofs.ComputedPlanRows.{check_rows, device_rows, diff_rows, fresh_rows, input_rows, keys_rows, list_rows, named_rows, near_rows, none_rows, query_rows, status_rows, sysfs_rows}
 use Rattle.hwdb_laws.proofs.rows.plan_rows.Goals as goal
 
 pub returns : goal.returns
@@ -11,6 +11,7 @@ returns c = record {
   named = named_rows;
   diff = diff_rows;
   fresh = fresh_rows;
+  keys = keys_rows;
   none = none_rows;
   status = status_rows;
   input = input_rows;

@@ -26,6 +26,7 @@ use Rattle.hwdb_spec_commands.specs.Reasons.{HasFilesReason, HasGivenReason}
 use Rattle.hwdb_spec_commands.specs.Undone.{AreUncheckable, IsAskRefused, IsCheckRefused}
 use Rattle.hwdb_spec_program.specs.TaskRefusals.{IsNotDone, IsTaskReason, Refuses}
 use Rattle.hwdb_tool.specs.Views.{end_of, texts_in}
+use Rattle.hwdb_tool.proofs.KeyLemmas.{keys_done, keys_follow, keys_refused}
 use Rattle.hwdb_tool.proofs.MomentLemmas.{leaves_more}
 use Rattle.hwdb_tool.proofs.ErrorLemmas.{both_errors, both_values}
 use Rattle.hwdb_tool.proofs.GivenLemmas.{checked_write, write_reason}
@@ -142,7 +143,6 @@ returns-in-Check-clause-refused g c = λ tells.
     let given = c.in-Check.files.items in
     let items = c.deref-in-Check.ensures.value in
     let allowed = map string_bytes c.in-Check.allowed.items in
-    let left_out = c.deref-in-Check-2.ensures.value in
     let answer = c.check-answer.result in
     subst (λ t. IfErr c.printed-in-Check.result (IsNotDone t (root_of job) job.usr job.strict before now)) (sym c.in-Check.is)
     (each_error _ (IsNotDone task (root_of job) job.usr job.strict before now) c.printed-in-Check.result (λ r both. ((both.0, record { same = λ p. refl; no_more = λ p v l. l }), both.1))
@@ -153,7 +153,7 @@ returns-in-Check-clause-refused g c = λ tells.
     (subst (λ (f : Format). IfOk answer (λ a. OnOut (λ text. IsChecked (AreCheckedFiles (map string_bytes given) (root_of job) input seen) f job.strict allowed text a.status) (texts_in a))) c.format_of-form.ensures
     (subst (λ r. IfOk answer (λ a. OnOut (λ text. IsChecked (AreCheckedFiles (map string_bytes given) r input seen) c.format_of-form.result job.strict allowed text a.status) (texts_in a))) c.root_of-root.ensures
     (subst (λ l. IfOk answer (λ a. OnOut (λ text. IsChecked (AreCheckedFiles (map string_bytes l) root input seen) c.format_of-form.result job.strict allowed text a.status) (texts_in a))) items
-    (subst (λ l. IfOk answer (λ a. OnOut (λ text. IsChecked (AreCheckedFiles (map string_bytes c.deref-in-Check.result.now) root input seen) c.format_of-form.result job.strict (map string_bytes l) text a.status) (texts_in a))) left_out
+    (subst (λ l. IfOk answer (λ a. OnOut (λ text. IsChecked (AreCheckedFiles (map string_bytes c.deref-in-Check.result.now) root input seen) c.format_of-form.result job.strict (map string_bytes l) text a.status) (texts_in a))) c.deref-in-Check-2.ensures.value
     (c.check-answer.ensures.checked tells)))))
     (subst (λ l. IfErr answer (HasCheckedReason (not (length l == 0)) fails seen input before.input.failures now.input.failures (map string_bytes l))) items
     (c.check-answer.ensures.reason tells))
@@ -176,18 +176,14 @@ returns-in-Diff-clause-done g c = λ tells.
     let task = Diff c.in-Diff.old c.in-Diff.new c.in-Diff.devices json stat in
     let old = string_bytes c.in-Diff.old in
     let new = string_bytes c.in-Diff.new in
-    let of_old = c.as_str-old.ensures.value in
-    let of_new = c.as_str-new.ensures.value in
-    let new_path = c.as_str-new.result.now in
-    let items = c.deref-in-Diff.ensures.value in
     let paths = map string_bytes c.deref-in-Diff.result.now in
     let answer = c.diff-answer.result in
     subst (λ t. IfOk c.printed-in-Diff.result (λ s. IsTaskDone t (root_of job) job.usr job.strict s before now)) (sym c.in-Diff.is)
     (each_value _ (λ s. IsTaskDone task (root_of job) job.usr job.strict s before now) c.printed-in-Diff.result (λ s done. (done, tt, record { same = λ p. refl; no_more = λ p v l. l }))
     (printed_done answer c.printed-in-Diff.result (λ s t. IsAnswerOf task (root_of job) job.strict input seen s t) before.err now.err before.out now.out
-    (subst (λ l. IfOk answer (λ a. OnOut (λ text. IsDiffed stat json (map string_bytes l) old new input seen text a.status) (texts_in a))) items
-    (subst (λ p. IfOk answer (λ a. OnOut (λ text. IsDiffed stat json paths old p input seen text a.status) (texts_in a))) of_new
-    (subst (λ p. IfOk answer (λ a. OnOut (λ text. IsDiffed stat json paths p new_path input seen text a.status) (texts_in a))) of_old (c.diff-answer.ensures.diffed tells))))
+    (subst (λ l. IfOk answer (λ a. OnOut (λ text. IsDiffed stat json (map string_bytes l) old new input seen text a.status) (texts_in a))) c.deref-in-Diff.ensures.value
+    (subst (λ p. IfOk answer (λ a. OnOut (λ text. IsDiffed stat json paths old p input seen text a.status) (texts_in a))) c.as_str-new.ensures.value
+    (subst (λ p. IfOk answer (λ a. OnOut (λ text. IsDiffed stat json paths p c.as_str-new.result.now input seen text a.status) (texts_in a))) c.as_str-old.ensures.value (c.diff-answer.ensures.diffed tells))))
     c.printed-in-Diff.ensures.done))
 
 pub returns-in-Diff-clause-refused : goal.returns-in-Diff-clause-refused
@@ -242,13 +238,10 @@ returns-in-Ask-clause-refused g c = λ tells.
     let seen = g.D.Store.seen c.args.system.now in
     let before : World = record { files = F c.args.system.now; input = I c.args.input.now; out = O c.args.out.now; err = E c.args.err.now; devices = V c.args.system.now } in
     let now : World = record { files = F c.args.system.now; input = I c.ask_file-answer.new.input; out = O c.printed.new.out; err = E c.printed.new.err; devices = V c.args.system.now } in
-    let fails = before.files.fails in
     let input = before.input.bytes in
     let task = Ask c.in-Ask.file c.in-Ask.device in
     let file = string_bytes c.in-Ask.file in
     let of_file = c.as_str-in-Ask.ensures.value in
-    let of_device = c.as_bytes.ensures.value in
-    let device = c.as_bytes.result.now in
     let answer = c.ask_file-answer.result in
     subst (λ t. IfErr c.printed.result (IsNotDone t (root_of job) job.usr job.strict before now)) (sym c.in-Ask.is)
     (each_error _ (IsNotDone task (root_of job) job.usr job.strict before now) c.printed.result (λ r both. ((both.0, record { same = λ p. refl; no_more = λ p v l. l }), both.1))
@@ -257,9 +250,9 @@ returns-in-Ask-clause-refused g c = λ tells.
     (subst (λ f. IfErr answer (IsAskRefused f input seen)) of_file (c.ask_file-answer.ensures.refused tells))
     (both_values (λ a. a.status ≡ 0) (λ a. IsAsked file (string_bytes c.in-Ask.device) input seen (texts_in a)) (λ a. IsAnswerOf task (root_of job) job.strict input seen a.status (texts_in a)) answer
     (λ a zero asked. (zero, asked)) c.ask_file-answer.ensures.status
-    (subst (λ d. IfOk answer (λ a. IsAsked file d input seen (texts_in a))) of_device
-    (subst (λ f. IfOk answer (λ a. IsAsked f device input seen (texts_in a))) of_file (c.ask_file-answer.ensures.asked tells))))
-    (subst (λ f. IfErr answer (HasGivenReason (is_dash f) fails seen input before.input.failures now.input.failures)) of_file c.ask_file-answer.ensures.reason)
+    (subst (λ d. IfOk answer (λ a. IsAsked file d input seen (texts_in a))) c.as_bytes.ensures.value
+    (subst (λ f. IfOk answer (λ a. IsAsked f c.as_bytes.result.now input seen (texts_in a))) of_file (c.ask_file-answer.ensures.asked tells))))
+    (subst (λ f. IfErr answer (HasGivenReason (is_dash f) before.files.fails seen input before.input.failures now.input.failures)) of_file c.ask_file-answer.ensures.reason)
     tt c.printed.ensures.refused))
 
 pub returns-in-Near-clause-refused : goal.returns-in-Near-clause-refused
@@ -281,8 +274,6 @@ returns-in-Near-clause-refused g c = λ tells.
     let root = c.root_of-root.result.now in
     let given = c.in-Near.files.items in
     let items = c.deref-in-Near.ensures.value in
-    let device = c.as_bytes-device-in-Near.result.now in
-    let of_device = c.as_bytes-device-in-Near.ensures.value in
     let answer = c.near-answer.result in
     subst (λ t. IfErr c.printed-in-Near.result (IsNotDone t (root_of job) job.usr job.strict before now)) (sym c.in-Near.is)
     (each_error _ (IsNotDone task (root_of job) job.usr job.strict before now) c.printed-in-Near.result (λ r both. ((both.0, record { same = λ p. refl; no_more = λ p v l. l }), both.1))
@@ -293,8 +284,8 @@ returns-in-Near-clause-refused g c = λ tells.
     (both_values (λ a. a.status ≡ 0) (λ a. OnOut (IsNear (map string_bytes given) (root_of job) (near_form json (string_bytes c.in-Near.device) (near_limit limit)) input seen) (texts_in a))
     (λ a. IsAnswerOf task (root_of job) job.strict input seen a.status (texts_in a)) answer (λ a zero told. (zero, told)) c.near-answer.ensures.status
     (subst (λ r. IfOk answer (λ a. OnOut (IsNear (map string_bytes given) r (near_form json (string_bytes c.in-Near.device) (near_limit limit)) input seen) (texts_in a))) c.root_of-root.ensures
-    (subst (λ d. IfOk answer (λ a. OnOut (IsNear (map string_bytes given) root (near_form json d (near_limit limit)) input seen) (texts_in a))) of_device
-    (subst (λ l. IfOk answer (λ a. OnOut (IsNear (map string_bytes l) root (near_form json device (near_limit limit)) input seen) (texts_in a))) items (c.near-answer.ensures.near tells)))))
+    (subst (λ d. IfOk answer (λ a. OnOut (IsNear (map string_bytes given) root (near_form json d (near_limit limit)) input seen) (texts_in a))) c.as_bytes-device-in-Near.ensures.value
+    (subst (λ l. IfOk answer (λ a. OnOut (IsNear (map string_bytes l) root (near_form json c.as_bytes-device-in-Near.result.now (near_limit limit)) input seen) (texts_in a))) items (c.near-answer.ensures.near tells)))))
     (subst (λ l. IfErr answer (HasFilesReason (not (length l == 0)) (map string_bytes l) fails seen input before.input.failures now.input.failures)) items
     (c.near-answer.ensures.reason tells))
     (write_reason given fails seen input before.input.failures now.input.failures (not (length given == 0))) c.printed-in-Near.ensures.refused))
@@ -351,14 +342,11 @@ returns-in-Verify-clause-done g c = λ tells.
     let now : World = record { files = F c.args.system.now; input = I c.verify-answer.new.input; out = O c.printed-in-Verify.new.out; err = E c.printed-in-Verify.new.err; devices = V c.args.system.now } in
     let input = before.input.bytes in
     let task = Verify c.in-Verify.database in
-    let root = c.root_of-root.result.now in
-    let of_root = c.root_of-root.ensures in
     let given = option_map string_bytes c.in-Verify.database in
-    let of_given = c.text_of-given-in-Verify.ensures in
     let answer = c.verify-answer.result in
     let is = both_values _ _ (λ a. (a.status ≡ 0) × OnOut (λ text. OfNamed given input seen (λ g f. IsPrinted g (root_of job) IsSummary f text)) (texts_in a)) answer (λ a zero p. (zero, p)) c.verify-answer.ensures.status
-    (subst (λ r. IfOk answer (λ a. OnOut (λ text. OfNamed given input seen (λ g f. IsPrinted g r IsSummary f text)) (texts_in a))) of_root
-    (subst (λ d. IfOk answer (λ a. OnOut (λ text. OfNamed d input seen (λ g f. IsPrinted g root IsSummary f text)) (texts_in a))) of_given (c.verify-answer.ensures.verified tells))) in
+    (subst (λ r. IfOk answer (λ a. OnOut (λ text. OfNamed given input seen (λ g f. IsPrinted g r IsSummary f text)) (texts_in a))) c.root_of-root.ensures
+    (subst (λ d. IfOk answer (λ a. OnOut (λ text. OfNamed d input seen (λ g f. IsPrinted g c.root_of-root.result.now IsSummary f text)) (texts_in a))) c.text_of-given-in-Verify.ensures (c.verify-answer.ensures.verified tells))) in
     subst (λ t. IfOk c.printed-in-Verify.result (λ s. IsTaskDone t (root_of job) job.usr job.strict s before now)) (sym c.in-Verify.is)
     (each_value _ (λ s. IsTaskDone task (root_of job) job.usr job.strict s before now) c.printed-in-Verify.result (λ s done. (done, tt, record { same = λ p. refl; no_more = λ p v l. l }))
     (printed_done answer c.printed-in-Verify.result (λ s t. IsAnswerOf task (root_of job) job.strict input seen s t) before.err now.err before.out now.out is c.printed-in-Verify.ensures.done))
@@ -409,14 +397,11 @@ returns-in-Dump-clause-done g c = λ tells.
     let now : World = record { files = F c.args.system.now; input = I c.dump-answer.new.input; out = O c.printed-in-Dump.new.out; err = E c.printed-in-Dump.new.err; devices = V c.args.system.now } in
     let input = before.input.bytes in
     let task = Dump c.in-Dump.database in
-    let root = c.root_of-root.result.now in
-    let of_root = c.root_of-root.ensures in
     let given = option_map string_bytes c.in-Dump.database in
-    let of_given = c.text_of-given-in-Dump.ensures in
     let answer = c.dump-answer.result in
     let is = both_values _ _ (λ a. (a.status ≡ 0) × OnOut (λ text. OfNamed given input seen (λ g f. IsDumped g (root_of job) f text)) (texts_in a)) answer (λ a zero p. (zero, p)) c.dump-answer.ensures.status
-    (subst (λ r. IfOk answer (λ a. OnOut (λ text. OfNamed given input seen (λ g f. IsDumped g r f text)) (texts_in a))) of_root
-    (subst (λ d. IfOk answer (λ a. OnOut (λ text. OfNamed d input seen (λ g f. IsDumped g root f text)) (texts_in a))) of_given (c.dump-answer.ensures.dumped tells))) in
+    (subst (λ r. IfOk answer (λ a. OnOut (λ text. OfNamed given input seen (λ g f. IsDumped g r f text)) (texts_in a))) c.root_of-root.ensures
+    (subst (λ d. IfOk answer (λ a. OnOut (λ text. OfNamed d input seen (λ g f. IsDumped g c.root_of-root.result.now f text)) (texts_in a))) c.text_of-given-in-Dump.ensures (c.dump-answer.ensures.dumped tells))) in
     subst (λ t. IfOk c.printed-in-Dump.result (λ s. IsTaskDone t (root_of job) job.usr job.strict s before now)) (sym c.in-Dump.is)
     (each_value _ (λ s. IsTaskDone task (root_of job) job.usr job.strict s before now) c.printed-in-Dump.result (λ s done. (done, tt, record { same = λ p. refl; no_more = λ p v l. l }))
     (printed_done answer c.printed-in-Dump.result (λ s t. IsAnswerOf task (root_of job) job.strict input seen s t) before.err now.err before.out now.out is c.printed-in-Dump.ensures.done))
@@ -786,3 +771,30 @@ returns-in-Dump-clause-follows g c = λ tells words asked.
     (λ word rows is. dump_planned w sight input left before now result root c.args.job.now.strict word rows answer c.printed-in-Dump.ensures.prints c.in-Dump.database (subst (λ t. IsTask word rows t) c.in-Dump.is is)
     (subst (λ (d : Option (List ℕ)). OverNamed d input.bytes input.failures left.failures w (λ given reads. Follows end_of reads (dump_plan given root) answer)) c.text_of-given-in-Dump.ensures
     (subst (λ (r : List ℕ). OverNamed database input.bytes input.failures left.failures w (λ given reads. Follows end_of reads (dump_plan given r) answer)) c.root_of-root.ensures (c.dump-answer.ensures.follows tells))))
+
+pub returns-in-Keys-clause-done : goal.returns-in-Keys-clause-done
+returns-in-Keys-clause-done g c = λ tells.
+    let job = c.args.job.now in
+    let E = told_by g.E.Sink.taken g.E.Sink.failures in
+    let O = told_by g.O.Sink.taken g.O.Sink.failures in
+    keys_done c.in-Keys.words c.deref-in-Keys.result.now c.in-Keys.json c.deref-in-Keys.ensures.value c.keys.result c.printed-in-Keys.result job.task c.in-Keys.is (root_of job) job.usr job.strict
+    (files_by g.D.Store.seen g.D.System.may_fail g.D.Store.may_leave g.D.Store.failures c.args.system.now) (told_by g.I.Source.left g.I.Source.failures c.args.input.now)
+    (E c.args.err.now) (E c.printed-in-Keys.new.err) (O c.args.out.now) (O c.printed-in-Keys.new.out) (sight_by g.D.DeviceFiles.answers c.args.system.now) c.keys.ensures.found c.printed-in-Keys.ensures.done
+
+pub returns-in-Keys-clause-refused : goal.returns-in-Keys-clause-refused
+returns-in-Keys-clause-refused g c = λ tells.
+    let job = c.args.job.now in
+    let E = told_by g.E.Sink.taken g.E.Sink.failures in
+    let O = told_by g.O.Sink.taken g.O.Sink.failures in
+    keys_refused c.in-Keys.words c.deref-in-Keys.result.now c.in-Keys.json c.deref-in-Keys.ensures.value c.keys.result c.printed-in-Keys.result job.task c.in-Keys.is (root_of job) job.usr job.strict
+    (files_by g.D.Store.seen g.D.System.may_fail g.D.Store.may_leave g.D.Store.failures c.args.system.now) (told_by g.I.Source.left g.I.Source.failures c.args.input.now)
+    (E c.args.err.now) (E c.printed-in-Keys.new.err) (O c.args.out.now) (O c.printed-in-Keys.new.out) (sight_by g.D.DeviceFiles.answers c.args.system.now) c.keys.ensures.found c.keys.ensures.refused c.printed-in-Keys.ensures.refused
+
+pub returns-in-Keys-clause-follows : goal.returns-in-Keys-clause-follows
+returns-in-Keys-clause-follows g c = λ tells words asked.
+    let w = g.D.System.reads c.args.system.now in
+    let E = told_by g.E.Sink.taken g.E.Sink.failures in
+    let O = told_by g.O.Sink.taken g.O.Sink.failures in
+    keys_follow w (sight_by g.D.DeviceFiles.answers c.args.system.now) (told_by g.I.Source.left g.I.Source.failures c.args.input.now) (outs (E c.args.err.now) (O c.args.out.now))
+    (outs (E c.printed-in-Keys.new.err) (O c.printed-in-Keys.new.out)) c.printed-in-Keys.result words c.args.job.now asked c.keys.result c.printed-in-Keys.ensures.prints
+    c.in-Keys.words c.deref-in-Keys.result.now c.in-Keys.json c.deref-in-Keys.ensures.value c.in-Keys.is (c.keys.ensures.follows w)

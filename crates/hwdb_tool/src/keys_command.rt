@@ -1,0 +1,37 @@
+//! `keys`: the keys that the values of `KEYBOARD_KEY_..` name.
+ghost use Rattle.std.specs.Prelude.{◌≡◌, ◌≤◌, IfErr, IfOk, map, string_bytes};
+ghost use Rattle.hwdb_plan.specs.Keys.{keys_plan};
+ghost use Rattle.hwdb_plan.specs.Plans.{Follows};
+ghost use Rattle.hwdb_spec_commands.specs.KeysAsked.{keys_status, keys_text};
+ghost use Rattle.hwdb_spec_commands.specs.Runs.{OnOut};
+ghost use Rattle.hwdb_spec_commands.specs.Told.{Reads};
+ghost use Rattle.hwdb_spec_commands.specs.declared.refusals.Refusal.TheVariants.{Plain};
+ghost use Rattle.hwdb_tool.specs.Views.{end_of, texts_in};
+
+use crate::answer::Answer;
+use hwdb_answers::ToolError;
+use hwdb_properties::keys_text;
+use hwdb_system::Refusal;
+use std::alloc::Global;
+
+/// The keys that words ask for, each with its code; without words all of them. The status is 1 if there is none. No file is read.
+pub fn keys(alloc: Global, words: &[String], json: bool) -> Result<Answer, Refusal>
+    ensures follows { (reads : Reads)
+        → Follows end_of reads (keys_plan json (map string_bytes words.now)) result }
+    ensures found { IfOk result (λ a. OnOut
+        (λ text. (text ≡ keys_text json (map string_bytes words.now))
+        × (a.status ≡ keys_status text)) (texts_in a)) }
+    ensures refused { IfErr result (λ r. r ≡ Plain ToolError.Memory) }
+{
+    let text = keys_text(alloc, json, words)?;
+    let status = status_of(&text);
+    Ok(Answer::new(alloc, text, status))
+}
+
+/// The status: 1 if nothing is printed.
+fn status_of(text: &[u8]) -> u8
+    ensures is { result ≡ keys_status text.now }
+    ensures small { result ≤ 1 }
+{
+    if text.is_empty() { 1 } else { 0 }
+}
