@@ -65,15 +65,20 @@ fn push_uri(text: &mut Vec<u8>, path: &[u8]) -> Result<(), AllocError>
     Ok(())
 }
 
-/// Adds where a finding begins, after its path.
-fn push_region(text: &mut Vec<u8>, found: &Annotation<'_>) -> Result<(), AllocError>
-    ensures { OnOk result (text.new.items
-        ≡ text.old.items ++ Logs.region_part found.now.line found.now.column) }
+/// Adds the line of a finding, after its path.
+fn push_line(text: &mut Vec<u8>, line: u64) -> Result<(), AllocError>
+    ensures { OnOk result (text.new.items ≡ text.old.items ++ Logs.line_part line) }
 {
     text.extend_from_slice("\"},\"region\":{\"startLine\":".as_bytes())?;
-    push_count(text, found.line)?;
+    push_count(text, line)
+}
+
+/// Adds its column.
+fn push_column(text: &mut Vec<u8>, column: u64) -> Result<(), AllocError>
+    ensures { OnOk result (text.new.items ≡ text.old.items ++ Logs.column_part column) }
+{
     text.extend_from_slice(",\"startColumn\":".as_bytes())?;
-    push_count(text, found.column)?;
+    push_count(text, column)?;
     text.extend_from_slice(b"}}}]")?;
     Ok(())
 }
@@ -87,7 +92,8 @@ fn push_place(text: &mut Vec<u8>, found: &Annotation<'_>) -> Result<(), AllocErr
         "\"locations\":[{\"physicalLocation\":{\"artifactLocation\":{\"uri\":\"".as_bytes(),
     )?;
     push_uri(text, found.path)?;
-    push_region(text, found)
+    push_line(text, found.line)?;
+    push_column(text, found.column)
 }
 
 /// Adds the object of a text.

@@ -15,14 +15,18 @@ is_plain b = in_span b (48, 57) || (in_span b (65, 90) || (in_span b (97, 122) |
 abbrev pub uri_byte : ℕ → List ℕ
 uri_byte b = if is_plain b then b ∷ [] else byte "%" ∷ encode_upper (b ∷ [])
 
--- where it begins, after the path: the column counts bytes, as compilers do
-abbrev pub region_part : (line column : ℕ) → List ℕ
-region_part line column = codes "\"},\"region\":{\"startLine\":" ++ (decimal line ++ (codes ",\"startColumn\":" ++ (decimal column ++ codes "}}}]")))
+-- the line of a finding, after the path
+abbrev pub line_part : (line : ℕ) → List ℕ
+line_part line = codes "\"},\"region\":{\"startLine\":" ++ decimal line
+
+-- its column, which counts bytes, as compilers do
+abbrev pub column_part : (column : ℕ) → List ℕ
+column_part column = codes ",\"startColumn\":" ++ (decimal column ++ codes "}}}]")
 
 -- where a finding is
 abbrev pub place_member : (path : List ℕ) (line column : ℕ) → List ℕ
 place_member path line column =
-    codes "\"locations\":[{\"physicalLocation\":{\"artifactLocation\":{\"uri\":\"" ++ (flat_map uri_byte path ++ region_part line column)
+    codes "\"locations\":[{\"physicalLocation\":{\"artifactLocation\":{\"uri\":\"" ++ (flat_map uri_byte path ++ (line_part line ++ column_part column))
 
 -- what is found, and what to do about it
 abbrev pub message_member : (text : List ℕ) → List ℕ
