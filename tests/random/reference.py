@@ -755,7 +755,7 @@ UNKNOWN = (
     b"no string that udev asks begins like this",
     b"a property that nothing is known to read",
     b"a property that is no longer read",
-    b"a code that isn't lower-case hexadecimal",
+    b"a code that its property doesn't take",
     b"a key that isn't known",
     b"a value that its property doesn't take",
     b"a row of the matrix has zeros alone",

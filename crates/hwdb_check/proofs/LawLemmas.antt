@@ -1,6 +1,6 @@
 -- The laws.
 use Rattle.std.proofs.Common.{◌≡◌, ◌∙◌, ◌⊎◌, ◌||◌, ◌+◌, ◌++◌, ◌-◌, ◌<◌, ◌≤◌, ◌==◌, ap, sym, refl, subst, ◌↔◌, inl, inr, arith, append_assoc, eqb-true, ℕ, zero, suc, Bool, true, false, List, [], ◌∷◌, length, get_or, None, Option, Some}
-use Rattle.std.specs.Prelude.{Contains, flat_map, nat_lt, if◌then◌else◌}
+use Rattle.std.specs.Prelude.{Contains, flat_map, is_some, nat_lt, if◌then◌else◌}
 use Rattle.std.specs.List.{list_any}
 use Rattle.std.specs.Option.{option_and_then}
 use Rattle.std.specs.Ordering.{is_eq}
@@ -14,6 +14,7 @@ use Rattle.hwdb_spec_commands.specs.Mends.{follow, likely_after, likely_judgemen
 use Rattle.hwdb_spec_commands.specs.Unmatched.{compare_hint, expected_after, is_unmatched, judgement_of, likelihood_of, runs_from}
 use Rattle.hwdb_spec_commands.specs.FormTable.{asked}
 use Rattle.hwdb_spec_commands.specs.LikelyForms.{likely}
+use Rattle.hwdb_spec_commands.specs.Fields.{field_judgement, odd_field, with_fields}
 use Rattle.hwdb_spec.specs.Patterns.{tokens}
 use Rattle.hwdb_forms.specs.Laws.{FormsAreTested}
 use Rattle.hwdb_spec.specs.declared.Judgement.{Judgement}
@@ -21,7 +22,7 @@ use Rattle.hwdb_spec.specs.declared.Judgement.TheVariants.{Dead, Fine, UnknownPr
 use Rattle.hwdb_spec_commands.specs.declared.WarningKind.TheVariants.{ByteOrderMark, CarriageReturn, CutValue, EmptyRange, LeadingTab, MayBeTooDeep, Misused, OpenBracket, RepeatedMatch, Replaced, SpacedEquals, TooLongForUdev, Unlikely, Unmatched, Unpaired, Unread}
 use Rattle.hwdb_spec_commands.specs.declared.WarningKind.{WarningKind}
 use Rattle.hwdb_spec_commands.specs.declared.vocabulary.Misuse.TheVariants.{NearName, OldName, ScanCode, SingularMatrix, TwoDefaults, UnfitValue, UnknownKey, ZeroRow}
-use Rattle.hwdb_check.specs.Laws.{KindsAreNamed, LikelihoodIsJudged, MendRows, MendsAreLikely, PatternsAreJudged, RunsAreAll, TooDeepRows, TooLongRows, UnmatchedRows, kind_number, kinds, run_bytes}
+use Rattle.hwdb_check.specs.Laws.{FieldRows, KindsAreNamed, LikelihoodIsJudged, MendRows, MendsAreLikely, PatternsAreJudged, RunsAreAll, TooDeepRows, TooLongRows, UnmatchedRows, kind_number, kinds, run_bytes}
 
 -- ---- runs
 one_more : (n first : ℕ) → all_bytes_from (suc n) first ≡ all_bytes_from n first ++ (n + first) ∷ []
@@ -88,27 +89,44 @@ told_is : (forms : List Form) (text : List ℕ) → is_unmatched (judged forms t
 told_is forms text = told_by (can_match forms (tokens text)) (is_unknown forms text) _
 
 likelihood_is : (text : List ℕ) → is_none text ≡ false → begins_with (byte " ") text ≡ false → begins_with (byte "\t") text ≡ false
-    → length text ≤ max_pattern → likelihood_of text ≡ (if is_unmatched (judged asked text) then Fine else judged likely text)
+    → length text ≤ max_pattern → likelihood_of text ≡ (if is_unmatched (judged asked text) then Fine else with_fields (judged likely text) text)
 unfolding likelihood_of
 likelihood_is text none space tab short =
     if_false (is_none text) Fine _ none ∙ if_false (begins_with (byte " ") text) Fine _ space ∙ if_false (begins_with (byte "\t") text) Fine _ tab
     ∙ if_false (nat_lt max_pattern (length text)) Fine _ (le-ltb max_pattern (length text) short)
 
--- told exactly if one is met and the other one isn't
-exactly_by : (a l : Bool) (fine other : Judgement) → is_unmatched fine ≡ (if l then false else true)
-    → (is_unmatched (if (if a then false else true) then Fine else fine) ≡ true) ↔ ((a ≡ true) × (l ≡ true → ⊥))
-exactly_by true true fine other e = (λ h. absurd (let no : true ≡ false = sym h ∙ e in cc), λ p. absurd (p.1 refl))
-exactly_by true false fine other e = (λ h. (refl, λ k. cc), λ p. e)
-exactly_by false l fine other e = (λ h. cc, λ p. (let no : false ≡ true = p.0 in cc))
+-- what is said of fields, if this is said of the form
+field_told : (o : Option ℕ) → is_unmatched (field_judgement o) ≡ is_some o
+field_told None = refl
+field_told (Some place) = refl
+
+fields_told : (j : Judgement) (l : Bool) (text : List ℕ) → is_unmatched j ≡ (if l then false else true)
+    → is_unmatched (with_fields j text) ≡ (if l then is_some (odd_field text) else true)
+fields_told Fine true text e = field_told (odd_field text)
+fields_told Fine false text e = absurd (let no : false ≡ true = e in cc)
+fields_told UnknownPrefix true text e = absurd (let no : true ≡ false = e in cc)
+fields_told UnknownPrefix false text e = refl
+fields_told (Dead place) true text e = absurd (let no : true ≡ false = e in cc)
+fields_told (Dead place) false text e = refl
+
+-- told exactly if one is met and the other one isn't, or there is an odd field
+exactly_by : (a l f : Bool) (fine : Judgement) → is_unmatched fine ≡ (if l then f else true)
+    → (is_unmatched (if (if a then false else true) then Fine else fine) ≡ true) ↔ ((a ≡ true) × (l ≡ true → f ≡ true))
+exactly_by true true true fine e = (λ h. (refl, λ k. refl), λ p. e)
+exactly_by true true false fine e = (λ h. absurd (let no : true ≡ false = sym h ∙ e in cc), λ p. absurd (let no : false ≡ true = p.1 refl in cc))
+exactly_by true false f fine e = (λ h. (refl, λ k. cc), λ p. e)
+exactly_by false l f fine e = (λ h. cc, λ p. (let no : false ≡ true = p.0 in cc))
 
 is_exact : FormsAreTested → (text : List ℕ)
-    → (is_unmatched (if is_unmatched (judged asked text) then Fine else judged likely text) ≡ true) ↔ (CanMatch asked (tokens text) × (CanMatch likely (tokens text) → ⊥))
+    → (is_unmatched (if is_unmatched (judged asked text) then Fine else with_fields (judged likely text) text) ≡ true)
+    ↔ (CanMatch asked (tokens text) × (CanMatch likely (tokens text) → is_some (odd_field text) ≡ true))
 is_exact tested text =
     let ts = tokens text in
+    let said = with_fields (judged likely text) text in
     let same : is_unmatched (judged asked text) ≡ (if can_match asked ts then false else true) = told_is asked text in
-    let both = exactly_by (can_match asked ts) (can_match likely ts) (judged likely text) Fine (told_is likely text) in (
-      λ h. (let p = both.0 (sym (ap (λ (b : Bool). is_unmatched (if b then Fine else judged likely text)) same) ∙ h) in ((tested asked ts).0 p.0, λ m. p.1 ((tested likely ts).1 m))),
-      λ p. ap (λ (b : Bool). is_unmatched (if b then Fine else judged likely text)) same ∙ both.1 ((tested asked ts).1 p.0, λ k. p.1 ((tested likely ts).0 k)),
+    let both = exactly_by (can_match asked ts) (can_match likely ts) (is_some (odd_field text)) said (fields_told (judged likely text) (can_match likely ts) text (told_is likely text)) in (
+      λ h. (let p = both.0 (sym (ap (λ (b : Bool). is_unmatched (if b then Fine else said)) same) ∙ h) in ((tested asked ts).0 p.0, λ m. p.1 ((tested likely ts).1 m))),
+      λ p. ap (λ (b : Bool). is_unmatched (if b then Fine else said)) same ∙ both.1 ((tested asked ts).1 p.0, λ k. p.1 ((tested likely ts).0 k)),
     )
 
 told_once_by : (n s t l u : Bool) (j k : Judgement) → is_unmatched j ≡ u
@@ -124,12 +142,27 @@ told_once_by false false false false false j k e h = absurd (let no : true ≡ f
 once_told : (text : List ℕ) → is_unmatched (judgement_of text) ≡ true → likelihood_of text ≡ Fine
 unfolding judgement_of likelihood_of
 once_told text h =
-    told_once_by (is_none text) (begins_with (byte " ") text) (begins_with (byte "\t") text) (nat_lt max_pattern (length text)) (is_unmatched (judged asked text)) (judged asked text) (judged likely text) refl h
+    told_once_by (is_none text) (begins_with (byte " ") text) (begins_with (byte "\t") text) (nat_lt max_pattern (length text)) (is_unmatched (judged asked text)) (judged asked text) (with_fields (judged likely text) text) refl h
+
+pub field_rows : FieldRows
+unfolding pieces
+field_rows = record {
+  other = refl;
+  turned = refl;
+  right = refl;
+  longer = refl;
+  begins = refl;
+  value = refl;
+  before = refl;
+  elsewhere = refl;
+  hint = refl;
+  dead = refl;
+}
 
 pub judged_likelihood : FormsAreTested → LikelihoodIsJudged
 unfolding likelihood_of likely_after all_bytes_from
 judged_likelihood tested = record {
-  judges = λ text none space tab short fine. likelihood_is text none space tab short ∙ if_false (is_unmatched (judged asked text)) Fine (judged likely text) fine;
+  judges = λ text none space tab short fine. likelihood_is text none space tab short ∙ if_false (is_unmatched (judged asked text)) Fine (with_fields (judged likely text) text) fine;
   told_once = once_told;
   exactly = λ text none space tab short. (
     λ h. (is_exact tested text).0 (sym (ap is_unmatched (likelihood_is text none space tab short)) ∙ h),

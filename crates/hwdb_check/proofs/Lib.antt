@@ -9,6 +9,7 @@ pub mod ReplaceLemmas
 pub mod AscendLemmas
 pub mod RunLemmas
 pub mod SoughtLemmas
+pub mod FieldLemmas
 pub mod LawLemmas
 pub mod CommentLaws
 pub mod BracketLemmas

@@ -1,9 +1,10 @@
 -- What the laws say of patterns that can't match, and of the names of warnings. A definition that said less would be noticed here.
-use Rattle.std.specs.Prelude.{◌-◌, ◌≡◌, ◌↔◌, ◌≤◌, ◌⊎◌, ◌++◌, Bool, Contains, List, None, Some, [], codes, false, flat_map, length, map, replicate, suc, true, ℕ}
+use Rattle.std.specs.Prelude.{◌-◌, ◌≡◌, ◌↔◌, ◌≤◌, ◌⊎◌, ◌++◌, Bool, Contains, List, None, Some, [], codes, false, flat_map, is_some, length, map, replicate, suc, true, ℕ}
 use Rattle.hwdb_spec.specs.Forms.{CanMatch, all_bytes_from, expected, judged}
 use Rattle.hwdb_spec.specs.Patterns.{tokens}
 use Rattle.hwdb_spec_commands.specs.FormTable.{asked}
 use Rattle.hwdb_spec_commands.specs.LikelyForms.{likely}
+use Rattle.hwdb_spec_commands.specs.Fields.{odd_field, with_fields}
 use Rattle.hwdb_spec_commands.specs.Kinds.{warning_name}
 use Rattle.hwdb_spec.specs.Lines.{begins_with, byte, is, is_none, max_pattern, pieces}
 use Rattle.hwdb_spec_commands.specs.Mends.{meant_rest, mend_hint, mended, reason}
@@ -36,14 +37,14 @@ pub record PatternsAreJudged : Type 0 where
   pub tab : judgement_of (codes "\tA=b") ≡ Fine
 
 -- The same of its likelihood, of a pattern that matches a text that udev asks. So it is told as unlikely exactly if such a text matches it,
--- and none that udev likely asks.
+-- and none that udev likely asks, or it has what is nearly the name of a field.
 pub record LikelihoodIsJudged : Type 0 where
   pub judges : (text : List ℕ) → is_none text ≡ false → begins_with (byte " ") text ≡ false → begins_with (byte "\t") text ≡ false
-      → length text ≤ max_pattern → is_unmatched (judged asked text) ≡ false → likelihood_of text ≡ judged likely text
+      → length text ≤ max_pattern → is_unmatched (judged asked text) ≡ false → likelihood_of text ≡ with_fields (judged likely text) text
   pub told_once : (text : List ℕ) → is_unmatched (judgement_of text) ≡ true → likelihood_of text ≡ Fine
   pub exactly : (text : List ℕ) → is_none text ≡ false → begins_with (byte " ") text ≡ false → begins_with (byte "\t") text ≡ false
       → length text ≤ max_pattern
-      → (is_unmatched (likelihood_of text) ≡ true) ↔ (CanMatch asked (tokens text) × (CanMatch likely (tokens text) → ⊥))
+      → (is_unmatched (likelihood_of text) ≡ true) ↔ (CanMatch asked (tokens text) × (CanMatch likely (tokens text) → is_some (odd_field text) ≡ true))
   pub hints : (front : List ℕ) → length front ≤ 256 → likely_place_hint front ≡ runs_hint (runs (expected likely front))
   pub long : likely_place_hint (all_bytes_from 257 0) ≡ compare_hint
   pub begins : likelihood_hint UnknownPrefix (codes "usb:") ≡ compare_hint
@@ -51,6 +52,19 @@ pub record LikelihoodIsJudged : Type 0 where
   pub nothing : likelihood_of [] ≡ Fine
   pub property : likelihood_of (codes " A=b") ≡ Fine
   pub tab : likelihood_of (codes "\tA=b") ≡ Fine
+
+-- What is nearly the name of a field: three small letters after a `*`, and a digit or a capital letter. It is after `dmi:`.
+pub record FieldRows : Type 0 where
+  pub other : odd_field (codes "evdev:name:Bench:dmi:*svxWORK:*") ≡ Some 22
+  pub turned : odd_field (codes "sensor:modalias:acpi:WORK0001*:dmi:*:svnWORK*vprBench1:*") ≡ Some 45
+  pub right : odd_field (codes "evdev:name:Bench:dmi:*svnWORK:*pvrBench:*bd05*") ≡ None
+  pub longer : odd_field (codes "evdev:name:Bench:dmi:*svnnWORK:*") ≡ None
+  pub begins : odd_field (codes "evdev:name:Bench:dmi:*:pn*pnx360*") ≡ None
+  pub value : odd_field (codes "evdev:name:Bench:dmi:*:pn*pvc*") ≡ None
+  pub before : odd_field (codes "evdev:name:*svxWORK:dmi:*") ≡ None
+  pub elsewhere : odd_field (codes "mouse:usb:*:name:dmi:*svxWORK:") ≡ None
+  pub hint : likelihood_hint (Dead 22) (codes "evdev:name:Bench:dmi:*svxWORK:*") ≡ codes "did you mean svn?"
+  pub dead : with_fields (Dead 3) (codes "evdev:name:Bench:dmi:*svxWORK:*") ≡ Dead 3
 
 -- what is said of them, and what to do
 pub record UnmatchedRows : Type 0 where

@@ -1,13 +1,15 @@
 //! Patterns that match no text that udev asks.
-ghost use Rattle.std.specs.Prelude.{◌≡◌, ◌++◌, List, ℕ, ◌∷◌, filter, if◌then◌else◌, map, take, IfOk, OnOk};
+ghost use Rattle.std.specs.Prelude.{◌≡◌, ◌++◌, List, ℕ, ◌∷◌, drop, filter, if◌then◌else◌, map, take, IfOk, OnOk};
 ghost use Rattle.std.specs.Option.{option_map};
 ghost use Rattle.hwdb_spec_commands.specs.FormTable.{asked};
 ghost use Rattle.hwdb_spec_commands.specs.LikelyForms.{likely};
 ghost use Rattle.hwdb_spec.specs.Forms.{all_bytes_from, is_expected, judged};
 ghost use Rattle.hwdb_spec_commands.specs.Mends.{likely_after, mend_hint, mended};
+ghost use Rattle.hwdb_spec_commands.specs.Fields;
 ghost use Rattle.hwdb_spec_commands.specs.Unmatched;
 
-use crate::mends::{front_of, likely_after, mended, push_mend};
+use crate::fields::{meant_field, odd_field};
+use crate::mends::{front_of, likely_after, mended, push_mend, rest_of};
 use crate::runs::{push_compare, push_runs, runs_of};
 use hwdb_forms::{Judged, expected, judge_both, likely_prefix};
 use hwdb_spec::Judgement;
@@ -44,15 +46,37 @@ pub fn is_unmatched(judgement: Judgement) -> bool
     !matches!(judgement, Judgement::Fine)
 }
 
+/// What is said of a place with what is nearly the name of a field.
+fn field_judgement(place: Option<usize>) -> Judgement
+    ensures { result ≡ Fields.field_judgement place }
+{
+    match place {
+        None => Judgement::Fine,
+        Some(at) => Judgement::Dead(at),
+    }
+}
+
+/// What is said of a pattern, of whose form this is said.
+fn with_fields(told: Judgement, clean: &[u8]) -> Judgement
+    ensures { result ≡ Fields.with_fields told clean.now }
+{
+    match told {
+        Judgement::Fine => field_judgement(odd_field(clean)),
+        Judgement::UnknownPrefix => Judgement::UnknownPrefix,
+        Judgement::Dead(place) => Judgement::Dead(place),
+    }
+}
+
 /// What is said of a pattern's likelihood: nothing, if no text that udev asks matches it.
-fn likelihood_of(judged: Judged) -> Judgement
+fn likelihood_of(judged: Judged, clean: &[u8]) -> Judgement
     ensures { result
-        ≡ (if Unmatched.is_unmatched judged.asked then Judgement.Fine else judged.likely) }
+        ≡ (if Unmatched.is_unmatched judged.asked then Judgement.Fine
+        else Fields.with_fields judged.likely clean.now) }
 {
     if is_unmatched(judged.asked) {
         Judgement::Fine
     } else {
-        judged.likely
+        with_fields(judged.likely, clean)
     }
 }
 
@@ -61,12 +85,12 @@ fn said_of_pattern(alloc: Global, clean: &[u8]) -> Result<Said, AllocError>
     ensures judgement { IfOk result (λ said. said.judgement ≡ judged asked clean.now) }
     ensures likelihood { IfOk result (λ said. said.likelihood
         ≡ (if Unmatched.is_unmatched (judged asked clean.now) then Judgement.Fine
-        else judged likely clean.now)) }
+        else Fields.with_fields (judged likely clean.now) clean.now)) }
 {
     let judged = judge_both(alloc, clean)?;
     Ok(Said {
         judgement: judged.asked,
-        likelihood: likelihood_of(judged),
+        likelihood: likelihood_of(judged, clean),
     })
 }
 
@@ -236,7 +260,7 @@ fn push_likely_place_hint(alloc: Global, text: &mut Vec<u8>, front: &[u8]) -> Re
 }
 
 /// Adds what to do about a pattern that likely goes wrong at a place: as `push_dead_hint`.
-fn push_unlikely_hint(
+fn push_likely_hint(
     alloc: Global,
     text: &mut Vec<u8>,
     pattern: &[u8],
@@ -249,6 +273,44 @@ fn push_unlikely_hint(
         Some(meant) => push_mend(text, pattern, place, &meant),
         None => push_likely_place_hint(alloc, text, front_of(pattern, place)),
     }
+}
+
+/// The name of a field that was likely meant at a place of a pattern; an empty text if none was.
+fn field_at(pattern: &[u8], place: usize) -> &'static [u8]
+    ensures { result.now ≡ Fields.meant_field (drop place pattern.now) }
+{
+    meant_field(rest_of(pattern, place))
+}
+
+/// Adds which field was likely meant, or what to do without that.
+fn push_field_hint(
+    alloc: Global,
+    text: &mut Vec<u8>,
+    field: &[u8],
+    pattern: &[u8],
+    place: usize,
+) -> Result<(), AllocError>
+    ensures { OnOk result (text.new.items
+        ≡ text.old.items ++ Unmatched.unlikely_hint field.now pattern.now place) }
+{
+    if field.is_empty() {
+        push_likely_hint(alloc, text, pattern, place)
+    } else {
+        push_meant(text, field)
+    }
+}
+
+/// Adds what to do about a pattern that likely goes wrong at a place.
+fn push_unlikely_hint(
+    alloc: Global,
+    text: &mut Vec<u8>,
+    pattern: &[u8],
+    place: usize,
+) -> Result<(), AllocError>
+    ensures { OnOk result (text.new.items
+        ≡ text.old.items ++ Unmatched.likelihood_hint (Judgement.Dead place) pattern.now) }
+{
+    push_field_hint(alloc, text, field_at(pattern, place), pattern, place)
 }
 
 /// Adds what to do about a pattern of which this is said.

@@ -1,6 +1,6 @@
 //! Laws over the definitions alone. Each function does nothing: its contract is the law.
 ghost use Rattle.hwdb_check.specs.Comments.{BareAreTold, CommentRows, FaultsStay, LeftAreTold, LinesAreMarked, RecordsAreApart};
-ghost use Rattle.hwdb_check.specs.Laws.{KindsAreNamed, LikelihoodIsJudged, MendRows, MendsAreLikely, PatternsAreJudged, RunsAreAll, TooDeepRows, TooLongRows, UnmatchedRows};
+ghost use Rattle.hwdb_check.specs.Laws.{FieldRows, KindsAreNamed, LikelihoodIsJudged, MendRows, MendsAreLikely, PatternsAreJudged, RunsAreAll, TooDeepRows, TooLongRows, UnmatchedRows};
 
 use hwdb_forms::forms_are_tested;
 
@@ -13,10 +13,11 @@ pub fn patterns_are_judged()
 {}
 
 /// A pattern that matches a text that udev asks is told as unlikely exactly if it matches none that udev likely asks, with the bytes that
-/// can likely follow.
-#[tactic(auto, using(crate::proofs::LawLemmas::judged_likelihood))]
+/// can likely follow; or if it has what is nearly the name of a field.
+#[tactic(auto, using(crate::proofs::LawLemmas::judged_likelihood, crate::proofs::LawLemmas::field_rows))]
 pub fn likelihood_is_judged()
-    ensures { LikelihoodIsJudged }
+    ensures judged { LikelihoodIsJudged }
+    ensures fields { FieldRows }
 {
     forms_are_tested();
 }

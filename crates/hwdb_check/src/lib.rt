@@ -13,6 +13,7 @@
 //! | `line_texts` | the text of a line, by its number |
 //! | `line_warnings` | which warnings a line gets, by its clean text |
 //! | `mends` | what a pattern was likely meant to be that goes wrong |
+//! | `fields` | what is nearly the name of a field of the machine |
 //! | `misuses` | properties that don't fit what is known of properties |
 //! | `judgements` | patterns that match no text that udev asks |
 //! | `unread` | properties that aren't read below the patterns of their record |
@@ -37,6 +38,7 @@
 mod allowed;
 mod annotations;
 mod companions;
+mod fields;
 mod files;
 mod findings;
 mod judgements;

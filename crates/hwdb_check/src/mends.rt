@@ -20,7 +20,7 @@ const LONGEST_MENDED: usize = 256;
 const MOST_STEPS: usize = 4;
 
 /// Whether a byte is a small letter.
-fn is_small(byte: u8) -> bool
+pub fn is_small(byte: u8) -> bool
     ensures { result ≡ Mends.is_small byte }
 {
     matches!(byte, b'a'..=b'z')
@@ -81,7 +81,7 @@ pub fn front_of(text: &[u8], size: usize) -> &[u8]
 }
 
 /// The bytes of a text after its first ones.
-fn rest_of(text: &[u8], size: usize) -> &[u8]
+pub fn rest_of(text: &[u8], size: usize) -> &[u8]
     ensures { result.now ≡ drop size text.now }
 {
     if size < text.len() {

@@ -31,7 +31,8 @@ given pattern key = record { position = record { priority = 1; line = 2; pattern
 
 -- Keys of a keyboard are read below `evdev:` alone. A mouse's resolution is read below `mouse:` and `evdev:`. A prefix that udev doesn't
 -- ask and a wildcard in the prefix tell nothing. A name that isn't known is read nowhere below `mouse:`, and perhaps below `usb:`. What
--- Linux logs as e0 37 has the code b7 at the driver atkbd, and dell-wmi has codes of its own.
+-- Linux logs as e0 37 has the code b7 at the driver atkbd, and dell-wmi has codes of its own. No rule asks for a name with braces. What
+-- 60-autosuspend.rules reads is there before 70-mouse.rules asks.
 abbrev pub ElsewhereRows : Type 0
 ElsewhereRows =
     map is_elsewhere
@@ -47,8 +48,11 @@ ElsewhereRows =
     ∷ given (codes "evdev:atkbd:dmi:*") (codes "KEYBOARD_KEY_e037")
     ∷ given (codes "evdev:atkbd:dmi:*") (codes "KEYBOARD_KEY_b7")
     ∷ given (codes "evdev:name:Dell WMI hotkeys:dmi:*") (codes "KEYBOARD_KEY_e037")
+    ∷ given (codes "usb:v1209*") (codes "ENV{WORKSHOP_LIGHT}")
+    ∷ given (codes "mouse:usb:*") (codes "ID_AUTOSUSPEND")
+    ∷ given (codes "usb:v1209*") (codes "ID_AUTOSUSPEND")
     ∷ [])
-    ≡ false ∷ true ∷ false ∷ false ∷ true ∷ false ∷ false ∷ true ∷ false ∷ true ∷ false ∷ false ∷ []
+    ≡ false ∷ true ∷ false ∷ false ∷ true ∷ false ∷ false ∷ true ∷ false ∷ true ∷ false ∷ false ∷ true ∷ true ∷ false ∷ []
 
 -- A property is unread if it is so with each pattern of its record, and a match line never is.
 abbrev pub UnreadRows : Type 0
@@ -73,6 +77,7 @@ abbrev pub HintRows : Type 0
 HintRows =
     (unread_hint true (codes "KEYBOARD_KEY_70039") ≡ codes "it is read below these prefixes: evdev")
     × (unread_hint true (codes "KEYBOARD_KEY_e037") ≡ codes "Linux logs e0 before a code: below evdev:atkbd: write KEYBOARD_KEY_b7")
+    × (unread_hint false (codes "ENV{WORKSHOP_LIGHT}") ≡ codes "write the name alone, in letters, digits and _")
     × (unread_hint false (codes "MOUSE_WHEEL_ANGLE") ≡ codes "did you mean MOUSE_WHEEL_CLICK_ANGLE?")
     × (unpaired_hint (codes "MOUSE_WHEEL_CLICK_COUNT") ≡ codes "give its record these too: MOUSE_WHEEL_CLICK_ANGLE")
 

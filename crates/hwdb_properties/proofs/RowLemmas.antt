@@ -1,7 +1,7 @@
 -- The rows of `Rows`, computed.
 use Rattle.std.proofs.Common.{refl}
 use Rattle.hwdb_spec.specs.Lines.{pieces}
-use Rattle.hwdb_properties.specs.Rows.{AxisRows, CodeRows, KeyRows, MatrixRows, NameRows, NumberRows, PairRows, ReadRows, ResolutionRows}
+use Rattle.hwdb_properties.specs.Rows.{AxisRows, CodeRows, KeyRows, MatrixRows, MeantRows, NameRows, NumberRows, OddNameRows, PairRows, ReadRows, ResolutionRows, SettingRows}
 
 pub resolutions : ResolutionRows
 unfolding pieces
@@ -28,6 +28,7 @@ matrices = record {
 }
 
 pub axes : AxisRows
+unfolding pieces
 axes = record {
   limits = refl;
   some = refl;
@@ -35,6 +36,14 @@ axes = record {
   none = refl;
   capital = refl;
   marked = refl;
+  last = refl;
+  zeros = refl;
+  digit = refl;
+  above = refl;
+  long = refl;
+  scan = refl;
+  evtest = refl;
+  no_axis = refl;
   no_digit = refl;
   six = refl;
   dash = refl;
@@ -54,6 +63,41 @@ numbers = record {
   word = refl;
   other = refl;
   away = refl;
+}
+
+pub settings : SettingRows
+settings = record {
+  plain = refl;
+  signs = refl;
+  quotes = refl;
+  several = refl;
+  away = refl;
+}
+
+pub meant : MeantRows
+unfolding pieces
+meant = record {
+  quotes = refl;
+  single = refl;
+  letters = refl;
+  word = refl;
+  both = refl;
+  other = refl;
+  form = refl;
+  none = refl;
+}
+
+pub odd_names : OddNameRows
+unfolding pieces
+odd_names = record {
+  plain = refl;
+  rule = refl;
+  shell = refl;
+  dash = refl;
+  dot = refl;
+  read = refl;
+  told_as_near = refl;
+  hint = refl;
 }
 
 pub names : NameRows

@@ -2,8 +2,8 @@
 -- files, hwdb(7) and parse_hwdb.py.
 use Rattle.std.specs.Prelude.{true, false, [], ◌∷◌, ◌≡◌, None, Some, codes}
 use Rattle.hwdb_spec.specs.Assignment.{Assignment}
-use Rattle.hwdb_spec_commands.specs.Properties.{bare_hint, bare_key, code_hint, has_lost_words, is_near, is_near_name, row_misuse}
-use Rattle.hwdb_spec_commands.specs.Surroundings.{has_logged_code, is_alone, is_read_by_row, may_be_read, raised}
+use Rattle.hwdb_spec_commands.specs.Properties.{bare_hint, bare_key, code_hint, has_lost_words, is_near, is_near_name, row_misuse, row_value_hint}
+use Rattle.hwdb_spec_commands.specs.Surroundings.{has_logged_code, is_alone, is_odd_name, is_read_by_row, may_be_read, raised, unknown_hint}
 use Rattle.hwdb_spec_commands.specs.declared.vocabulary.Misuse.TheVariants.{ScanCode, SingularMatrix, TwoDefaults, UnfitValue, ZeroRow}
 use Prim.Native.String.{String}
 
@@ -44,6 +44,14 @@ pub record AxisRows : Type 0 where
   pub none : row_misuse (codes "EVDEV_ABS_ axis evdev x") (codes "EVDEV_ABS_") (codes "1:2") ≡ Some ScanCode
   pub capital : code_hint (codes "EVDEV_ABS_") (codes "EVDEV_ABS_3A") ≡ codes "write EVDEV_ABS_3a"
   pub marked : code_hint (codes "KEYBOARD_KEY_") (codes "KEYBOARD_KEY_0x70039") ≡ codes "write KEYBOARD_KEY_70039"
+  pub last : IsFine "EVDEV_ABS_ axis evdev x" "EVDEV_ABS_3f" "1:2"
+  pub zeros : IsFine "EVDEV_ABS_ axis evdev x" "EVDEV_ABS_0035" "1:2"
+  pub digit : IsFine "EVDEV_ABS_ axis evdev x" "EVDEV_ABS_9" "1:2"
+  pub above : row_misuse (codes "EVDEV_ABS_ axis evdev x") (codes "EVDEV_ABS_40") (codes "1:2") ≡ Some ScanCode
+  pub long : row_misuse (codes "EVDEV_ABS_ axis evdev x") (codes "EVDEV_ABS_100") (codes "1:2") ≡ Some ScanCode
+  pub scan : IsFine "KEYBOARD_KEY_ key evdev x" "KEYBOARD_KEY_90005" "1"
+  pub evtest : code_hint (codes "EVDEV_ABS_") (codes "EVDEV_ABS_53") ≡ codes "evtest shows the code in decimal: write EVDEV_ABS_35"
+  pub no_axis : code_hint (codes "EVDEV_ABS_") (codes "EVDEV_ABS_64") ≡ codes "write the code of an axis in hexadecimal, from 00 to 3f"
   pub no_digit : code_hint (codes "EVDEV_ABS_") (codes "EVDEV_ABS_x1")
       ≡ codes "write the code in the digits 0 to 9 and a to f alone, without 0x"
   pub six : IsUnfit "EVDEV_ABS_ axis evdev x" "EVDEV_ABS_00" "1:2:3:4:5:6"
@@ -62,6 +70,36 @@ pub record NumberRows : Type 0 where
   pub word : IsFine "ID_INTEGRATION internal|external * x" "ID_INTEGRATION" "external"
   pub other : IsUnfit "ID_INTEGRATION internal|external * x" "ID_INTEGRATION" "extern"
   pub away : IsFine "ID_INTEGRATION internal|external * x" "ID_INTEGRATION" ""
+
+-- The names of X's layouts have letters, digits and a few signs (parse_hwdb.py).
+pub record SettingRows : Type 0 where
+  pub plain : IsFine "XKB_FIXED_LAYOUT setting evdev x" "XKB_FIXED_LAYOUT" "us"
+  pub signs : IsFine "XKB_FIXED_LAYOUT setting evdev x" "XKB_FIXED_LAYOUT" "a+b-c/d@e._9Z"
+  pub quotes : IsUnfit "XKB_FIXED_LAYOUT setting evdev x" "XKB_FIXED_LAYOUT" "\"us\""
+  pub several : IsUnfit "XKB_FIXED_LAYOUT setting evdev x" "XKB_FIXED_LAYOUT" "us,de"
+  pub away : IsFine "XKB_FIXED_LAYOUT setting evdev x" "XKB_FIXED_LAYOUT" ""
+
+-- How a value was likely meant: inside its quotes, in other letters, or by what people call it. Else its form is told.
+pub record MeantRows : Type 0 where
+  pub quotes : row_value_hint (codes "MOUSE_DPI resolutions mouse x") (codes "MOUSE_DPI") (codes "\"400@125 *800@125\"") ≡ codes "write MOUSE_DPI=400@125 *800@125"
+  pub single : row_value_hint (codes "ID_PDA 0|1 * x") (codes "ID_PDA") (codes "'1'") ≡ codes "write ID_PDA=1"
+  pub letters : row_value_hint (codes "ID_INTEGRATION internal|external * x") (codes "ID_INTEGRATION") (codes "Internal") ≡ codes "write ID_INTEGRATION=internal"
+  pub word : row_value_hint (codes "ID_PDA 0|1 * x") (codes "ID_PDA") (codes "Yes") ≡ codes "write ID_PDA=1"
+  pub both : row_value_hint (codes "ID_PDA 0|1 * x") (codes "ID_PDA") (codes "\"off\"") ≡ codes "write ID_PDA=0"
+  pub other : row_value_hint (codes "ID_INTEGRATION internal|external * x") (codes "ID_INTEGRATION") (codes "yes") ≡ codes "write one of these: internal|external"
+  pub form : row_value_hint (codes "MOUSE_DPI resolutions mouse x") (codes "MOUSE_DPI") (codes "resolutions") ≡ codes "write resolutions with spaces between, as 400@125 *800@125"
+  pub none : row_value_hint (codes "ID_PDA 0|1 * x") (codes "ID_PDA") (codes "\"\"") ≡ codes "write one of these: 0|1"
+
+-- Names have letters, digits, `.` and `_`. One with other bytes is read nowhere.
+pub record OddNameRows : Type 0 where
+  pub plain : is_odd_name (codes "ID_INPUT_3D_MOUSE") ≡ false
+  pub rule : is_odd_name (codes "ENV{ID_PDA}") ≡ true
+  pub shell : is_odd_name (codes "export ID_PDA") ≡ true
+  pub dash : is_odd_name (codes "ID-PDA") ≡ true
+  pub dot : is_odd_name (codes ".ID_PDA") ≡ false
+  pub read : may_be_read (codes "ENV{WORKSHOP_LIGHT}") (codes "usb") ≡ false
+  pub told_as_near : may_be_read (codes "ID-PDA") (codes "usb") ≡ true
+  pub hint : unknown_hint (codes "ENV{WORKSHOP_LIGHT}") ≡ codes "write the name alone, in letters, digits and _"
 
 -- names that differ by one byte, by case, or by two bytes that are swapped; all names that begin so, and words that are lost
 pub record NameRows : Type 0 where

@@ -1,5 +1,5 @@
 //! Laws over the definitions alone: worked rows. Each function does nothing: its contract is the law.
-ghost use Rattle.hwdb_properties.specs.Rows.{AxisRows, CodeRows, KeyRows, MatrixRows, NameRows, NumberRows, PairRows, ReadRows, ResolutionRows};
+ghost use Rattle.hwdb_properties.specs.Rows.{AxisRows, CodeRows, KeyRows, MatrixRows, MeantRows, NameRows, NumberRows, OddNameRows, PairRows, ReadRows, ResolutionRows, SettingRows};
 
 /// Which texts are resolutions of a mouse.
 #[tactic(auto, using(crate::proofs::RowLemmas::resolutions))]
@@ -23,6 +23,24 @@ pub fn axes_are_told()
 #[tactic(auto, using(crate::proofs::RowLemmas::numbers))]
 pub fn numbers_are_told()
     ensures { NumberRows }
+{}
+
+/// Which texts name a layout of X.
+#[tactic(auto, using(crate::proofs::RowLemmas::settings))]
+pub fn settings_are_told()
+    ensures { SettingRows }
+{}
+
+/// How values were likely meant.
+#[tactic(auto, using(crate::proofs::RowLemmas::meant))]
+pub fn meant_values_are_told()
+    ensures { MeantRows }
+{}
+
+/// Which names have odd bytes.
+#[tactic(auto, using(crate::proofs::RowLemmas::odd_names))]
+pub fn odd_names_are_told()
+    ensures { OddNameRows }
 {}
 
 /// Which names are nearly alike.

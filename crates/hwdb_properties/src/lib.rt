@@ -5,11 +5,12 @@
 //! | `common` | properties that most lines of large files have |
 //! | `cuts` | the parts of a text before and after a byte |
 //! | `names` | names that are nearly alike |
-//! | `words` | names that lost words |
+//! | `words` | names that lost words, and names with odd bytes |
 //! | `rows` | the row of a table for a name |
 //! | `numbers` | texts that are numbers |
 //! | `matrices` | matrices whose determinant is 0 |
 //! | `values` | texts that are values of a form |
+//! | `meant` | how a value was likely meant |
 //! | `remarks` | what is said of a property that doesn't fit |
 //! | `keys` | the keys that words ask for, each with its code |
 //! | `laws` | worked rows of the definitions |
@@ -21,6 +22,7 @@ mod cuts;
 mod keys;
 mod laws;
 mod matrices;
+mod meant;
 mod names;
 mod numbers;
 mod remarks;
@@ -33,8 +35,9 @@ pub use common::is_common;
 pub use cuts::{after, before, same};
 pub use keys::keys_text;
 pub use laws::{
-    axes_are_told, codes_are_told, keys_are_told, matrices_are_told, names_are_told,
-    numbers_are_told, pairs_are_told, prefixes_are_told, resolutions_are_told,
+    axes_are_told, codes_are_told, keys_are_told, matrices_are_told, meant_values_are_told,
+    names_are_told, numbers_are_told, odd_names_are_told, pairs_are_told, prefixes_are_told,
+    resolutions_are_told, settings_are_told,
 };
 pub use remarks::{is_known, misuse_of, misuse_text, push_misuse_hint, push_unknown_hint};
 pub use rows::{Likeness, first_row};

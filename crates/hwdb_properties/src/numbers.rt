@@ -1,9 +1,11 @@
 //! Texts that are numbers.
 ghost use Rattle.std.specs.Prelude.{◌≡◌};
 ghost use Rattle.std.specs.List.{list_all};
+ghost use Rattle.hwdb_spec.specs.Lines.{is};
+ghost use Rattle.hwdb_spec.specs.Patterns.{in_span};
 ghost use Rattle.hwdb_spec_commands.specs.Properties;
 
-use crate::cuts::{after, after_one, before, same, without};
+use crate::cuts::{after, after_one, before, front, past, same, without};
 use hwdb_text::begins_with;
 
 /// Whether all bytes of a text are decimal digits.
@@ -52,6 +54,50 @@ pub fn is_lower_hex(text: &[u8]) -> bool
 {
     for byte in text {
         if !is_lower_hex_digit(*byte) {
+            return false;
+        }
+    }
+    !text.is_empty()
+}
+
+/// Whether a byte is a letter, a digit, or one of `+`, `-`, `.`, `/`, `@` and `_`.
+fn is_setting_byte(byte: u8) -> bool
+    ensures { result ≡ Properties.is_setting_byte byte }
+{
+    matches!(byte, b'+' | b'-'..=b'9' | b'@'..=b'Z' | b'_' | b'a'..=b'z')
+}
+
+/// Whether all bytes of a text are zeros.
+fn are_zeros(text: &[u8]) -> bool
+    ensures { result ≡ list_all (is 48) text.now }
+{
+    text.iter().all(|byte| *byte == b'0')
+}
+
+/// Whether all bytes of a text are digits less than 4.
+fn are_low(text: &[u8]) -> bool
+    ensures { result ≡ list_all (λ b. in_span b (48, 51)) text.now }
+{
+    text.iter().all(|byte| matches!(*byte, b'0'..=b'3'))
+}
+
+/// Whether a code in hexadecimal is at most 3f.
+pub fn is_axis_code(text: &[u8]) -> bool
+    ensures { result ≡ Properties.is_axis_code text.now }
+{
+    if text.len() < 2 {
+        return true;
+    }
+    let end = text.len() - 2;
+    are_zeros(front(text, end)) && are_low(front(past(text, end), 1))
+}
+
+/// Whether a text is a letter, a digit or a few signs, or more of them.
+pub fn is_setting(text: &[u8]) -> bool
+    ensures { result ≡ Properties.is_made_of Properties.is_setting_byte text.now }
+{
+    for byte in text {
+        if !is_setting_byte(*byte) {
             return false;
         }
     }

@@ -3,16 +3,19 @@ ghost use Rattle.std.specs.Prelude.{◌≡◌, ◌++◌, [], OnOk, codes, map, n
 ghost use Rattle.hwdb_spec.specs.Lines;
 ghost use Rattle.hwdb_spec_commands.specs.Properties;
 ghost use Rattle.hwdb_spec_commands.specs.Surroundings;
-ghost use Rattle.hwdb_spec_commands.specs.declared.vocabulary.TheConstants.{KEY_HINT, KEY_NAMES, KEY_WORDS, KNOWN_BELOW, OLD_PROPERTIES, PROPERTIES};
+ghost use Rattle.hwdb_spec_commands.specs.declared.vocabulary.TheConstants.{AXIS_CODES, KEY_HINT, KEY_NAMES, KEY_WORDS, KNOWN_BELOW, OLD_PROPERTIES, PROPERTIES};
 
 use crate::common::is_common;
 use crate::cuts::{before, front, past, same, without};
+use crate::meant::push_row_value_hint;
 use crate::names::{lower, same_letters};
-use crate::numbers::{is_hex, is_lower_hex};
+use crate::numbers::{is_axis_code, is_hex, is_lower_hex};
 use crate::rows::{Likeness, after_word, first_row, row_form, word};
 use crate::values::{form_of, is_of_form, odd_value};
+use crate::words::is_odd_name;
 use hwdb_spec_commands::{
-    KEY_HINT, KEY_NAMES, KEY_WORDS, KNOWN_BELOW, Misuse, OLD_PROPERTIES, PROPERTIES, ValueForm,
+    AXIS_CODES, KEY_HINT, KEY_NAMES, KEY_WORDS, KNOWN_BELOW, Misuse, OLD_PROPERTIES, PROPERTIES,
+    ValueForm,
 };
 use std::alloc::AllocError;
 
@@ -79,16 +82,29 @@ fn has_code(form: ValueForm) -> bool
     matches!(form, ValueForm::Axis | ValueForm::Key)
 }
 
-/// Whether what a name has more than its row is a code in lower case.
+/// Whether a row's name is that of all axes.
+fn is_axis_name(own: &[u8]) -> bool
+    ensures { result ≡ Properties.is_axis_name own.now }
+{
+    same(own, b"EVDEV_ABS_")
+}
+
+/// Whether this is a code in lower case, and one of an axis if the row is for axes.
+fn is_code_of(own: &[u8], code: &[u8]) -> bool
+    ensures { result ≡ Properties.is_code_of own.now code.now }
+{
+    is_lower_hex(code) && (!is_axis_name(own) || is_axis_code(code))
+}
+
+/// Whether what a name has more than its row is such a code.
 fn is_code(row: &[u8], name: &[u8]) -> bool
     ensures { result ≡ Properties.is_code row.now name.now }
 {
-    let own = word(row).len();
-    own < name.len() && is_lower_hex(&name[own..])
+    is_code_of(word(row), past(name, word(row).len()))
 }
 
 /// Whether a text is a value by its row.
-fn is_value(row: &[u8], text: &[u8]) -> bool
+pub fn is_value(row: &[u8], text: &[u8]) -> bool
     ensures { result ≡ Properties.is_value row.now text.now }
 {
     let form = row_form(row);
@@ -172,12 +188,13 @@ fn form_text(form: ValueForm) -> &'static str
         ValueForm::Axis => "write up to five numbers with colons between, as 0:4095:40",
         ValueForm::Limits => "write two numbers with a comma between, as 75,80; a _ is for none",
         ValueForm::Key => KEY_HINT,
+        ValueForm::Setting => "write letters, digits and + - . / @ _ alone, as us",
         ValueForm::Choice => "write one of these: ",
     }
 }
 
 /// Adds what is a value of a form, whose name is this word.
-fn push_form_hint(text: &mut Vec<u8>, kind: ValueForm, form: &[u8]) -> Result<(), AllocError>
+pub fn push_form_hint(text: &mut Vec<u8>, kind: ValueForm, form: &[u8]) -> Result<(), AllocError>
     ensures { OnOk result
         (text.new.items ≡ text.old.items ++ Properties.form_hint kind form.now) }
 {
@@ -189,7 +206,7 @@ fn push_form_hint(text: &mut Vec<u8>, kind: ValueForm, form: &[u8]) -> Result<()
 }
 
 /// A text without such a byte before it, and without all from the next one on.
-fn inside(byte: u8, text: &[u8]) -> &[u8]
+pub fn inside(byte: u8, text: &[u8]) -> &[u8]
     ensures { result.now ≡ Properties.inside byte text.now }
 {
     before(byte, without(byte, text))
@@ -240,11 +257,11 @@ fn push_key_hint(text: &mut Vec<u8>, value: &[u8]) -> Result<(), AllocError>
 }
 
 /// Adds what is a value of a property with this name.
-fn push_value_hint(text: &mut Vec<u8>, name: &[u8]) -> Result<(), AllocError>
-    ensures { OnOk result (text.new.items ≡ text.old.items ++ Properties.value_hint name.now) }
+fn push_value_hint(text: &mut Vec<u8>, name: &[u8], value: &[u8]) -> Result<(), AllocError>
+    ensures { OnOk result
+        (text.new.items ≡ text.old.items ++ Properties.value_hint name.now value.now) }
 {
-    let form = row_form(property_row(name));
-    push_form_hint(text, form_of(form), form)
+    push_row_value_hint(text, property_row(name), name, value)
 }
 
 /// The code that ends a name, after its row's own, without a `0x`.
@@ -270,20 +287,86 @@ fn push_lower(text: &mut Vec<u8>, letters: &[u8]) -> Result<(), AllocError>
     Ok(())
 }
 
-/// Adds how a name is written whose code isn't one.
-fn push_code_hint(text: &mut Vec<u8>, own: &[u8], name: &[u8]) -> Result<(), AllocError>
-    ensures { OnOk result
-        (text.new.items ≡ text.old.items ++ Properties.code_hint own.now name.now) }
+/// The row of a code that evtest shows in decimal.
+fn axis_row(code: &[u8]) -> &'static [u8]
+    ensures { result.now ≡ Properties.row_for AXIS_CODES.now code.now }
 {
-    let code = bare_code(own, name);
+    first_row(AXIS_CODES.as_bytes(), code, Likeness::Same)
+}
+
+/// Adds a code of an axis that evtest shows in decimal.
+fn push_axis_code(text: &mut Vec<u8>, own: &[u8], code: &[u8]) -> Result<(), AllocError>
+    ensures { OnOk result (text.new.items ≡ text.old.items
+        ++ (codes "evtest shows the code in decimal: write " ++ (own.now ++ code.now))) }
+{
+    text.extend_from_slice(b"evtest shows the code in decimal: write ")?;
+    text.extend_from_slice(own)?;
+    text.extend_from_slice(code)?;
+    Ok(())
+}
+
+/// Adds what to do about a code that no axis has.
+fn push_axis_hint(text: &mut Vec<u8>, own: &[u8], code: &[u8]) -> Result<(), AllocError>
+    ensures { OnOk result
+        (text.new.items ≡ text.old.items ++ Properties.axis_hint own.now code.now) }
+{
+    let row = axis_row(code);
+    if row.is_empty() {
+        let hint = "write the code of an axis in hexadecimal, from 00 to 3f";
+        text.extend_from_slice(hint.as_bytes())?;
+        return Ok(());
+    }
+    push_axis_code(text, own, after_word(row))
+}
+
+/// Adds a name with its code in lower case.
+fn push_lower_code(text: &mut Vec<u8>, own: &[u8], code: &[u8]) -> Result<(), AllocError>
+    ensures { OnOk result (text.new.items
+        ≡ text.old.items ++ (codes "write " ++ (own.now ++ map Properties.lower code.now))) }
+{
+    text.extend_from_slice(b"write ")?;
+    text.extend_from_slice(own)?;
+    push_lower(text, code)
+}
+
+/// Adds what to do about a code in hexadecimal digits.
+fn push_hex_hint(text: &mut Vec<u8>, own: &[u8], code: &[u8]) -> Result<(), AllocError>
+    ensures { OnOk result
+        (text.new.items ≡ text.old.items ++ Properties.hex_hint own.now code.now) }
+{
+    if is_axis_name(own) && !is_axis_code(code) {
+        return push_axis_hint(text, own, code);
+    }
+    push_lower_code(text, own, code)
+}
+
+/// Adds what to do about a code that isn't one of its property.
+fn push_bare_code_hint(text: &mut Vec<u8>, own: &[u8], code: &[u8]) -> Result<(), AllocError>
+    ensures { OnOk result
+        (text.new.items ≡ text.old.items ++ Properties.bare_code_hint own.now code.now) }
+{
     if !is_hex(code) {
         let hint = "write the code in the digits 0 to 9 and a to f alone, without 0x";
         text.extend_from_slice(hint.as_bytes())?;
         return Ok(());
     }
-    text.extend_from_slice(b"write ")?;
-    text.extend_from_slice(own)?;
-    push_lower(text, code)
+    push_hex_hint(text, own, code)
+}
+
+/// Adds how a name is written whose code isn't one.
+fn push_code_hint(text: &mut Vec<u8>, own: &[u8], name: &[u8]) -> Result<(), AllocError>
+    ensures { OnOk result
+        (text.new.items ≡ text.old.items ++ Properties.code_hint own.now name.now) }
+{
+    push_bare_code_hint(text, own, bare_code(own, name))
+}
+
+/// Adds what to do about a name whose code isn't one of its property.
+fn push_scan_hint(text: &mut Vec<u8>, name: &[u8]) -> Result<(), AllocError>
+    ensures { OnOk result
+        (text.new.items ≡ text.old.items ++ Properties.misuse_hint Misuse.ScanCode name.now []) }
+{
+    push_code_hint(text, word(property_row(name)), name)
 }
 
 /// Adds what a matrix is.
@@ -326,6 +409,18 @@ fn push_known_below(text: &mut Vec<u8>) -> Result<(), AllocError>
     Ok(())
 }
 
+/// Adds what to do about a name that is in no row.
+fn push_bare_name_hint(text: &mut Vec<u8>, name: &[u8]) -> Result<(), AllocError>
+    ensures { OnOk result
+        (text.new.items ≡ text.old.items ++ Surroundings.bare_name_hint name.now) }
+{
+    if is_odd_name(name) {
+        text.extend_from_slice(b"write the name alone, in letters, digits and _")?;
+        return Ok(());
+    }
+    push_known_below(text)
+}
+
 /// Adds what to do about a property that nothing is known to read.
 pub fn push_unknown_hint(text: &mut Vec<u8>, name: &[u8]) -> Result<(), AllocError>
     ensures { OnOk result
@@ -333,7 +428,7 @@ pub fn push_unknown_hint(text: &mut Vec<u8>, name: &[u8]) -> Result<(), AllocErr
 {
     let row = lost_row(name);
     if row.is_empty() {
-        push_known_below(text)
+        push_bare_name_hint(text, name)
     } else {
         push_did_you_mean(text, word(row))
     }
@@ -362,9 +457,9 @@ pub fn push_misuse_hint(
     match misuse {
         Misuse::NearName => push_did_you_mean(text, word(near_row(name))),
         Misuse::OldName => push_old_hint(text, name),
-        Misuse::ScanCode => push_code_hint(text, word(property_row(name)), name),
+        Misuse::ScanCode => push_scan_hint(text, name),
         Misuse::UnknownKey => push_key_hint(text, value),
-        Misuse::UnfitValue => push_value_hint(text, name),
+        Misuse::UnfitValue => push_value_hint(text, name, value),
         Misuse::ZeroRow => push_matrix_hint(text),
         Misuse::SingularMatrix => push_axes_hint(text),
         Misuse::TwoDefaults => push_default_hint(text),
@@ -378,7 +473,7 @@ pub fn misuse_text(misuse: Misuse) -> &'static str
     match misuse {
         Misuse::NearName => "a property that nothing is known to read",
         Misuse::OldName => "a property that is no longer read",
-        Misuse::ScanCode => "a code that isn't lower-case hexadecimal",
+        Misuse::ScanCode => "a code that its property doesn't take",
         Misuse::UnknownKey => "a key that isn't known",
         Misuse::UnfitValue => "a value that its property doesn't take",
         Misuse::ZeroRow => "a row of the matrix has zeros alone",

@@ -12,6 +12,7 @@ use crate::numbers::is_lower_hex;
 use crate::remarks::{name_misuse, property_row};
 use crate::rows::{Likeness, after_word, first_row, row_form, word};
 use crate::values::is_choice;
+use crate::words::is_odd_name;
 use hwdb_spec_commands::{COMPANIONS, KNOWN_BELOW};
 use std::alloc::AllocError;
 
@@ -34,6 +35,9 @@ fn is_read_by_row(row: &[u8], prefix: &[u8]) -> bool
 fn may_be_read(name: &[u8], prefix: &[u8]) -> bool
     ensures { result ≡ Surroundings.may_be_read name.now prefix.now }
 {
+    if is_odd_name(name) {
+        return name_misuse(name).is_some();
+    }
     if !is_choice(KNOWN_BELOW.as_bytes(), prefix) {
         return true;
     }

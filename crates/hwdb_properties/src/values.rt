@@ -7,7 +7,7 @@ ghost use Rattle.hwdb_spec_commands.specs.Properties;
 
 use crate::cuts::{after, before, same, without};
 use crate::matrices::is_singular;
-use crate::numbers::{is_byte, is_count, is_decimal, is_integer, is_number};
+use crate::numbers::{is_byte, is_count, is_decimal, is_integer, is_number, is_setting};
 use crate::rows::{Likeness, first_row};
 use hwdb_spec_commands::{KEY_NAMES, Misuse, ValueForm};
 use hwdb_text::{Pieces, unindented};
@@ -200,6 +200,8 @@ pub fn form_of(name: &[u8]) -> ValueForm
         ValueForm::Limits
     } else if same(name, b"key") {
         ValueForm::Key
+    } else if same(name, b"setting") {
+        ValueForm::Setting
     } else {
         ValueForm::Choice
     }
@@ -220,6 +222,7 @@ pub fn is_of_form(kind: ValueForm, form: &[u8], text: &[u8]) -> bool
         ValueForm::Axis => is_axis(text),
         ValueForm::Limits => is_limits(text),
         ValueForm::Key => is_key_or_release(text),
+        ValueForm::Setting => is_setting(text),
         ValueForm::Choice => is_choice(form, text),
     }
 }

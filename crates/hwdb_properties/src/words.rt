@@ -1,6 +1,7 @@
-//! Names that lost words.
+//! Names that lost words, and names with odd bytes.
 ghost use Rattle.std.specs.Prelude.{◌≡◌};
 ghost use Rattle.hwdb_spec_commands.specs.Properties;
+ghost use Rattle.hwdb_spec_commands.specs.Surroundings;
 
 use crate::names::same_letters;
 use crate::numbers::is_lower_hex;
@@ -36,4 +37,23 @@ pub fn has_lost_words(own: &[u8], name: &[u8]) -> bool
         }
     }
     true
+}
+
+/// Whether a byte is in names that rules ask for.
+fn is_name_byte(byte: u8) -> bool
+    ensures { result ≡ Surroundings.is_name_byte byte }
+{
+    matches!(byte, b'.' | b'0'..=b'9' | b'A'..=b'Z' | b'_' | b'a'..=b'z')
+}
+
+/// Whether a name has another byte.
+pub fn is_odd_name(name: &[u8]) -> bool
+    ensures { result ≡ Surroundings.is_odd_name name.now }
+{
+    for byte in name {
+        if !is_name_byte(*byte) {
+            return true;
+        }
+    }
+    false
 }

@@ -9,6 +9,7 @@ pub mod Json
 pub mod Reports
 pub mod Properties
 pub mod Mends
+pub mod Fields
 pub mod Unmatched
 pub mod Surroundings
 pub mod Kinds

@@ -15,9 +15,9 @@ use Rattle.hwdb_spec_commands.specs.declared.vocabulary.Misuse.TheVariants.{Near
 use Rattle.hwdb_spec_commands.specs.declared.vocabulary.Sign.{Sign}
 use Rattle.hwdb_spec_commands.specs.declared.vocabulary.Sign.TheVariants.{Minus, Other, Plus, Zero}
 use Rattle.hwdb_spec_commands.specs.declared.vocabulary.SignRow.{SignRow}
-use Rattle.hwdb_spec_commands.specs.declared.vocabulary.TheConstants.{KEY_HINT, KEY_NAMES, KEY_WORDS, OLD_PROPERTIES, PROPERTIES}
+use Rattle.hwdb_spec_commands.specs.declared.vocabulary.TheConstants.{AXIS_CODES, KEY_HINT, KEY_NAMES, KEY_WORDS, OLD_PROPERTIES, PROPERTIES, VALUE_WORDS}
 use Rattle.hwdb_spec_commands.specs.declared.vocabulary.ValueForm.{ValueForm}
-use Rattle.hwdb_spec_commands.specs.declared.vocabulary.ValueForm.TheVariants.{Any, Axis, Byte, Choice, Count, Decimal, Integer, Key, Limits, Matrix, Resolutions}
+use Rattle.hwdb_spec_commands.specs.declared.vocabulary.ValueForm.TheVariants.{Any, Axis, Byte, Choice, Count, Decimal, Integer, Key, Limits, Matrix, Resolutions, Setting}
 
 -- ---- Rows
 
@@ -299,6 +299,10 @@ is_prefixed_key text =
 abbrev pub is_key : List ℕ → Bool
 is_key text = if is_number text then true else (if is_key_name text then true else is_prefixed_key text)
 
+-- a letter, a digit, or one of `+`, `-`, `.`, `/`, `@` and `_`
+abbrev pub is_setting_byte : ℕ → Bool
+is_setting_byte b = list_any (in_span b) ((43, 43) ∷ (45, 57) ∷ (64, 90) ∷ (95, 95) ∷ (97, 122) ∷ [])
+
 -- one of the words that a form has, with a bar between each two
 abbrev pub is_choice : (form text : List ℕ) → Bool
 is_choice form text = list_any (same text) (pieces (is (byte "|")) form)
@@ -315,7 +319,8 @@ form_of name =
     (if same name (codes "resolutions") then Resolutions else
     (if same name (codes "axis") then Axis else
     (if same name (codes "limits") then Limits else
-    (if same name (codes "key") then Key else Choice)))))))))
+    (if same name (codes "key") then Key else
+    (if same name (codes "setting") then Setting else Choice))))))))))
 
 -- Whether a text is of a form, whose name is this word. A `!` before a key says that it is released at once; it may be alone.
 abbrev pub is_of_form : ValueForm → (form text : List ℕ) → Bool
@@ -329,6 +334,7 @@ is_of_form Resolutions form text = is_resolutions text
 is_of_form Axis form text = is_axis text
 is_of_form Limits form text = is_limits text
 is_of_form Key form text = if is_none (without (byte "!") text) then true else is_key (without (byte "!") text)
+is_of_form Setting form text = is_made_of is_setting_byte text
 is_of_form Choice form text = is_choice form text
 
 -- ---- Names that lost words
@@ -365,9 +371,25 @@ has_code Axis = true
 has_code Key = true
 has_code form = false
 
--- whether what a name has more than its row is a code in lower case
+-- whether a row's name is that of all axes
+abbrev pub is_axis_name : List ℕ → Bool
+is_axis_name own = same own (codes "EVDEV_ABS_")
+
+-- whether a code in hexadecimal is at most 3f, as those of all axes are (ABS_MAX of linux/input-event-codes.h)
+abbrev pub is_axis_code : List ℕ → Bool
+is_axis_code text =
+    if nat_lt (length text) 2 then true else
+    (if list_all (is (byte "0")) (take (length text - 2) text) then list_all (λ b. in_span b (48, 51)) (take 1 (drop (length text - 2) text))
+    else false)
+
+-- whether this is a code in lower case, and one of an axis if the row is for axes
+abbrev pub is_code_of : (own code : List ℕ) → Bool
+is_code_of own code =
+    if is_made_of is_lower_hex_digit code then (if is_axis_name own then is_axis_code code else true) else false
+
+-- whether what a name has more than its row is such a code
 abbrev pub is_code : (row name : List ℕ) → Bool
-is_code row name = is_made_of is_lower_hex_digit (drop (length (word row)) name)
+is_code row name = is_code_of (word row) (drop (length (word row)) name)
 
 -- an empty value takes a property away, and is none of a form
 abbrev pub is_value : (row text : List ℕ) → Bool
@@ -418,6 +440,7 @@ form_hint Resolutions form = codes "write resolutions with spaces between, as 40
 form_hint Axis form = codes "write up to five numbers with colons between, as 0:4095:40"
 form_hint Limits form = codes "write two numbers with a comma between, as 75,80; a _ is for none"
 form_hint Key form = KEY_HINT.now
+form_hint Setting form = codes "write letters, digits and + - . / @ _ alone, as us"
 form_hint Choice form = codes "write one of these: " ++ form
 
 -- a text without such a byte before it, and without all from the next one on
@@ -443,15 +466,45 @@ bare_hint name =
 abbrev pub key_hint : List ℕ → List ℕ
 key_hint text = bare_hint (bare_key text)
 
--- what to do about a value that isn't of its form
-abbrev pub value_hint : (name : List ℕ) → List ℕ
-value_hint name = form_hint (form_of (row_form (property_row name))) (row_form (property_row name))
+-- what is inside the quotes of a value
+abbrev pub bare_value : List ℕ → List ℕ
+bare_value text = inside (byte "'") (inside (byte "\"") text)
+
+-- the first word of a form that is a text but for the case of letters; an empty text if none is
+abbrev pub choice_in_letters : (form text : List ℕ) → List ℕ
+choice_in_letters form text = unwrap_or (find (same_letters text) (pieces (is (byte "|")) form)) []
+
+-- what a text means that people write for a value: `yes`, `mic`
+abbrev pub word_meant : List ℕ → List ℕ
+word_meant text = after_word (letters_row VALUE_WORDS.now text)
+
+-- whether a text is a value of a row, and isn't empty
+abbrev pub is_full_value : (row text : List ℕ) → Bool
+is_full_value row text = if is_none text then false else is_value row text
+
+-- The first of some texts that is a value of a row; an empty text if none is. It is the value that was likely meant: what is inside its
+-- quotes, a word of its form in other letters, or what people call one.
+abbrev pub value_meant : (row text : List ℕ) → List ℕ
+value_meant row text =
+    if is_full_value row (bare_value text) then bare_value text else
+    (if is_full_value row (choice_in_letters (row_form row) (bare_value text)) then choice_in_letters (row_form row) (bare_value text) else
+    (if is_full_value row (word_meant (bare_value text)) then word_meant (bare_value text) else []))
+
+-- what to do about a value that isn't of the form of its row: it is written as it was likely meant, or its form is told
+abbrev pub row_value_hint : (row name text : List ℕ) → List ℕ
+row_value_hint row name text =
+    if is_none (value_meant row text) then form_hint (form_of (row_form row)) (row_form row)
+    else codes "write " ++ (name ++ (byte "=" ∷ value_meant row text))
+
+-- the same of a property with this name
+abbrev pub value_hint : (name text : List ℕ) → List ℕ
+value_hint name text = row_value_hint (property_row name) name text
 
 -- what is printed of a misuse
 abbrev pub misuse_text : Misuse → List ℕ
 misuse_text NearName = codes "a property that nothing is known to read"
 misuse_text OldName = codes "a property that is no longer read"
-misuse_text ScanCode = codes "a code that isn't lower-case hexadecimal"
+misuse_text ScanCode = codes "a code that its property doesn't take"
 misuse_text UnknownKey = codes "a key that isn't known"
 misuse_text UnfitValue = codes "a value that its property doesn't take"
 misuse_text ZeroRow = codes "a row of the matrix has zeros alone"
@@ -464,11 +517,26 @@ bare_code own name =
     let code = drop (length own) name in
     if same (take 2 code) (codes "0x") then drop 2 code else code
 
--- what to do about a name whose code isn't one: it is written in lower case, if it has hexadecimal digits alone
-abbrev pub code_hint : (own name : List ℕ) → List ℕ
-code_hint own name =
-    if is_made_of is_hex_digit (bare_code own name) then codes "write " ++ (own ++ map lower (bare_code own name))
+-- what to do about a code that no axis has: the program evtest shows codes in decimal
+abbrev pub axis_hint : (own code : List ℕ) → List ℕ
+axis_hint own code =
+    if is_none (row_for AXIS_CODES.now code) then codes "write the code of an axis in hexadecimal, from 00 to 3f"
+    else codes "evtest shows the code in decimal: write " ++ (own ++ after_word (row_for AXIS_CODES.now code))
+
+-- what to do about a code in hexadecimal digits: it is written in lower case
+abbrev pub hex_hint : (own code : List ℕ) → List ℕ
+hex_hint own code =
+    if (if is_axis_name own then not (is_axis_code code) else false) then axis_hint own code else codes "write " ++ (own ++ map lower code)
+
+-- what to do about a code that its property doesn't take
+abbrev pub bare_code_hint : (own code : List ℕ) → List ℕ
+bare_code_hint own code =
+    if is_made_of is_hex_digit code then hex_hint own code
     else codes "write the code in the digits 0 to 9 and a to f alone, without 0x"
+
+-- what to do about a name that has such a code
+abbrev pub code_hint : (own name : List ℕ) → List ℕ
+code_hint own name = bare_code_hint own (bare_code own name)
 
 -- what to do about it
 abbrev pub misuse_hint : Misuse → (name text : List ℕ) → List ℕ
@@ -476,7 +544,7 @@ misuse_hint NearName name text = did_you_mean (word (near_row PROPERTIES.now nam
 misuse_hint OldName name text = codes "this came for it: " ++ after_word (row_for OLD_PROPERTIES.now name)
 misuse_hint ScanCode name text = code_hint (word (property_row name)) name
 misuse_hint UnknownKey name text = key_hint text
-misuse_hint UnfitValue name text = value_hint name
+misuse_hint UnfitValue name text = value_hint name text
 misuse_hint ZeroRow name text = codes "write in each row where an axis points, as 1, 0, 0; 0, 1, 0; 0, 0, 1"
 misuse_hint SingularMatrix name text = codes "write three axes that don't lie in one plane, as 1, 0, 0; 0, 1, 0; 0, 0, 1"
 misuse_hint TwoDefaults name text = codes "put a * before one of them alone"

@@ -28,10 +28,20 @@ row_prefixes row = word (after_word (after_word row))
 abbrev pub is_read_by_row : (row prefix : List ℕ) → Bool
 is_read_by_row row prefix = if same (row_prefixes row) (codes "*") then true else is_choice (row_prefixes row) prefix
 
+-- whether a byte is in names that rules ask for: a letter, a digit, `.` or `_`
+abbrev pub is_name_byte : ℕ → Bool
+is_name_byte b = list_any (in_span b) ((46, 46) ∷ (48, 57) ∷ (65, 90) ∷ (95, 95) ∷ (97, 122) ∷ [])
+
+-- whether a name has another byte, as `ENV{ID_PDA}` and `ID-PDA` have
+abbrev pub is_odd_name : List ℕ → Bool
+is_odd_name key = not (list_all is_name_byte key)
+
 -- Whether a property that is in no row may be read below this prefix. Below some prefixes all names are known, so that no other one is
--- read there. One of which `misuse` says something isn't told once more.
+-- read there. A name with other bytes is read nowhere. One of which `misuse` says something isn't told once more.
 abbrev pub may_be_read : (key prefix : List ℕ) → Bool
-may_be_read key prefix = if is_choice KNOWN_BELOW.now prefix then is_some (name_misuse key) else true
+may_be_read key prefix =
+    if is_odd_name key then is_some (name_misuse key) else
+    (if is_choice KNOWN_BELOW.now prefix then is_some (name_misuse key) else true)
 
 -- whether a property is read below this prefix
 abbrev pub is_read_below : (key prefix : List ℕ) → Bool
@@ -91,11 +101,16 @@ abbrev pub elsewhere_hint : (key : List ℕ) → List ℕ
 elsewhere_hint key =
     if has_logged_code key then logged_hint key else codes "it is read below these prefixes: " ++ row_prefixes (property_row key)
 
+-- what to do about a name that is in no row, and has no words but those of one that is known, or has others
+abbrev pub bare_name_hint : (key : List ℕ) → List ℕ
+bare_name_hint key =
+    if is_odd_name key then codes "write the name alone, in letters, digits and _"
+    else codes "below these prefixes all names are known: " ++ KNOWN_BELOW.now
+
 -- what to do about a property that nothing is known to read
 abbrev pub unknown_hint : (key : List ℕ) → List ℕ
 unknown_hint key =
-    if is_none (lost_row PROPERTIES.now key) then codes "below these prefixes all names are known: " ++ KNOWN_BELOW.now
-    else did_you_mean (word (lost_row PROPERTIES.now key))
+    if is_none (lost_row PROPERTIES.now key) then bare_name_hint key else did_you_mean (word (lost_row PROPERTIES.now key))
 
 -- what to do about a property that isn't read, which is known or not
 abbrev pub unread_hint : (known : Bool) → (key : List ℕ) → List ℕ

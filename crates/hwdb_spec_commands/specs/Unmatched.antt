@@ -1,10 +1,11 @@
 -- What is said of a pattern that matches no text that udev asks, or none that it likely asks: where it goes wrong, and what could be there.
 -- Our choice.
-use Rattle.std.specs.Prelude.{Bool, true, false, ℕ, List, [], ◌∷◌, ◌++◌, ◌+◌, ◌==◌, Option, None, Some, if◌then◌else◌, codes, flat_map, length, nat_lt, take}
+use Rattle.std.specs.Prelude.{Bool, true, false, ℕ, List, [], ◌∷◌, ◌++◌, ◌+◌, ◌==◌, Option, None, Some, if◌then◌else◌, codes, drop, flat_map, length, nat_lt, take}
 use Rattle.hwdb_spec.specs.Forms.{expected, judged}
 use Rattle.hwdb_spec_commands.specs.FormTable.{asked, likely_prefix}
 use Rattle.hwdb_spec_commands.specs.LikelyForms.{likely}
 use Rattle.hwdb_spec.specs.Lines.{begins_with, byte, is_none, max_pattern}
+use Rattle.hwdb_spec_commands.specs.Fields.{meant_field, with_fields}
 use Rattle.hwdb_spec_commands.specs.Mends.{likely_after, mend_hint, mended}
 use Rattle.hwdb_spec_commands.specs.Reports.{shown_byte}
 use Rattle.hwdb_spec.specs.declared.Judgement.{Judgement}
@@ -25,15 +26,15 @@ is_unmatched Fine = false
 is_unmatched UnknownPrefix = true
 is_unmatched (Dead place) = true
 
--- What is said of a pattern that matches a text that udev asks: it is fine if it matches one that udev likely asks. Nothing is said of
--- any other text.
+-- What is said of a pattern that matches a text that udev asks: it is fine if it matches one that udev likely asks, and has nothing that
+-- is nearly the name of a field. Nothing is said of any other text.
 unfoldable pub likelihood_of : List ℕ → Judgement
 likelihood_of text =
     if is_none text then Fine else
     (if begins_with (byte " ") text then Fine else
     (if begins_with (byte "\t") text then Fine else
     (if nat_lt max_pattern (length text) then Fine else
-    (if is_unmatched (judged asked text) then Fine else judged likely text))))
+    (if is_unmatched (judged asked text) then Fine else with_fields (judged likely text) text))))
 
 -- what is printed of it
 abbrev pub judgement_text : Judgement → List ℕ
@@ -104,8 +105,14 @@ judgement_hint (Dead place) pattern = mend_hint pattern place (place_hint (take 
 abbrev pub likely_place_hint : List ℕ → List ℕ
 likely_place_hint front = if nat_lt 256 (length front) then compare_hint else runs_hint (runs (likely_after front))
 
+-- what to do about a pattern that likely goes wrong at a place, if this field was likely meant there, or none
+abbrev pub unlikely_hint : (field pattern : List ℕ) (place : ℕ) → List ℕ
+unlikely_hint field pattern place =
+    if is_none field then mend_hint pattern place (likely_place_hint (take place pattern)) (mended pattern place)
+    else prefix_hint (Some field)
+
 -- what to do about a pattern of which this is said
 abbrev pub likelihood_hint : Judgement → List ℕ → List ℕ
 likelihood_hint Fine pattern = []
 likelihood_hint UnknownPrefix pattern = compare_hint
-likelihood_hint (Dead place) pattern = mend_hint pattern place (likely_place_hint (take place pattern)) (mended pattern place)
+likelihood_hint (Dead place) pattern = unlikely_hint (meant_field (drop place pattern)) pattern place

@@ -15,6 +15,7 @@
 //! | `Reports` | the reports of a file's faults |
 //! | `Properties` | which properties are known, which values they take, and what is said of others |
 //! | `Mends` | what a pattern was likely meant to be that no string of udev matches |
+//! | `Fields` | where a pattern has what is nearly the name of a field of the machine |
 //! | `Unmatched` | what is said of a pattern that matches no text that udev asks, or none that it likely asks |
 //! | `Surroundings` | what is said of a property because of the patterns and properties around it |
 //! | `Kinds` | the names of faults and warnings, and which warnings are told |
@@ -107,8 +108,8 @@ pub use kinds::KINDS;
 pub use refusals::Refusal;
 pub use unread::Unread;
 pub use vocabulary::{
-    COMPANIONS, KEY_HINT, KEY_NAMES, KEY_WORDS, KNOWN_BELOW, Misuse, OLD_PROPERTIES, PROPERTIES,
-    Sign, SignRow, ValueForm,
+    AXIS_CODES, COMPANIONS, KEY_HINT, KEY_NAMES, KEY_WORDS, KNOWN_BELOW, MACHINE_FIELDS, Misuse,
+    OLD_PROPERTIES, PROPERTIES, Sign, SignRow, VALUE_WORDS, ValueForm,
 };
 
 /// What is unusual in a line that is read.

@@ -122,6 +122,18 @@ pub const KEY_WORDS: &str = "\
     super leftmeta or rightmeta\nsuper_l leftmeta\nsuper_r rightmeta\ntilde grave\nvoldown volumedown\n\
     volup volumeup\nwifi wlan\nwin leftmeta or rightmeta\nwindows leftmeta or rightmeta\n";
 
+/// The codes of axes that are no code of one if they are read as hexadecimal: evtest shows them in decimal. A line each: that, and after
+/// a space the code.
+pub const AXIS_CODES: &str = "\
+    40 28\n41 29\n42 2a\n43 2b\n44 2c\n45 2d\n46 2e\n47 2f\n48 30\n49 31\n50 32\n51 33\n\
+    52 34\n53 35\n54 36\n55 37\n56 38\n57 39\n58 3a\n59 3b\n60 3c\n61 3d\n62 3e\n63 3f\n";
+
+/// What people write for values. A line each: what they write, and after a space the value. It counts where the property takes that.
+pub const VALUE_WORDS: &str = "\
+    back rear\nbuiltin internal\nbuilt-in internal\ndisable 0\ndisabled 0\nenable 1\nenabled 1\nextern external\nf 0\n\
+    false 0\nheadphones headphone\nintern internal\nkeyboard base\nlid display\nmic microphone\nn 0\nno 0\n\
+    notebook laptop\noff 0\non 1\nportable laptop\nscreen display\nspeakers speaker\nt 1\ntrue 1\ny 1\nyes 1\n";
+
 /// The properties that udev's rules, systemd and libinput read, a line each. It has a name, the form of the value, the
 /// prefixes of the patterns below which it is read, and where this is said. A space is between them. A name that ends
 /// with `_` is for all that begin with it. `*` is for any prefix. A form is one of those of `ValueForm`, in lower case, or
@@ -168,9 +180,9 @@ pub const PROPERTIES: &str = "\
     ID_INPUT_3D_MOUSE 0|1 id-input|evdev|mouse|touchpad|libwacom|usb|input|joystick 70-mouse.hwdb\n\
     ID_INPUT_TOUCHPAD_INTEGRATION internal|external touchpad|evdev|id-input 70-touchpad.hwdb\n\
     ID_INTEGRATION internal|external * 60-keyboard.hwdb\n\
-    ID_AUTOSUSPEND 0|1 * 60-autosuspend-fingerprint-reader.hwdb\n\
-    ID_PERSIST 0|1 * 60-autosuspend-fingerprint-reader.hwdb\n\
-    ID_AUTOSUSPEND_DELAY_MS integer * 60-autosuspend.hwdb\n\
+    ID_AUTOSUSPEND 0|1 usb|pci|i2c|hid|acpi|platform|of|spi|sdio|mmc|scsi|virtio|serio|pnp|input|typec|hdaudio|vmbus 60-autosuspend.rules\n\
+    ID_PERSIST 0|1 usb 60-autosuspend.rules\n\
+    ID_AUTOSUSPEND_DELAY_MS integer usb|pci|i2c|hid|acpi|platform|of|spi|sdio|mmc|scsi|virtio|serio|pnp|input|typec|hdaudio|vmbus 60-autosuspend.rules\n\
     ID_AV_PRODUCTION_CONTROLLER 0|1 * 70-av-production.hwdb\n\
     ID_AV_LIGHTS 0|1 * 70-av-production.hwdb\n\
     ID_PDA 0|1 * 70-pda.hwdb\n\
@@ -192,9 +204,9 @@ pub const PROPERTIES: &str = "\
     ID_CHASSIS desktop|laptop|convertible|server|tablet|handset|watch|embedded|vm|container * 20-dmi-id.hwdb\n\
     ID_SYSFS_ATTRIBUTE_MODEL product_name|product_version * 20-dmi-id.hwdb\n\
     POINTINGSTICK_SENSITIVITY byte evdev 70-pointingstick.hwdb\n\
-    XKB_FIXED_LAYOUT any evdev|id-input 60-keyboard.hwdb\n\
-    XKB_FIXED_VARIANT any evdev|id-input 60-keyboard.hwdb\n\
-    XKB_FIXED_MODEL any evdev|id-input 60-keyboard.hwdb\n\
+    XKB_FIXED_LAYOUT setting evdev|id-input 60-keyboard.hwdb\n\
+    XKB_FIXED_VARIANT setting evdev|id-input 60-keyboard.hwdb\n\
+    XKB_FIXED_MODEL setting evdev|id-input 60-keyboard.hwdb\n\
     KEYBOARD_LED_NUMLOCK 0|1 evdev 60-keyboard.hwdb\n\
     KEYBOARD_LED_CAPSLOCK 0|1 evdev 60-keyboard.hwdb\n\
     ACCEL_LOCATION display|base sensor 60-sensor.hwdb\n\
@@ -257,6 +269,10 @@ pub const COMPANIONS: &str = "\
     MOUSE_WHEEL_CLICK_ANGLE_HORIZONTAL MOUSE_WHEEL_CLICK_ANGLE 70-mouse.hwdb\n\
     MOUSE_WHEEL_CLICK_COUNT_HORIZONTAL MOUSE_WHEEL_CLICK_COUNT,MOUSE_WHEEL_CLICK_ANGLE_HORIZONTAL 70-mouse.hwdb\n";
 
+/// The fields of the machine's MODALIAS (drivers/firmware/dmi-id.c of Linux). A name a line.
+pub const MACHINE_FIELDS: &str =
+    "svn\nsku\npvr\nbvn\nbvr\nrvn\nrvr\ncvn\ncvr\nefr\ncat\npn\nrn\nbd\nbr\nct\n";
+
 /// Which texts are values of a property.
 #[derive(Clone, Copy, Debug, PartialEq, Eq)]
 pub enum ValueForm {
@@ -280,6 +296,8 @@ pub enum ValueForm {
     Limits,
     /// A key.
     Key,
+    /// Letters, digits and a few signs, as X has them in the names of layouts.
+    Setting,
     /// One of some words.
     Choice,
 }
@@ -315,7 +333,7 @@ pub enum Misuse {
     NearName,
     /// It is no longer read.
     OldName,
-    /// The code in its name isn't lower-case hexadecimal.
+    /// The code in its name isn't lower-case hexadecimal, or none of an axis.
     ScanCode,
     /// Its value isn't a key.
     UnknownKey,

@@ -3,7 +3,7 @@ use Rattle.std.proofs.lemmas.Result.{on_ok_weaker}
 use Rattle.hwdb_spec_commands.specs.Mends.{mend_hint}
 use Rattle.hwdb_spec_commands.specs.Unmatched.{likely_place_hint}
 use Rattle.hwdb_check.proofs.MendLemmas.{items_of}
-use Rattle.hwdb_check.proofs.judgements.push_unlikely_hint.Goals as goal
+use Rattle.hwdb_check.proofs.judgements.push_likely_hint.Goals as goal
 
 pub returns-in-Some : goal.returns-in-Some
 returns-in-Some c =
