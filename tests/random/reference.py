@@ -81,6 +81,8 @@ FAULT_TEXTS = {
     7: b"match line longer than 4096 bytes, ignored",
 }
 
+FAULT_NAMES = {1: b"stray-property", 2: b"no-property", 3: b"stray-match", 4: b"no-equals", 5: b"empty-key", 6: b"zero-byte", 7: b"long-match"}
+
 LONGEST_PATTERN = 4096
 
 
@@ -586,6 +588,19 @@ WARNINGS = {
     "deep": (b"with other lines, more than 2047 bytes may be too deep for udev", b"shorten it: systemd 262 refuses a depth of more than 2048, which hwdb verify tells"),
     "long": (b"udev takes at most 2046 bytes from the first *, ? or [ on", b"shorten it: systemd 252 and 257 crash at it, and 262 finds nothing"),
 }
+WARNING_NAMES = {
+    "mark": b"byte-order-mark",
+    "tab": b"leading-tab",
+    "return": b"carriage-return",
+    "open": b"open-bracket",
+    "empty": b"empty-range",
+    "blank": b"spaced-equals",
+    "cut": b"cut-value",
+    "repeated": b"repeated-match",
+    "replaced": b"replaced",
+    "deep": b"too-long-for-udev",
+    "long": b"too-long-for-udev",
+}
 MOST_SHOWN = 160
 # How many bytes before a place are shown, if the line's front isn't.
 BEFORE_PLACE = 80
@@ -596,15 +611,15 @@ def shown(text):
     return b"".join(b"%c" % byte if 32 <= byte <= 126 else b"\\x%02x" % byte for byte in text)
 
 
-def report(path, number, what, text, place, hint):
-    """A line and the place in it, counted in bytes from 0, between what is said of it and what to do."""
+def report(path, number, what, kind, text, place, hint):
+    """A line and the place in it, counted in bytes from 0, between what is said of it, with its kind, and what to do."""
     # A long line is shown around its place, if that isn't among the bytes at its front (hwdb(8)).
     start = place - BEFORE_PLACE if len(text) > MOST_SHOWN and place >= MOST_SHOWN else 0
     end = start + MOST_SHOWN
     front, back = b"..." if start > 0 else b"", b"..." if len(text) > end else b""
     mark = b"    " + b" " * len(front + shown(text[start:place])) + b"^\n"
     line = b"    " + front + shown(text[start:end]) + back + b"\n"
-    return b"%s:%d: %s\n" % (path, number, what) + line + mark + b"    hint: " + hint + b"\n"
+    return b"%s:%d:%d: %s [%s]\n" % (path, number, place + 1, what, kind) + line + mark + b"    hint: " + hint + b"\n"
 
 
 def indent_of(text):
@@ -688,7 +703,7 @@ def replaced_lines(text):
 
 
 def warnings_of(text):
-    """The warnings of a file as (line, text of the line, what is said, place, hint), by line."""
+    """The warnings of a file as (line, text of the line, what is said, kind, place, hint), by line."""
     found, repeated, replaced = [], set(repeated_lines(text)), replaced_lines(text)
     for number, line in lines_of(text):
         cleaned = clean(line)
@@ -721,7 +736,7 @@ def warnings_of(text):
                 what, hint = WARNINGS[kind]
                 if kind == "blank":
                     hint %= shown(key.rstrip(BLANKS)) + b"=" + shown(value.lstrip(b" \t"))
-                found.append((number, line, what % replaced[number] if kind == "replaced" else what, place, hint))
+                found.append((number, line, what % replaced[number] if kind == "replaced" else what, kind, place, hint))
     return found
 
 
@@ -738,9 +753,9 @@ def checked(files, strict):
         warnings = warnings_of(text)
         for number, kind in faults:
             line = texts[number]
-            printed += report(path, number, FAULT_TEXTS[kind], line, fault_place(kind, line), FAULT_HINTS[kind])
-        for number, line, what, place, hint in warnings:
-            printed += report(path, number, b"warning: " + what, line, place, hint)
+            printed += report(path, number, b"error: " + FAULT_TEXTS[kind], FAULT_NAMES[kind], line, fault_place(kind, line), FAULT_HINTS[kind])
+        for number, line, what, kind, place, hint in warnings:
+            printed += report(path, number, b"warning: " + what, WARNING_NAMES[kind], line, place, hint)
         counts[1] += len(assignments)
         counts[2] += len(faults)
         counts[3] += len(warnings)
@@ -772,7 +787,7 @@ def known_of(out, status, strict):
     *lines, last = out.split(b"\n")[:-1] or [b""]
     for line in lines:
         if not line.startswith(b"    "):
-            is_left_out = line.endswith(tuple(b": warning: " + text for text in UNKNOWN))
+            is_left_out = line.rpartition(b" [")[0].endswith(tuple(b": warning: " + text for text in UNKNOWN))
             left_out += is_left_out
         if not is_left_out:
             kept.append(line)

@@ -1,9 +1,8 @@
 -- Which lines a comment lets kinds pass in, and how findings are shown beside lines.
 use Rattle.std.proofs.Common.{◌≡◌, ℕ, suc, ◌+◌, List, [], ◌∷◌, ◌++◌, map, take, drop, length, refl, ap, ◌∙◌, sym, arith, Bool, true, false, cond}
 use Rattle.hwdb_spec.specs.Lines.{Line, byte, is, numbered, pieces, trimmed}
-use Rattle.hwdb_spec_commands.specs.AllowedKinds.{Marked, allowed_text, ends_record, marked_from, names_at, names_in, names_to_end}
+use Rattle.hwdb_spec_commands.specs.AllowedKinds.{Marked, allowed_text, ends_record, marked_from, names_at, names_in, names_to_end, told_unknown}
 use Rattle.hwdb_check.proofs.AllowedLemmas.{bare_text}
-use Rattle.hwdb_check.specs.Annotations.{AnnotationRows}
 use Rattle.hwdb_check.specs.Comments.{BareAreTold, CommentRows, FaultsStay, LeftAreTold, LinesAreMarked, RecordsAreApart}
 use Rattle.std.specs.Prelude.{filter}
 use Rattle.hwdb_spec_commands.specs.Kinds.{is_told}
@@ -101,7 +100,7 @@ faults_stay = record {
 }
 
 pub comment_rows : CommentRows
-unfolding pieces numbered trimmed names_to_end marked_from digits encode_with visible_after is_utf8 chars encode_utf8
+unfolding pieces numbered trimmed names_to_end marked_from digits encode_with visible_after is_utf8 chars encode_utf8 told_unknown
 comment_rows = record {
   names = refl;
   ends = refl;
@@ -116,7 +115,3 @@ comment_rows = record {
   place = refl;
   report = refl;
 }
-
-pub annotation_rows : AnnotationRows
-unfolding digits
-annotation_rows = record { escapes = refl; warning = refl }

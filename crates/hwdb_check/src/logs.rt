@@ -127,17 +127,34 @@ fn push_message(alloc: Global, text: &mut Vec<u8>, found: &[u8]) -> Result<(), A
     Ok(())
 }
 
-/// Adds the kind of a finding and its severity.
-fn push_rule(text: &mut Vec<u8>, found: &Annotation<'_>) -> Result<(), AllocError>
-    ensures { OnOk result (text.new.items
-        ≡ text.old.items ++ Logs.rule_part found.now.kind.now found.now.severity.now) }
+/// Adds the kind of a finding.
+fn push_kind(text: &mut Vec<u8>, kind: &str) -> Result<(), AllocError>
+    ensures { OnOk result (text.new.items ≡ text.old.items ++ Logs.kind_part kind.now) }
 {
     text.extend_from_slice(",{\"ruleId\":\"".as_bytes())?;
-    text.extend_from_slice(found.kind.as_bytes())?;
+    text.extend_from_slice(kind.as_bytes())?;
+    Ok(())
+}
+
+/// Adds its severity.
+fn push_severity(text: &mut Vec<u8>, severity: &str) -> Result<(), AllocError>
+    ensures { OnOk result (text.new.items ≡ text.old.items ++ Logs.severity_part severity.now) }
+{
     text.extend_from_slice("\",\"level\":\"".as_bytes())?;
-    text.extend_from_slice(found.severity.as_bytes())?;
+    text.extend_from_slice(severity.as_bytes())?;
     text.extend_from_slice("\",".as_bytes())?;
     Ok(())
+}
+
+/// Adds its kind, its severity and what is found.
+fn push_what(alloc: Global, text: &mut Vec<u8>, found: &Annotation<'_>) -> Result<(), AllocError>
+    ensures { OnOk result (text.new.items ≡ text.old.items ++ (Logs.kind_part found.now.kind.now
+        ++ (Logs.severity_part found.now.severity.now
+        ++ Logs.message_member found.now.text.now))) }
+{
+    push_kind(text, found.kind)?;
+    push_severity(text, found.severity)?;
+    push_message(alloc, text, found.text)
 }
 
 /// Adds the result of a finding, after a comma, on a line of its own.
@@ -150,8 +167,7 @@ pub fn push_result(
         found.now.severity.now found.now.path.now found.now.line found.now.column
         found.now.kind.now found.now.text.now) }
 {
-    push_rule(text, found)?;
-    push_message(alloc, text, found.text)?;
+    push_what(alloc, text, found)?;
     text.push(b',')?;
     push_place(text, found)?;
     text.extend_from_slice(b"}\n")?;

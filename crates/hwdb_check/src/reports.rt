@@ -30,6 +30,7 @@ fn hint_of(kind: FaultKind) -> &'static str
 }
 
 /// Adds what is printed of a fault of a line with this text. The only error is `AllocError`.
+#[tactic(auto, unfolding(hwdb_spec_commands::specs::Findings::told_fault))]
 pub fn push_fault<'a>(
     alloc: Global,
     format: Format,

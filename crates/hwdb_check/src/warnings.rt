@@ -2,12 +2,10 @@
 ghost use Rattle.std.specs.Prelude.{◌≡◌, ◌++◌, ◌∷◌, [], codes, filter, flat_map, map, take, IfOk, OnOk};
 ghost use Rattle.hwdb_spec.specs.Lines.{Line, clean_line};
 ghost use Rattle.hwdb_spec.specs.Records;
-ghost use Rattle.hwdb_spec_commands.specs.Findings;
 ghost use Rattle.hwdb_spec_commands.specs.Findings.{line_text, told_warning, warnings_text};
 ghost use Rattle.hwdb_spec_commands.specs.Kinds.{warning_name};
 ghost use Rattle.hwdb_spec_commands.specs.Warnings.{all_warnings, gets, line_kinds, line_warnings, warnings, warning_text, warning_place, warning_hint, warning_line};
 ghost use Rattle.hwdb_text.specs.Views.{given_in};
-ghost use Rattle.hwdb_check.specs.Found.{finding_of};
 ghost use Rattle.hwdb_check.specs.Internal.{IsKnown, IsPlain, IsRead, clean_of, line_of, number_text, own, read_line, texts};
 ghost use Rattle.hwdb_check.specs.Leaving.{names_of};
 ghost use Rattle.hwdb_spec_commands.specs.AllowedKinds.{names_in};
@@ -188,30 +186,6 @@ fn words_of(alloc: Global, kind: WarningKind) -> Result<Vec<u8>, AllocError>
     Ok(words)
 }
 
-/// A warning of a line, with what is found and what to do.
-fn finding_of<'a>(
-    path: &'a [u8],
-    line: &Read<'a>,
-    kind: WarningKind,
-    words: &'a [u8],
-    hint: &'a [u8],
-) -> Finding<'a>
-    ensures { finding_of result ≡ Findings.warning_of path.now line.now.number
-        (warning_place kind line.now.text.now line.now.clean.now) kind
-        words.now hint.now line.now.text.now }
-{
-    Finding {
-        path,
-        line: line.number,
-        place: warning_place(kind, line.text, line.clean),
-        fault: false,
-        kind: warning_name(kind),
-        text: words,
-        hint,
-        source: line.text,
-    }
-}
-
 /// Adds what is printed of a warning.
 fn push_told<'a>(
     alloc: Global,
@@ -228,7 +202,16 @@ fn push_told<'a>(
     let words = words_of(alloc, kind)?;
     let mut hint = Vec::new(alloc);
     push_hint(alloc, &mut hint, kind, line.clean)?;
-    let found = finding_of(path, line, kind, &words, &hint);
+    let found = Finding {
+        path,
+        line: line.number,
+        place: warning_place(kind, line.text, line.clean),
+        fault: false,
+        kind: warning_name(kind),
+        text: &words,
+        hint: &hint,
+        source: line.text,
+    };
     push_finding(alloc, format, text, &found)
 }
 

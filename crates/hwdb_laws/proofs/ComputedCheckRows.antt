@@ -9,6 +9,7 @@ use Rattle.hwdb_spec.specs.Records.{behind, first_section, sections_from}
 use Rattle.hwdb_spec.specs.Tree.{closed_from}
 use Rattle.hwdb_spec.specs.Visible.{visible_after}
 use Rattle.hwdb_spec_commands.specs.Warnings.{repeated_from}
+use Rattle.hwdb_spec_commands.specs.Findings.{told_fault, told_warning}
 use Rattle.json.specs.Print.{escape_byte, print_from}
 use Rattle.std.proofs.Common.{refl}
 use Rattle.std.specs.Char.{encode_utf8}
@@ -16,61 +17,61 @@ use Rattle.std.specs.Fmt.{digits}
 use Rattle.std.specs.Str.{chars, is_utf8}
 
 pub told_rows : ToldRows
-unfolding pieces numbered trimmed first_section sections_from behind tokens_from token_at item_at items_from bracket_at classes repeated_from closed_from reversed_from range_from known free_prefixes visible_after is_utf8 chars encode_utf8 digits encode_with items_of members_of escaped_after escape_byte print_from
+unfolding pieces numbered trimmed first_section sections_from behind tokens_from token_at item_at items_from bracket_at classes repeated_from closed_from reversed_from range_from known free_prefixes visible_after is_utf8 chars encode_utf8 digits encode_with items_of members_of escaped_after escape_byte print_from told_fault told_warning
 told_rows = refl
 
 pub elsewhere_rows : ElsewhereRows
-unfolding pieces numbered trimmed first_section sections_from behind tokens_from token_at item_at items_from bracket_at classes repeated_from closed_from reversed_from range_from known free_prefixes visible_after is_utf8 chars encode_utf8 digits encode_with items_of members_of escaped_after escape_byte print_from
+unfolding pieces numbered trimmed first_section sections_from behind tokens_from token_at item_at items_from bracket_at classes repeated_from closed_from reversed_from range_from known free_prefixes visible_after is_utf8 chars encode_utf8 digits encode_with items_of members_of escaped_after escape_byte print_from told_fault told_warning
 elsewhere_rows = refl
 
 pub unread_rows : UnreadRows
-unfolding pieces numbered trimmed first_section sections_from behind tokens_from token_at item_at items_from bracket_at classes repeated_from closed_from reversed_from range_from known free_prefixes visible_after is_utf8 chars encode_utf8 digits encode_with items_of members_of escaped_after escape_byte print_from
+unfolding pieces numbered trimmed first_section sections_from behind tokens_from token_at item_at items_from bracket_at classes repeated_from closed_from reversed_from range_from known free_prefixes visible_after is_utf8 chars encode_utf8 digits encode_with items_of members_of escaped_after escape_byte print_from told_fault told_warning
 unread_rows = refl
 
 pub unpaired_rows : UnpairedRows
-unfolding pieces numbered trimmed first_section sections_from behind tokens_from token_at item_at items_from bracket_at classes repeated_from closed_from reversed_from range_from known free_prefixes visible_after is_utf8 chars encode_utf8 digits encode_with items_of members_of escaped_after escape_byte print_from
+unfolding pieces numbered trimmed first_section sections_from behind tokens_from token_at item_at items_from bracket_at classes repeated_from closed_from reversed_from range_from known free_prefixes visible_after is_utf8 chars encode_utf8 digits encode_with items_of members_of escaped_after escape_byte print_from told_fault told_warning
 unpaired_rows = refl
 
 pub hint_rows : HintRows
-unfolding pieces numbered trimmed first_section sections_from behind tokens_from token_at item_at items_from bracket_at classes repeated_from closed_from reversed_from range_from known free_prefixes visible_after is_utf8 chars encode_utf8 digits encode_with items_of members_of escaped_after escape_byte print_from
+unfolding pieces numbered trimmed first_section sections_from behind tokens_from token_at item_at items_from bracket_at classes repeated_from closed_from reversed_from range_from known free_prefixes visible_after is_utf8 chars encode_utf8 digits encode_with items_of members_of escaped_after escape_byte print_from told_fault told_warning
 hint_rows = (refl, refl, refl, refl)
 
 pub repeated_rows : RepeatedRows
-unfolding pieces numbered trimmed first_section sections_from behind tokens_from token_at item_at items_from bracket_at classes repeated_from closed_from reversed_from range_from known free_prefixes visible_after is_utf8 chars encode_utf8 digits encode_with items_of members_of escaped_after escape_byte print_from
+unfolding pieces numbered trimmed first_section sections_from behind tokens_from token_at item_at items_from bracket_at classes repeated_from closed_from reversed_from range_from known free_prefixes visible_after is_utf8 chars encode_utf8 digits encode_with items_of members_of escaped_after escape_byte print_from told_fault told_warning
 repeated_rows = refl
 
 pub replaced_rows : ReplacedRows
-unfolding pieces numbered trimmed first_section sections_from behind tokens_from token_at item_at items_from bracket_at classes repeated_from closed_from reversed_from range_from known free_prefixes visible_after is_utf8 chars encode_utf8 digits encode_with items_of members_of escaped_after escape_byte print_from
+unfolding pieces numbered trimmed first_section sections_from behind tokens_from token_at item_at items_from bracket_at classes repeated_from closed_from reversed_from range_from known free_prefixes visible_after is_utf8 chars encode_utf8 digits encode_with items_of members_of escaped_after escape_byte print_from told_fault told_warning
 replaced_rows = refl
 
 pub warned_rows : WarnedRows
-unfolding pieces numbered trimmed first_section sections_from behind tokens_from token_at item_at items_from bracket_at classes repeated_from closed_from reversed_from range_from known free_prefixes visible_after is_utf8 chars encode_utf8 digits encode_with items_of members_of escaped_after escape_byte print_from
+unfolding pieces numbered trimmed first_section sections_from behind tokens_from token_at item_at items_from bracket_at classes repeated_from closed_from reversed_from range_from known free_prefixes visible_after is_utf8 chars encode_utf8 digits encode_with items_of members_of escaped_after escape_byte print_from told_fault told_warning
 warned_rows = (refl, refl, refl, refl, refl, refl)
 
 pub report_rows : ReportRows
-unfolding pieces numbered trimmed first_section sections_from behind tokens_from token_at item_at items_from bracket_at classes repeated_from closed_from reversed_from range_from known free_prefixes visible_after is_utf8 chars encode_utf8 digits encode_with items_of members_of escaped_after escape_byte print_from
+unfolding pieces numbered trimmed first_section sections_from behind tokens_from token_at item_at items_from bracket_at classes repeated_from closed_from reversed_from range_from known free_prefixes visible_after is_utf8 chars encode_utf8 digits encode_with items_of members_of escaped_after escape_byte print_from told_fault told_warning
 report_rows = refl
 
 pub json_rows : JsonRows
-unfolding pieces numbered trimmed first_section sections_from behind tokens_from token_at item_at items_from bracket_at classes repeated_from closed_from reversed_from range_from known free_prefixes visible_after is_utf8 chars encode_utf8 digits encode_with items_of members_of escaped_after escape_byte print_from
+unfolding pieces numbered trimmed first_section sections_from behind tokens_from token_at item_at items_from bracket_at classes repeated_from closed_from reversed_from range_from known free_prefixes visible_after is_utf8 chars encode_utf8 digits encode_with items_of members_of escaped_after escape_byte print_from told_fault told_warning
 json_rows = refl
 
 pub fault_rows : FaultRows
-unfolding pieces numbered trimmed first_section sections_from behind tokens_from token_at item_at items_from bracket_at classes repeated_from closed_from reversed_from range_from known free_prefixes visible_after is_utf8 chars encode_utf8 digits encode_with items_of members_of escaped_after escape_byte print_from
+unfolding pieces numbered trimmed first_section sections_from behind tokens_from token_at item_at items_from bracket_at classes repeated_from closed_from reversed_from range_from known free_prefixes visible_after is_utf8 chars encode_utf8 digits encode_with items_of members_of escaped_after escape_byte print_from told_fault told_warning
 fault_rows = refl
 
 pub tally_rows : TallyRows
-unfolding pieces numbered trimmed first_section sections_from behind tokens_from token_at item_at items_from bracket_at classes repeated_from closed_from reversed_from range_from known free_prefixes visible_after is_utf8 chars encode_utf8 digits encode_with items_of members_of escaped_after escape_byte print_from
+unfolding pieces numbered trimmed first_section sections_from behind tokens_from token_at item_at items_from bracket_at classes repeated_from closed_from reversed_from range_from known free_prefixes visible_after is_utf8 chars encode_utf8 digits encode_with items_of members_of escaped_after escape_byte print_from told_fault told_warning
 tally_rows = (refl, refl, refl, refl)
 
 pub github_rows : GithubRows
-unfolding pieces numbered trimmed first_section sections_from behind tokens_from token_at item_at items_from bracket_at classes repeated_from closed_from reversed_from range_from known free_prefixes visible_after is_utf8 chars encode_utf8 digits encode_with items_of members_of escaped_after escape_byte print_from
+unfolding pieces numbered trimmed first_section sections_from behind tokens_from token_at item_at items_from bracket_at classes repeated_from closed_from reversed_from range_from known free_prefixes visible_after is_utf8 chars encode_utf8 digits encode_with items_of members_of escaped_after escape_byte print_from told_fault told_warning
 github_rows = refl
 
 pub sarif_rows : SarifRows
-unfolding pieces numbered trimmed first_section sections_from behind tokens_from token_at item_at items_from bracket_at classes repeated_from closed_from reversed_from range_from known free_prefixes visible_after is_utf8 chars encode_utf8 digits encode_with items_of members_of escaped_after escape_byte print_from
+unfolding pieces numbered trimmed first_section sections_from behind tokens_from token_at item_at items_from bracket_at classes repeated_from closed_from reversed_from range_from known free_prefixes visible_after is_utf8 chars encode_utf8 digits encode_with items_of members_of escaped_after escape_byte print_from told_fault told_warning
 sarif_rows = (refl, refl)
 
 pub format_rows : FormatRows
-unfolding pieces numbered trimmed first_section sections_from behind tokens_from token_at item_at items_from bracket_at classes repeated_from closed_from reversed_from range_from known free_prefixes visible_after is_utf8 chars encode_utf8 digits encode_with items_of members_of escaped_after escape_byte print_from
+unfolding pieces numbered trimmed first_section sections_from behind tokens_from token_at item_at items_from bracket_at classes repeated_from closed_from reversed_from range_from known free_prefixes visible_after is_utf8 chars encode_utf8 digits encode_with items_of members_of escaped_after escape_byte print_from told_fault told_warning
 format_rows = (refl, refl, refl)

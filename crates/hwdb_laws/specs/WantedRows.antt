@@ -32,4 +32,4 @@ abbrev pub TestRows : Type 0
 TestRows =
     test_text false (wanted_by (codes "a\n A=2\n") ∷ wanted_by (codes "a\n B\n") ∷ []) gives_a
     ≡ codes "t:2: wanted A=2\n    device: a\n    given: A=1 by f:2\n"
-    ++ codes "t:2: property without =, ignored\n     B\n     ^\n    hint: write it as KEY=VALUE; a match line begins without a space\n2 wanted lines, 2 failed\n"
+    ++ codes "t:2:2: error: property without =, ignored [no-equals]\n     B\n     ^\n    hint: write it as KEY=VALUE; a match line begins without a space\n2 wanted lines, 2 failed\n"

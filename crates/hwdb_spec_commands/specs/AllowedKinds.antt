@@ -104,7 +104,7 @@ unknown_found path l name = record {
 }
 
 -- what is printed of it
-abbrev pub told_unknown : Format → (path : List ℕ) → Line → (name : List ℕ) → List ℕ
+unfoldable pub told_unknown : Format → (path : List ℕ) → Line → (name : List ℕ) → List ℕ
 told_unknown format path l name = told format (unknown_found path l name)
 
 -- ---- What is left

@@ -114,11 +114,11 @@ format_if true = JsonLines
 format_if false = Reports
 
 -- what is printed of a fault
-abbrev pub told_fault : Format → (path text : List ℕ) → Fault → List ℕ
+unfoldable pub told_fault : Format → (path text : List ℕ) → Fault → List ℕ
 told_fault format path text f = told format (fault_found path text f)
 
 -- what is printed of a warning
-abbrev pub told_warning : Format → (path : List ℕ) → Line → WarningKind → List ℕ
+unfoldable pub told_warning : Format → (path : List ℕ) → Line → WarningKind → List ℕ
 told_warning format path l kind = told format (warning_found path l kind)
 
 -- what is printed of all faults of a file, by line and number

@@ -32,14 +32,18 @@ place_member path line column =
 abbrev pub message_member : (text : List ℕ) → List ℕ
 message_member text = codes "\"message\":" ++ json_text (object_of ((codes "text", text_json text) ∷ []))
 
--- the kind of a finding and its severity, which are words that need no escape
-abbrev pub rule_part : (kind severity : List ℕ) → List ℕ
-rule_part kind severity = codes ",{\"ruleId\":\"" ++ (kind ++ (codes "\",\"level\":\"" ++ (severity ++ codes "\",")))
+-- the kind of a finding, after a comma; kinds and severities are words that need no escape
+abbrev pub kind_part : (kind : List ℕ) → List ℕ
+kind_part kind = codes ",{\"ruleId\":\"" ++ kind
+
+-- its severity
+abbrev pub severity_part : (severity : List ℕ) → List ℕ
+severity_part severity = codes "\",\"level\":\"" ++ (severity ++ codes "\",")
 
 -- a result of the log, after a comma, on a line of its own
 abbrev pub result_line : (severity path : List ℕ) (line column : ℕ) (kind text : List ℕ) → List ℕ
 result_line severity path line column kind text =
-    rule_part kind severity ++ (message_member text ++ (byte "," ∷ (place_member path line column ++ codes "}\n")))
+    kind_part kind ++ (severity_part severity ++ (message_member text ++ (byte "," ∷ (place_member path line column ++ codes "}\n"))))
 
 -- what the log begins with
 abbrev pub log_head : List ℕ
