@@ -128,6 +128,7 @@ MISTAKES = [
     ("a layout in quotes", EVDEV + ' XKB_FIXED_LAYOUT="us"\n', "unfit-value"),
     ("a name as in rules", USB + " ENV{ID_PDA}=1\n", "unknown-property"),
     ("a name as in shells", USB + " export ID_PDA=1\n", "unknown-property"),
+    ("a blank beside the =, which is told once", USB + " WORKSHOP_BENCH =1\n", "spaced-equals"),
     ("a name with dashes", USB + " ID-MAKER-TOOL=1\n", "unknown-property"),
     ("autosuspend below a mouse", MOUSE + " ID_AUTOSUSPEND=1\n", "unread"),
     ("autosuspend below usb:", USB + " ID_AUTOSUSPEND=1\n", None),

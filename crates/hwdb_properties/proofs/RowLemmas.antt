@@ -1,6 +1,6 @@
 -- The rows of `Rows`, computed.
 use Rattle.std.proofs.Common.{refl}
-use Rattle.hwdb_spec.specs.Lines.{pieces}
+use Rattle.hwdb_spec.specs.Lines.{pieces, trimmed}
 use Rattle.hwdb_properties.specs.Rows.{AxisRows, CodeRows, KeyRows, MatrixRows, MeantRows, NameRows, NumberRows, OddNameRows, PairRows, ReadRows, ResolutionRows, SettingRows}
 
 pub resolutions : ResolutionRows
@@ -88,13 +88,14 @@ meant = record {
 }
 
 pub odd_names : OddNameRows
-unfolding pieces
+unfolding pieces trimmed
 odd_names = record {
   plain = refl;
   rule = refl;
   shell = refl;
   dash = refl;
   dot = refl;
+  blank = refl;
   read = refl;
   told_as_near = refl;
   hint = refl;
@@ -145,7 +146,7 @@ key_rows = record {
 }
 
 pub prefixes : ReadRows
-unfolding pieces
+unfolding pieces trimmed
 prefixes = record {
   own = refl;
   other = refl;

@@ -97,6 +97,7 @@ pub record OddNameRows : Type 0 where
   pub shell : is_odd_name (codes "export ID_PDA") ≡ true
   pub dash : is_odd_name (codes "ID-PDA") ≡ true
   pub dot : is_odd_name (codes ".ID_PDA") ≡ false
+  pub blank : is_odd_name (codes "ID_PDA \t") ≡ false
   pub read : may_be_read (codes "ENV{WORKSHOP_LIGHT}") (codes "usb") ≡ false
   pub told_as_near : may_be_read (codes "ID-PDA") (codes "usb") ≡ true
   pub hint : unknown_hint (codes "ENV{WORKSHOP_LIGHT}") ≡ codes "write the name alone, in letters, digits and _"

@@ -1,12 +1,13 @@
 //! Names that lost words, and names with odd bytes.
-ghost use Rattle.std.specs.Prelude.{◌≡◌};
+ghost use Rattle.std.specs.Prelude.{◌≡◌, not};
+ghost use Rattle.std.specs.List.{list_all};
 ghost use Rattle.hwdb_spec_commands.specs.Properties;
 ghost use Rattle.hwdb_spec_commands.specs.Surroundings;
 
 use crate::names::same_letters;
 use crate::numbers::is_lower_hex;
 use crate::rows::is_family;
-use hwdb_text::Pieces;
+use hwdb_text::{Pieces, trim};
 
 /// Whether a text is one of the words of a name.
 fn is_word_of(own: &[u8], text: &[u8]) -> bool
@@ -46,14 +47,21 @@ fn is_name_byte(byte: u8) -> bool
     matches!(byte, b'.' | b'0'..=b'9' | b'A'..=b'Z' | b'_' | b'a'..=b'z')
 }
 
-/// Whether a name has another byte.
-pub fn is_odd_name(name: &[u8]) -> bool
-    ensures { result ≡ Surroundings.is_odd_name name.now }
+/// Whether a text has another byte.
+fn has_odd_byte(text: &[u8]) -> bool
+    ensures { result ≡ not (list_all Surroundings.is_name_byte text.now) }
 {
-    for byte in name {
+    for byte in text {
         if !is_name_byte(*byte) {
             return true;
         }
     }
     false
+}
+
+/// Whether a name has another byte, but for blanks at its end.
+pub fn is_odd_name(name: &[u8]) -> bool
+    ensures { result ≡ Surroundings.is_odd_name name.now }
+{
+    has_odd_byte(trim(name))
 }

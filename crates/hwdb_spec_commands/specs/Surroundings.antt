@@ -8,7 +8,7 @@ use Rattle.hwdb_spec.specs.Assignment.{Assignment}
 use Rattle.hwdb_spec.specs.Folders.{same}
 use Rattle.hwdb_spec_commands.specs.FormTable.{prefixes}
 use Rattle.hwdb_spec.specs.Forms.{prefix_size}
-use Rattle.hwdb_spec.specs.Lines.{byte, is, is_none, pieces}
+use Rattle.hwdb_spec.specs.Lines.{byte, is, is_none, pieces, trimmed}
 use Rattle.hwdb_spec.specs.Patterns.{in_span}
 use Rattle.hwdb_spec_commands.specs.Properties.{after_word, before, did_you_mean, is_choice, is_lower_hex_digit, is_made_of, lost_row, name_misuse, property_row, row_for, row_form, word}
 use Rattle.hwdb_spec.specs.Records.{assignments}
@@ -32,9 +32,9 @@ is_read_by_row row prefix = if same (row_prefixes row) (codes "*") then true els
 abbrev pub is_name_byte : ℕ → Bool
 is_name_byte b = list_any (in_span b) ((46, 46) ∷ (48, 57) ∷ (65, 90) ∷ (95, 95) ∷ (97, 122) ∷ [])
 
--- whether a name has another byte, as `ENV{ID_PDA}` and `ID-PDA` have
+-- whether a name has another byte, as `ENV{ID_PDA}` and `ID-PDA` have; blanks at its end are told otherwise
 abbrev pub is_odd_name : List ℕ → Bool
-is_odd_name key = not (list_all is_name_byte key)
+is_odd_name key = not (list_all is_name_byte (trimmed key))
 
 -- Whether a property that is in no row may be read below this prefix. Below some prefixes all names are known, so that no other one is
 -- read there. A name with other bytes is read nowhere. One of which `misuse` says something isn't told once more.
