@@ -34,7 +34,7 @@ unpaired_rows = refl
 
 pub hint_rows : HintRows
 unfolding pieces numbered trimmed first_section sections_from behind tokens_from token_at item_at items_from bracket_at classes repeated_from closed_from reversed_from range_from known free_prefixes visible_after is_utf8 chars encode_utf8 digits encode_with items_of members_of escaped_after escape_byte print_from told_fault told_warning
-hint_rows = (refl, refl, refl, refl)
+hint_rows = (refl, refl, refl, refl, refl)
 
 pub repeated_rows : RepeatedRows
 unfolding pieces numbered trimmed first_section sections_from behind tokens_from token_at item_at items_from bracket_at classes repeated_from closed_from reversed_from range_from known free_prefixes visible_after is_utf8 chars encode_utf8 digits encode_with items_of members_of escaped_after escape_byte print_from told_fault told_warning
