@@ -127,34 +127,38 @@ fn push_message(alloc: Global, text: &mut Vec<u8>, found: &[u8]) -> Result<(), A
     Ok(())
 }
 
+/// Adds a text.
+fn push_text(text: &mut Vec<u8>, more: &str) -> Result<(), AllocError>
+    ensures { OnOk result (text.new.items ≡ text.old.items ++ more.now) }
+{
+    text.extend_from_slice(more.as_bytes())
+}
+
 /// Adds the kind of a finding.
 fn push_kind(text: &mut Vec<u8>, kind: &str) -> Result<(), AllocError>
     ensures { OnOk result (text.new.items ≡ text.old.items ++ Logs.kind_part kind.now) }
 {
-    text.extend_from_slice(",{\"ruleId\":\"".as_bytes())?;
-    text.extend_from_slice(kind.as_bytes())?;
-    Ok(())
+    push_text(text, ",{\"ruleId\":\"")?;
+    push_text(text, kind)
 }
 
 /// Adds its severity.
 fn push_severity(text: &mut Vec<u8>, severity: &str) -> Result<(), AllocError>
     ensures { OnOk result (text.new.items ≡ text.old.items ++ Logs.severity_part severity.now) }
 {
-    text.extend_from_slice("\",\"level\":\"".as_bytes())?;
-    text.extend_from_slice(severity.as_bytes())?;
-    text.extend_from_slice("\",".as_bytes())?;
-    Ok(())
+    push_text(text, "\",\"level\":\"")?;
+    push_text(text, severity)?;
+    push_text(text, "\",")
 }
 
-/// Adds its kind, its severity and what is found.
-fn push_what(alloc: Global, text: &mut Vec<u8>, found: &Annotation<'_>) -> Result<(), AllocError>
-    ensures { OnOk result (text.new.items ≡ text.old.items ++ (Logs.kind_part found.now.kind.now
-        ++ (Logs.severity_part found.now.severity.now
-        ++ Logs.message_member found.now.text.now))) }
+/// Adds where it is, and the end of its line.
+fn push_rest(text: &mut Vec<u8>, found: &Annotation<'_>) -> Result<(), AllocError>
+    ensures { OnOk result (text.new.items ≡ text.old.items ++ (byte "," ∷ (Logs.place_member
+        found.now.path.now found.now.line found.now.column ++ codes "}\n"))) }
 {
-    push_kind(text, found.kind)?;
-    push_severity(text, found.severity)?;
-    push_message(alloc, text, found.text)
+    text.push(b',')?;
+    push_place(text, found)?;
+    push_text(text, "}\n")
 }
 
 /// Adds the result of a finding, after a comma, on a line of its own.
@@ -167,11 +171,10 @@ pub fn push_result(
         found.now.severity.now found.now.path.now found.now.line found.now.column
         found.now.kind.now found.now.text.now) }
 {
-    push_what(alloc, text, found)?;
-    text.push(b',')?;
-    push_place(text, found)?;
-    text.extend_from_slice(b"}\n")?;
-    Ok(())
+    push_kind(text, found.kind)?;
+    push_severity(text, found.severity)?;
+    push_message(alloc, text, found.text)?;
+    push_rest(text, found)
 }
 
 /// The bytes after the first one.
