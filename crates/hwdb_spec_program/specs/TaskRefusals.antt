@@ -42,7 +42,7 @@ use Rattle.hwdb_spec_program.specs.HidingTold.{IsTellingUpdateRefused}
 -- why a task that prints a text can't make it, before it writes anything
 abbrev pub Refuses : Task → (root : List ℕ) (input : Option (List ℕ)) → Contents → Refusal → Type 0
 Refuses (Ask file device) root input files refusal = IsAskRefused (string_bytes file) input files refusal
-Refuses (Check paths allowed json) root input files refusal =
+Refuses (Check paths allowed json format) root input files refusal =
     IsCheckRefused (AreUncheckable (map string_bytes paths.items) root files) (AreCheckedFiles (map string_bytes paths.items) root input files) refusal
 Refuses (Near paths device limit json) root input files refusal = IsNearRefused (map string_bytes paths.items) root files refusal
 Refuses (Test paths database json) root input files refusal = IsTestRefused (map string_bytes paths.items) (option_map string_bytes database) root input files refusal

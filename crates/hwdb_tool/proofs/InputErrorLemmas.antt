@@ -413,7 +413,7 @@ module _ (fails fails_now : List ℕ → Type 0) (left left_now : Outcomes) wher
   pub input_is_read : InputIsRead fails fails_now left left_now
   input_is_read (Ask file device) root usr strict r before now dash over not =
       inl (file_failed fails before.files before.input.bytes before.input.failures now.input.failures (is_dash (string_bytes file)) r dash over not.1)
-  input_is_read (Check paths allowed json) root usr strict r before now dash over not =
+  input_is_read (Check paths allowed json format) root usr strict r before now dash over not =
       checked_read fails before.files before.input.bytes before.input.failures now.input.failures paths.items _ refl dash r over not.1
   input_is_read (Near paths device limit json) root usr strict r before now dash over not =
       files_read fails before.files before.input.bytes before.input.failures now.input.failures paths.items dash _ refl r over not.1
@@ -434,7 +434,7 @@ module _ (fails fails_now : List ℕ → Type 0) (left left_now : Outcomes) wher
   pub input_is_long : InputIsLong fails fails_now left left_now
   input_is_long (Ask file device) root usr strict r before now kind dash over not =
       inl (file_long fails before.files before.input.bytes before.input.failures now.input.failures (is_dash (string_bytes file)) r dash over not.1)
-  input_is_long (Check paths allowed json) root usr strict r before now kind dash over not =
+  input_is_long (Check paths allowed json format) root usr strict r before now kind dash over not =
       checked_long fails before.files before.input.bytes before.input.failures now.input.failures paths.items _ refl dash r over not.1
   input_is_long (Near paths device limit json) root usr strict r before now kind dash over not =
       files_long fails before.files before.input.bytes before.input.failures now.input.failures paths.items dash _ refl r over not.1

@@ -54,7 +54,7 @@ module _ (name : Text) (inner : List Row) where
   same_kind (Update v1 k1) (Status json2 true) t u kind = both_words u.1 t.1
   same_kind (Update v1 k1) (Update v2 k2) t u kind = u.3 ∙ sym t.3 ∙ kind
   same_kind (Ask file1 device1) (Ask file2 device2) t u kind = tt
-  same_kind (Check files1 allowed1 json1) (Check files2 allowed2 json2) t u kind = tt
+  same_kind (Check files1 allowed1 json1 format1) (Check files2 allowed2 json2 format2) t u kind = tt
   same_kind (Near files1 device1 limit1 json1) (Near files2 device2 limit2 json2) t u kind = tt
   same_kind (Test files1 database1 json1) (Test files2 database2 json2) t u kind = tt
   same_kind (Device path1 strings1 json1 pattern1) (Device path2 strings2 json2 pattern2) t u kind = absurd kind
@@ -78,7 +78,7 @@ module _ (name : Text) (inner : List Row) where
   same_status (Update v1 k1) (Status json2 true) t u = refl
   same_status (Update v1 k1) (Update v2 k2) t u = refl
   same_status (Ask file1 device1) (Ask file2 device2) t u = refl
-  same_status (Check files1 allowed1 json1) (Check files2 allowed2 json2) t u = refl
+  same_status (Check files1 allowed1 json1 format1) (Check files2 allowed2 json2 format2) t u = refl
   same_status (Near files1 device1 limit1 json1) (Near files2 device2 limit2 json2) t u = refl
   same_status (Test files1 database1 json1) (Test files2 database2 json2) t u = refl
   same_status (Device path1 strings1 json1 pattern1) (Device path2 strings2 json2 pattern2) t u = refl
@@ -107,7 +107,7 @@ module _ (name : Text) (inner : List Row) where
     same_why (Update v1 k1) (Status json2 true) t u is = both_words u.1 t.1
     same_why (Update v1 k1) (Update v2 k2) t u is = is
     same_why (Ask file1 device1) (Ask file2 device2) t u is = subst (λ (f : List ℕ). Unasked f input files r) (one_value (first_of (codes "FILE") inner) _ _ u.1 t.1) is
-    same_why (Check files1 allowed1 json1) (Check files2 allowed2 json2) t u is =
+    same_why (Check files1 allowed1 json1 format1) (Check files2 allowed2 json2 format2) t u is =
         subst (λ (fs : List (List ℕ)). Unchecked fs input files root r) (u.1 ∙ sym t.1) is
     same_why (Near files1 device1 limit1 json1) (Near files2 device2 limit2 json2) t u is =
         let one = cut_last (map string_bytes files2.items) (map string_bytes files1.items) (string_bytes device2) (string_bytes device1) (one_values (all_of (codes "MODALIAS") inner) _ _ u.2 t.2) in
@@ -138,7 +138,7 @@ module _ (name : Text) (inner : List Row) where
   same_said header tree root usr files (Update v1 k1) (Status json2 true) t u = both_words u.1 t.1
   same_said header tree root usr files (Update v1 k1) (Update v2 k2) t u = ap (λ (v : Bool). hiding_text usr v root files) (u.2 ∙ sym t.2)
   same_said header tree root usr files (Ask file1 device1) (Ask file2 device2) t u = refl
-  same_said header tree root usr files (Check files1 allowed1 json1) (Check files2 allowed2 json2) t u = refl
+  same_said header tree root usr files (Check files1 allowed1 json1 format1) (Check files2 allowed2 json2 format2) t u = refl
   same_said header tree root usr files (Near files1 device1 limit1 json1) (Near files2 device2 limit2 json2) t u = refl
   same_said header tree root usr files (Test files1 database1 json1) (Test files2 database2 json2) t u = refl
   same_said header tree root usr files (Device path1 strings1 json1 pattern1) (Device path2 strings2 json2 pattern2) t u = refl

@@ -174,7 +174,7 @@ module _ (header : OneHeader) (tree : OneTree) where
   Why fails U input files (Verify database) root r = NoVerify header fails U root files (option_map string_bytes database) input r
   Why fails U input files (Dump database) root r = NoDump header fails U root files (option_map string_bytes database) input r
   Why fails U input files (Ask file device) root r = Unasked (string_bytes file) input files r
-  Why fails U input files (Check paths allowed json) root r = Unchecked (map string_bytes paths.items) input files root r
+  Why fails U input files (Check paths allowed json format) root r = Unchecked (map string_bytes paths.items) input files root r
   Why fails U input files (Near paths device limit json) root r = Uncompared (map string_bytes paths.items) input files root r
   Why fails U input files (Test paths database json) root r = Untested (map string_bytes paths.items) (option_map string_bytes database) input files root r
   Why fails U input files (Update verbose skip) root r = Unupdated root files r
@@ -238,9 +238,9 @@ module _ (header : OneHeader) (tree : OneTree) where
           unasked_file (string_bytes file) before.input.bytes before.files fails before.input.failures now.input.failures (never (string_bytes file) refl) whole r of found.0 not.1,
           left_then found.1 not.0.1.same,
         )
-    why (Check paths allowed json) kind never named not =
+    why (Check paths allowed json format) kind never named not =
         let given = map string_bytes paths.items in
-        let found = unprinted (IsCheckRefused (AreUncheckable given root before.files) (AreCheckedFiles given root before.input.bytes before.files)) (MayPrint (Check paths allowed json) root strict before.input.bytes before.files) r before.err now.err before.out now.out of not.0.0 in
+        let found = unprinted (IsCheckRefused (AreUncheckable given root before.files) (AreCheckedFiles given root before.input.bytes before.files)) (MayPrint (Check paths allowed json format) root strict before.input.bytes before.files) r before.err now.err before.out now.out of not.0.0 in
         (unchecked stand fails root before.files before.input.bytes before.input.failures now.input.failures whole r of listed paths.items never named found.0 not.1, left_then found.1 not.0.1.same)
     why (Near paths device limit json) kind never named not =
         let found = unprinted (IsNearRefused (map string_bytes paths.items) root before.files) (MayPrint (Near paths device limit json) root strict before.input.bytes before.files) r before.err now.err before.out now.out of not.0.0 in
@@ -280,7 +280,7 @@ module _ (header : OneHeader) (tree : OneTree) where
         both_named (option_map string_bytes database) told files (λ g fs. Undumped header fails U root fs g r) (λ g fs. Undumped header fails U root fs g r2) (IsOneError r r2)
         (λ g fs x y. dump_dump header fails U root fs tree g r r2 x y) one two
     one_why fails fails2 U U2 files root r r2 (Ask file device) kind one two = ask_ask (string_bytes file) told files r r2 one two
-    one_why fails fails2 U U2 files root r r2 (Check paths allowed json) kind one two = check_check choice stand root files told (map string_bytes paths.items) r r2 one two
+    one_why fails fails2 U U2 files root r r2 (Check paths allowed json format) kind one two = check_check choice stand root files told (map string_bytes paths.items) r r2 one two
     one_why fails fails2 U U2 files root r r2 (Near paths device limit json) kind one two = near_near root files told (map string_bytes paths.items) r r2 one two
     one_why fails fails2 U U2 files root r r2 (Test paths database json) kind one two = test_test header (map string_bytes paths.items) (option_map string_bytes database) root files told r r2 one two
     one_why fails fails2 U U2 files root r r2 (Update verbose skip) kind one two = unupdated_one choice reading root files r r2 one two
@@ -349,7 +349,7 @@ module _ (header : OneHeader) (tree : OneTree) where
     not_both_ends (Ask file device) kind done not =
         ask_done (string_bytes file) told before.files.seen form (string_bytes device) done.0.texts r
         (subst (λ (i : Option (List ℕ)). IsAsked (string_bytes file) (string_bytes device) i before.files.seen done.0.texts) tells done.0.are.1) not
-    not_both_ends (Check paths allowed json) kind done not =
+    not_both_ends (Check paths allowed json format) kind done not =
         let given = map string_bytes paths.items in
         let are = done.0.are.1 in
         check_done choice stand root before.files.seen told given are.sources r
