@@ -19,3 +19,4 @@ pub mod ComputedTaskRows
 pub mod ComputedPlanRows
 pub mod ComputedKeyRows
 pub mod PlannedLemmas
+pub mod PlannedErrorLemmas

@@ -58,7 +58,7 @@ use Rattle.hwdb_plan.specs.Verify.{summary}
 use Rattle.hwdb_spec_commands.specs.Checks.{format_of}
 
 -- an end that is no error
-abbrev IsDone : End → Type 0
+abbrev pub IsDone : End → Type 0
 IsDone e = (s : Stop) → e ≢ Stops s
 
 one_some : {X : Type 0} (x y : X) → Some x ≡ Some y → x ≡ y
@@ -74,12 +74,12 @@ module _ (w : Reads) (e : End) (Lost : Type 0) where
   lost_at s lost ends = inr (lost ends)
 
   -- an input that wasn't read: the end that says so is lost
-  abbrev IsSpare : Result (List ℕ) Unread → Type 0
+  abbrev pub IsSpare : Result (List ℕ) Unread → Type 0
   IsSpare (Ok bytes) = ⊥
   IsSpare (Err why) = e ≡ Stops (unread_stop (codes "standard input") why) → Lost
 
   -- what another run is told is the same, or this one did without it
-  abbrev Serves : (one other : Result (List ℕ) Unread) → Type 0
+  abbrev pub Serves : (one other : Result (List ℕ) Unread) → Type 0
   Serves one other = (one ≡ other) ⊎ IsSpare one
 
   -- ---- fronts: what follows them moves
@@ -294,7 +294,7 @@ module _ (w : Reads) (e : End) (Lost : Type 0) where
       by rest false is is2 ends = rest is is2 ends
 
   -- the words of a cause are the same, or an end in them is lost
-  abbrev AreServed : (cause cause2 : List ℕ) → Type 0
+  abbrev pub AreServed : (cause cause2 : List ℕ) → Type 0
   AreServed cause cause2 = (cause ≡ cause2) ⊎ ((text : List ℕ) → e ≡ Stops (Says text) → Lost)
 
   module _ (sight : Sight) (cause cause2 : List ℕ) (one other : Result (List ℕ) Unread) (serves : Serves one other) (causes : AreServed cause cause2) where
@@ -400,7 +400,7 @@ module _ (w : Reads) (e : End) (Lost : Type 0) where
     found_moves top (Some f) p q is is2 =
         row_moves f.0 (plans first (root_given top f.1) (strict_given top f.1) f.1) (plans second (root_given top f.1) (strict_given top f.1) f.1) p q (rows_move (root_given top f.1) (strict_given top f.1) f.1) is is2
 
-    plan_moves : (words : List Text) (p q : Plan) → program_plan first words ≡ Some p → program_plan second words ≡ Some q → Moves p q
+    pub plan_moves : (words : List Text) (p q : Plan) → program_plan first words ≡ Some p → program_plan second words ≡ Some q → Moves p q
     plan_moves words p q = by (has_text (subcommand_of hwdb_app words))
       where
         by : (b : Bool) → (if b then None else files_plan first words) ≡ Some p → (if b then None else files_plan second words) ≡ Some q → Moves p q
@@ -409,7 +409,7 @@ module _ (w : Reads) (e : End) (Lost : Type 0) where
 
 -- ---- two runs
 -- both tell what standard input had, or one of them did without it
-one_told : (input : Told) (n m k : ℕ) (x y : List ℕ) → Tells input → IsInputTold input.bytes n m (Ok x) → IsInputTold input.bytes n k (Ok y) → x ≡ y
+pub one_told : (input : Told) (n m k : ℕ) (x y : List ℕ) → Tells input → IsInputTold input.bytes n m (Ok x) → IsInputTold input.bytes n k (Ok y) → x ≡ y
 one_told input n m k x y (bytes, told) is is2 =
     let had = λ (z : List ℕ) (so : IfSome input.bytes (λ t. z ≡ t)). subst (λ (o : Option (List ℕ)). IfSome o (λ t. z ≡ t)) told so in had x is.0 ∙ sym (had y is2.0)
 
@@ -500,14 +500,14 @@ planned_runs one_end words w sight input input_now input_now2 before now now2 st
     runs_one one_end words w sight input input_now input_now2 before now now2 status status2 have of_input of_err of_out
 
 -- ---- a run that is done, and one that ends with an error
-too_long : (n most : ℕ) → n ≤ most → most < n → ⊥
+pub too_long : (n most : ℕ) → n ≤ most → most < n → ⊥
 too_long n most few many = omega (arith, few, many)
 
 no_error : {X : Type 0} (x : X) {o : Option X} → o ≡ None → o ≡ Some x → ⊥
 no_error x none some = cc
 
 -- an error that says that memory was refused
-no_memory : (r : Refusal) → stop_of r ≡ Plain OutOfMemory → r ≡ refusal.Plain OutOfMemory
+pub no_memory : (r : Refusal) → stop_of r ≡ Plain OutOfMemory → r ≡ refusal.Plain OutOfMemory
 no_memory (refusal.Plain error) is = ap refusal.Plain one
   where
     one : error ≡ OutOfMemory

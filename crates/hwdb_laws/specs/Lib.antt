@@ -18,3 +18,4 @@ pub mod TaskRows
 pub mod PlanRows
 pub mod KeyRows
 pub mod PlannedRuns
+pub mod PlannedErrors

@@ -25,13 +25,13 @@
 //! | `PlanRows` | which plans words ask for |
 //! | `KeyRows` | keys with their codes, and which of them words ask for |
 //!
-//! `rows` shows them. `planned` shows `PlannedRuns`: two runs with the same words are one, if the words have a plan.
+//! `rows` shows them. `planned` shows `PlannedRuns` and `PlannedErrors`: two runs with the same words are one, if the words have a plan.
 #![tactic(auto)]
 
 mod planned;
 mod rows;
 
-pub use planned::planned_runs_are_one;
+pub use planned::{planned_errors_are_one, planned_runs_are_one};
 pub use rows::{
     answer_rows, change_rows, check_rows, colour_rows, compare_rows, device_rows, error_rows,
     explain_rows, form_rows, key_rows, likely_rows, near_rows, over_text_rows, place_rows,

@@ -1,0 +1,353 @@
+-- Two runs with the same words that end with an error end with one.
+use Rattle.std.proofs.Common.{◌≡◌, ◌∙◌, ◌++◌, ◌⊎◌, ◌∷◌, ⊎_elim, inl, inr, ap, refl, subst, sym, drop, length, Bool, IfSome, List, Option, None, Result, Some, Ok, Err, ℕ, [], true, false, ◌≤◌, ◌<◌}
+use Rattle.std.specs.Io.KnownBytes.{Appends}
+use Rattle.std.specs.Option.{option_map_or}
+use Rattle.std.specs.Prelude.{codes, find, if◌then◌else◌, option_map}
+use Rattle.std.specs.Str.{bytes_eq}
+use Rattle.clap.specs.Simple.{matches_of, subcommand_of}
+use Rattle.clap.specs.Walk.{Row, Text, first_of}
+use Rattle.hwdb_spec.specs.Texts.{devices_of, max_file}
+use Rattle.hwdb_spec.specs.declared.errors.ToolError.{ToolError}
+use Rattle.hwdb_spec.specs.declared.errors.ToolError.TheVariants.{BadDatabase, BadPosition, Memory as OutOfMemory, Read, Replace, TooLarge, TooLong, TooManyFiles, TooManyLines, Write}
+use Rattle.hwdb_spec.specs.declared.causes.Cause.{Cause}
+use Rattle.hwdb_spec_commands.specs.AnsweredLines.{answered_lines, line_error}
+use Rattle.hwdb_spec_commands.specs.CommandLine.{hwdb_app}
+use Rattle.hwdb_spec_commands.specs.DeviceAsked.{device_form, device_list, missing_text, no_sysfs_text, unread_text}
+use Rattle.hwdb_spec_commands.specs.DeviceTree.{Sight, device_at, device_for, unread_for}
+use Rattle.hwdb_spec_commands.specs.Jobs.{has_flag}
+use Rattle.hwdb_spec_commands.specs.Runs.{Told}
+use Rattle.hwdb_spec_commands.specs.Told.{Reads, Stop, stop_of}
+use Rattle.hwdb_spec_commands.specs.Told.Stop.{Over, Plain, Says}
+use Rattle.hwdb_spec_commands.specs.declared.devices.DeviceForm.{DeviceForm}
+use Rattle.hwdb_spec_commands.specs.declared.refusals.Refusal.{Refusal}
+use Rattle.hwdb_spec_commands.specs.declared.refusals.Refusal.TheVariants as refusal
+use Rattle.hwdb_spec_commands.specs.declared.unread.Unread.{Unread}
+use Rattle.hwdb_spec_commands.specs.declared.unread.Unread.TheVariants as unread
+use Rattle.hwdb_plan.specs.Asking.{asked}
+use Rattle.hwdb_plan.specs.Device.{device_answer, device_plan, folder_of, place_of, says, sysfs_of}
+use Rattle.hwdb_plan.specs.Ended.{OnLines, Outs, Shows, ShowsEnd, StreamStops}
+use Rattle.hwdb_plan.specs.Input.{IsInputTold}
+use Rattle.hwdb_plan.specs.Laws.{PlansEndAlike}
+use Rattle.hwdb_plan.specs.Plans.{End, Ends, Plan}
+use Rattle.hwdb_plan.specs.Plans.End.{Answers, Lines, Replaces, Stops, Streams}
+use Rattle.hwdb_plan.specs.Plans.Plan.{Done}
+use Rattle.hwdb_spec_program.specs.DeviceErrors.{asked_names}
+use Rattle.hwdb_spec_program.specs.ProgramPlan.{Around, ShowsPlan, files_plan, found_plan, has_text, plans, program_plan, root_given, strict_given}
+use Rattle.hwdb_laws.proofs.PlannedLemmas.{Serves, no_memory, one_told, plan_moves, too_long}
+use Rattle.hwdb_laws.specs.PlannedErrors.{AreButForCause, AreOneEnd, AreOneError, IsOfReading, PlannedErrorsAreOne}
+use Rattle.hwdb_laws.specs.PlannedRuns.{HavePlan, Tells}
+
+-- ---- ends of two plans
+module _ (alike : PlansEndAlike) where
+  -- what the one may end in and what the other may are one
+  abbrev Alike : (p q : Plan) → Type 0
+  Alike p q = (w : Reads) (e f : End) → Ends w p e → Ends w q f → AreOneEnd e f
+
+  same_alike : (p : Plan) → Alike p p
+  same_alike p w e f ends ends2 = inl (alike w p e f ends ends2)
+
+  says_alike : (text text2 : List ℕ) → AreButForCause text text2 → Alike (says text) (says text2)
+  unfolding Ends
+  says_alike text text2 but w e f ends ends2 = inr (inl (text, text2, ends, ends2, but))
+
+  -- ---- `device`, with other words of a cause
+  module _ (sight : Sight) (cause cause2 : List ℕ) where
+    folder_alike : (path : List ℕ) (one two : List ℕ → Plan) → ((place : List ℕ) → Alike (one place) (two place)) → Alike (folder_of sight cause path one) (folder_of sight cause2 path two)
+    folder_alike path one two step = by (sight.place path)
+      where
+        by : (o : Option (List ℕ)) → Alike (option_map_or one o (says (no_sysfs_text path cause))) (option_map_or two o (says (no_sysfs_text path cause2)))
+        by None = says_alike (no_sysfs_text path cause) (no_sysfs_text path cause2) (cause, cause2, inl (path, refl, refl))
+        by (Some place) = step place
+
+    sysfs_alike : (root : List ℕ) (one two : List ℕ → Plan) → ((sys : List ℕ) → Alike (one sys) (two sys)) → Alike (sysfs_of sight cause root one) (sysfs_of sight cause2 root two)
+    sysfs_alike root one two step =
+        folder_alike (root ++ codes "/sys") (λ sys. folder_of sight cause (sys ++ codes "/devices") (λ devices. one sys)) (λ sys. folder_of sight cause2 (sys ++ codes "/devices") (λ devices. two sys))
+        (λ sys. folder_alike (sys ++ codes "/devices") (λ devices. one sys) (λ devices. two sys) (λ devices. step sys))
+
+    place_alike : (root given sys : List ℕ) (next : List ℕ → Plan) → Alike (place_of sight cause root given sys next) (place_of sight cause2 root given sys next)
+    place_alike root given sys next = by (device_for sight root sys given) (unread_for sight root sys given)
+      where
+        by : (o u : Option (List ℕ)) → Alike (option_map_or next o (option_map_or (λ path. says (unread_text path cause)) u (says (missing_text sight root sys given cause))))
+            (option_map_or next o (option_map_or (λ path. says (unread_text path cause2)) u (says (missing_text sight root sys given cause2))))
+        by None None = says_alike (missing_text sight root sys given cause) (missing_text sight root sys given cause2) (cause, cause2, inr (inr (sight, root, sys, given, refl, refl)))
+        by None (Some path) = says_alike (unread_text path cause) (unread_text path cause2) (cause, cause2, inr (inl (path, refl, refl)))
+        by (Some place) u = same_alike (next place)
+
+    device_alike : (root : List ℕ) (form : DeviceForm) (given : Option (List ℕ)) → Alike (device_plan sight cause asked_names root form given) (device_plan sight cause2 asked_names root form given)
+    device_alike root form None = let all = λ (sys : List ℕ). Done (Answers 0 [] (device_list sight asked_names sys)) in sysfs_alike root all all (λ sys. same_alike (all sys))
+    device_alike root form (Some given) =
+        let meant = λ (sys place : List ℕ). asked root (device_answer form (device_at sight asked_names sys place)) in
+        sysfs_alike root (λ sys. place_of sight cause root given sys (meant sys)) (λ sys. place_of sight cause2 root given sys (meant sys)) (λ sys. place_alike root given sys (meant sys))
+
+  -- ---- tables of plans
+  abbrev AllAlike : (rows others : List (Text × Plan)) → Type 0
+  AllAlike [] [] = Unit {0}
+  AllAlike (row ∷ rows) (other ∷ others) = (row.0 ≡ other.0) × Alike row.1 other.1 × AllAlike rows others
+  AllAlike rows others = ⊥
+
+  all_same : (rows : List (Text × Plan)) → AllAlike rows rows
+  all_same [] = tt
+  all_same (row ∷ rows) = (refl, same_alike row.1, all_same rows)
+
+  abbrev Finds : (word : Text) (rows : List (Text × Plan)) (p : Plan) → Type 0
+  Finds word rows p = option_map (λ row. row.1) (find (λ row. bytes_eq row.0 word) rows) ≡ Some p
+
+  row_alike : (word : Text) (rows others : List (Text × Plan)) (p q : Plan) → AllAlike rows others → Finds word rows p → Finds word others q → Alike p q
+  row_alike word [] [] p q all is is2 = absurd cc
+  row_alike word (row ∷ rows) [] p q all is is2 = absurd all
+  row_alike word [] (other ∷ others) p q all is is2 = absurd all
+  row_alike word (row ∷ rows) (other ∷ others) p q (same, one, more) is is2 =
+      by (row_alike word rows others p q more) (bytes_eq row.0 word) is
+      (subst (λ (n : Text). option_map (λ (r : Text × Plan). r.1) (if bytes_eq n word then Some other else find (λ (r : Text × Plan). bytes_eq r.0 word) others) ≡ Some q) (sym same) is2)
+    where
+      some : {X : Type 0} (x y : X) → Some x ≡ Some y → x ≡ y
+      some x y equal = cc
+
+      by : (Finds word rows p → Finds word others q → Alike p q) → (b : Bool) → option_map (λ (r : Text × Plan). r.1) (if b then Some row else find (λ (r : Text × Plan). bytes_eq r.0 word) rows) ≡ Some p
+          → option_map (λ (r : Text × Plan). r.1) (if b then Some other else find (λ (r : Text × Plan). bytes_eq r.0 word) others) ≡ Some q → Alike p q
+      by rest true is is2 w e f ends ends2 =
+          one w e f (subst (λ (x : Plan). Ends w x e) (sym (some row.1 p is)) ends) (subst (λ (x : Plan). Ends w x f) (sym (some other.1 q is2)) ends2)
+      by rest false is is2 w e f ends ends2 = rest is is2 w e f ends ends2
+
+  -- ---- the plans of words, with other words of a cause
+  module _ (sight : Sight) (cause cause2 : List ℕ) (told : Result (List ℕ) Unread) where
+    abbrev first : Around
+    first = record { input = told; sight = sight; cause = cause }
+
+    abbrev second : Around
+    second = record { input = told; sight = sight; cause = cause2 }
+
+    rows_alike : (root : List ℕ) (strict : Bool) (rows : List Row) → AllAlike (plans first root strict rows) (plans second root strict rows)
+    rows_alike root strict rows =
+        let form = device_form (has_flag (codes "strings") rows) (has_flag (codes "json") rows) (has_flag (codes "pattern") rows) in (
+          refl,
+          same_alike _,
+          (
+            refl,
+            same_alike _,
+            (
+              refl,
+              same_alike _,
+              (
+                refl,
+                same_alike _,
+                (refl, same_alike _, (refl, device_alike sight cause cause2 root form (first_of (codes "DEVICE") rows), all_same (drop 6 (plans first root strict rows)))),
+              ),
+            ),
+          ),
+        )
+
+    found_alike : (top : List Row) (found : Option (Text × List Row)) (p q : Plan) → found_plan first top found ≡ Some p → found_plan second top found ≡ Some q → Alike p q
+    found_alike top None p q is is2 = absurd cc
+    found_alike top (Some f) p q is is2 =
+        row_alike f.0 (plans first (root_given top f.1) (strict_given top f.1) f.1) (plans second (root_given top f.1) (strict_given top f.1) f.1) p q (rows_alike (root_given top f.1) (strict_given top f.1) f.1) is is2
+
+    plan_alike : (words : List Text) (p q : Plan) → program_plan first words ≡ Some p → program_plan second words ≡ Some q → Alike p q
+    plan_alike words p q = by (has_text (subcommand_of hwdb_app words))
+      where
+        by : (b : Bool) → (if b then None else files_plan first words) ≡ Some p → (if b then None else files_plan second words) ≡ Some q → Alike p q
+        by true is is2 = absurd cc
+        by false is is2 = found_alike (matches_of hwdb_app words) (subcommand_of hwdb_app words) p q is is2
+
+-- ---- ends of streams
+one_grown : (had : List ℕ) (now now2 : Option (List ℕ)) (text : List ℕ) → Appends (Some had) now text → Appends (Some had) now2 text → now ≡ now2
+one_grown had (Some xs) (Some ys) text one two = ap Some (one ∙ sym two)
+one_grown had None now2 text one two = absurd one
+one_grown had (Some xs) None text one two = absurd two
+
+no_stop : {X : Type 0} (text : List (List ℕ) → List ℕ) (s : Stop) → Streams text ≡ Stops s → X
+no_stop text s is = absurd cc
+
+-- an end that streams is no error's
+streams_alone : {X : Type 0} (text : List (List ℕ) → List ℕ) (s : Stop) → AreOneEnd (Streams text) (Stops s) → X
+streams_alone text s (inl (inl same)) = no_stop text s same
+streams_alone text s (inl (inr (inl faults))) = no_stop text (faults.bad faults.one) faults.is_one
+streams_alone text s (inl (inr (inr reasons))) = no_stop text (reasons.bad reasons.one) reasons.is_one
+streams_alone text s (inr (inl (said, said2, is, is2, but))) = no_stop text (Says said) is
+streams_alone text s (inr (inr (error, path, cause, cause2, is, is2))) = no_stop text (Over error path cause) is
+
+stops_alone : {X : Type 0} (s : Stop) (text : List (List ℕ) → List ℕ) → AreOneEnd (Stops s) (Streams text) → X
+stops_alone s text (inl (inl same)) = no_stop text s (sym same)
+stops_alone s text (inl (inr (inl faults))) = no_stop text (faults.bad faults.two) faults.is_two
+stops_alone s text (inl (inr (inr reasons))) = no_stop text (reasons.bad reasons.two) reasons.is_two
+stops_alone s text (inr (inl (said, said2, is, is2, but))) = no_stop text (Says said2) is2
+stops_alone s text (inr (inr (error, path, cause, cause2, is, is2))) = no_stop text (Over error path cause2) is2
+
+one_text : (text text2 : List (List ℕ) → List ℕ) → AreOneEnd (Streams text) (Streams text2) → text ≡ text2
+one_text text text2 (inl (inl same)) = one same
+  where
+    one : Streams text ≡ Streams text2 → text ≡ text2
+    one is = cc
+one_text text text2 (inl (inr (inl faults))) = no_stop text (faults.bad faults.one) faults.is_one
+one_text text text2 (inl (inr (inr reasons))) = no_stop text (reasons.bad reasons.one) reasons.is_one
+one_text text text2 (inr (inl (said, said2, is, is2, but))) = no_stop text (Says said) is
+one_text text text2 (inr (inr (error, path, cause, cause2, is, is2))) = no_stop text (Over error path cause) is
+
+-- ---- errors of a line of standard input
+-- the error is one of these lines
+abbrev IsOfLine : (lines : List (List ℕ)) → Refusal → Type 0
+IsOfLine lines r =
+    ((cause : Option Cause) × (stop_of r ≡ Over TooLong (codes "a line of standard input") cause) × (line_error lines ≡ Some TooLong))
+    ⊎ ((stop_of r ≡ Plain TooManyLines) × (line_error lines ≡ Some TooManyLines))
+
+two_lines : {X : Type 0} (o : Option ToolError) → o ≡ Some TooLong → o ≡ Some TooManyLines → X
+two_lines o long many = absurd cc
+
+lines_one : (lines : List (List ℕ)) (r r2 : Refusal) → IsOfLine lines r → IsOfLine lines r2 → AreOneError r r2
+lines_one lines r r2 (inl (cause, is, long)) (inl (cause2, is2, long2)) = inr (inr (TooLong, codes "a line of standard input", cause, cause2, ap Stops is, ap Stops is2))
+lines_one lines r r2 (inl (cause, is, long)) (inr (is2, many)) = two_lines (line_error lines) long many
+lines_one lines r r2 (inr (is, many)) (inl (cause2, is2, long)) = two_lines (line_error lines) long many
+lines_one lines r r2 (inr (is, many)) (inr (is2, many2)) = inl (inl (ap Stops (is ∙ sym is2)))
+
+-- what a run leaves that ends so: standard output took the text of the lines that are answered
+abbrev OfLine : (text : List (List ℕ) → List ℕ) (input : List ℕ) (before now : Told) → Refusal → Type 0
+OfLine text input before now r = IsOfLine (devices_of input) r × Appends before.bytes now.bytes (text (answered_lines (devices_of input)))
+
+module _ (text : List (List ℕ) → List ℕ) (input input_now before now : Told) (bytes : List ℕ) (tells : input.bytes ≡ Some bytes) where
+  of_lines : (Is : List (List ℕ) → Type 0) → OnLines input.bytes Is → Is (devices_of bytes)
+  of_lines Is on = subst (λ (o : Option (List ℕ)). OnLines o Is) tells on
+
+  stops_of_line : (r : Refusal) → IsOfReading input input_now r → StreamStops text input input_now before now r → OfLine text bytes before now r
+  stops_of_line (refusal.At TooLong at cause) reading (named, long, took) = (inl (cause, ap (λ (p : List ℕ). Over TooLong p cause) named, of_lines (λ lines. line_error lines ≡ Some TooLong) long), of_lines (λ lines. Appends before.bytes now.bytes (text (answered_lines lines))) took.taken)
+  stops_of_line (refusal.Plain TooManyLines) reading (many, took) = (inr (refl, of_lines (λ lines. line_error lines ≡ Some TooManyLines) many), of_lines (λ lines. Appends before.bytes now.bytes (text (answered_lines lines))) took.taken)
+  stops_of_line (refusal.At Read at cause) reading (named, failed, took) = absurd (reading.input failed)
+  stops_of_line (refusal.Plain Write) reading h = absurd (reading.outputs refl)
+  stops_of_line (refusal.Plain OutOfMemory) reading h = absurd (reading.memory refl)
+  stops_of_line (refusal.At Write at cause) reading h = absurd h
+  stops_of_line (refusal.At TooManyFiles at cause) reading h = absurd h
+  stops_of_line (refusal.At TooManyLines at cause) reading h = absurd h
+  stops_of_line (refusal.At TooLarge at cause) reading h = absurd h
+  stops_of_line (refusal.At BadPosition at cause) reading h = absurd h
+  stops_of_line (refusal.At (BadDatabase f) at cause) reading h = absurd h
+  stops_of_line (refusal.At (Replace u) at cause) reading h = absurd h
+  stops_of_line (refusal.At OutOfMemory at cause) reading h = absurd h
+  stops_of_line (refusal.Plain Read) reading h = absurd h
+  stops_of_line (refusal.Plain TooLong) reading h = absurd h
+  stops_of_line (refusal.Plain TooManyFiles) reading h = absurd h
+  stops_of_line (refusal.Plain TooLarge) reading h = absurd h
+  stops_of_line (refusal.Plain BadPosition) reading h = absurd h
+  stops_of_line (refusal.Plain (BadDatabase f)) reading h = absurd h
+  stops_of_line (refusal.Plain (Replace u)) reading h = absurd h
+  stops_of_line refusal.NoDatabase reading h = absurd h
+  stops_of_line (refusal.InWords said) reading h = absurd h
+
+-- ---- one run: an error that comes of what is read is that of a plan that stops, or of a line of standard input
+abbrev IsStopped : (before now : Outs) → Refusal → End → Type 0
+IsStopped before now r e = (s : Stop) × (e ≡ Stops s) × (stop_of r ≡ s) × (now ≡ before)
+
+abbrev IsStreamed : (input : List ℕ) (before now : Outs) → Refusal → End → Type 0
+IsStreamed input before now r e = (text : List (List ℕ) → List ℕ) × (e ≡ Streams text) × OfLine text input before.out now.out r × (now.err ≡ before.err)
+
+shown_error : (input input_now : Told) (before now : Outs) (r : Refusal) (bytes : List ℕ) → input.bytes ≡ Some bytes → IsOfReading input input_now r → (e : End) → Shows e input input_now before now (Err r)
+    → IsStopped before now r e ⊎ IsStreamed bytes before now r e
+shown_error input input_now before now r bytes tells reading (Stops s) (is, same) = inl (s, refl, is, same)
+shown_error input input_now before now r bytes tells reading (Answers status err out) (write, failed) = absurd (reading.outputs write)
+shown_error input input_now before now r bytes tells reading (Lines lines) (stops, quiet) =
+    absurd (⊎_elim (λ cut. reading.outputs cut.0) (λ memory. reading.memory memory.0) stops)
+shown_error input input_now before now r bytes tells reading (Streams text) (stops, quiet) =
+    inr (text, refl, stops_of_line text input input_now before.out now.out bytes tells r reading stops, quiet)
+shown_error input input_now before now r bytes tells reading (Replaces folder made said status) shows = absurd shows
+
+-- ---- two runs
+module _ (alike : PlansEndAlike) (words : List Text) (w : Reads) (sight : Sight) (input input_now input_now2 : Told) (before now now2 : Outs) (r r2 : Refusal) (have : HavePlan words)
+    (of_input : Tells input) (of_out : Tells before.out) (reading : IsOfReading input input_now r) (reading2 : IsOfReading input input_now2 r2) where
+  abbrev plan_of : (told : Result (List ℕ) Unread) (cause : List ℕ) → Plan
+  plan_of told cause = have.plan (record { input = told; sight = sight; cause = cause })
+
+  -- an end that says that memory was refused
+  abbrev IsForgone : End → Type 0
+  IsForgone e = e ≡ Stops (Plain OutOfMemory)
+
+  abbrev ServesBut : (e : End) (one other : Result (List ℕ) Unread) → Type 0
+  ServesBut e one other = Serves w e (IsForgone e) one other
+
+  long_or_short : {X : Type 0} (x : List ℕ) (n m : ℕ) → IsInputTold input.bytes input.failures n (Ok x) → IsInputTold input.bytes input.failures m (Err unread.TooLong) → X
+  long_or_short x n m is is2 =
+      let had : x ≡ of_input.0 = subst (λ (o : Option (List ℕ)). IfSome o (λ t. x ≡ t)) of_input.1 is.0 in
+      let long : max_file < length of_input.0 = subst (λ (o : Option (List ℕ)). IfSome o (λ t. max_file < length t)) of_input.1 is2 in
+      let short : length of_input.0 ≤ max_file = subst (λ (xs : List ℕ). length xs ≤ max_file) had is.1 in
+      absurd (too_long (length of_input.0) max_file short long)
+
+  -- what both might be told of standard input, if each was told something else
+  shared : (e f : End) (told told2 : Result (List ℕ) Unread) → IsInputTold input.bytes input.failures input_now.failures told → IsInputTold input.bytes input.failures input_now2.failures told2
+      → (t : Result (List ℕ) Unread) × ServesBut e told t × ServesBut f told2 t
+  shared e f (Err unread.Memory) told2 is is2 = (told2, inr (λ end. end), inl refl)
+  shared e f (Err (unread.Failed why)) told2 is is2 = absurd (reading.input is)
+  shared e f (Ok x) (Err unread.Memory) is is2 = (Ok x, inl refl, inr (λ end. end))
+  shared e f (Ok x) (Err (unread.Failed why)) is is2 = absurd (reading2.input is2)
+  shared e f (Ok x) (Err unread.TooLong) is is2 = long_or_short x input_now.failures input_now2.failures is is2
+  shared e f (Ok x) (Ok y) is is2 = (Ok x, inl refl, inl (ap Ok (sym (one_told input input.failures input_now.failures input_now2.failures x y of_input is is2))))
+  shared e f (Err unread.TooLong) (Err unread.Memory) is is2 = (Err unread.TooLong, inl refl, inr (λ end. end))
+  shared e f (Err unread.TooLong) (Err (unread.Failed why)) is is2 = absurd (reading2.input is2)
+  shared e f (Err unread.TooLong) (Err unread.TooLong) is is2 = (Err unread.TooLong, inl refl, inl refl)
+  shared e f (Err unread.TooLong) (Ok y) is is2 = long_or_short y input_now2.failures input_now.failures is2 is
+
+  moved : (e : End) (told t : Result (List ℕ) Unread) (cause : List ℕ) → ServesBut e told t → Ends w (plan_of told cause) e → Ends w (plan_of t cause) e ⊎ IsForgone e
+  moved e told t cause serves ends =
+      plan_moves w e (IsForgone e) sight cause cause told t serves (inl refl) words (plan_of told cause) (plan_of t cause)
+      (have.is (record { input = told; sight = sight; cause = cause })) (have.is (record { input = t; sight = sight; cause = cause })) ends
+
+  one_end : (e f : End) (told told2 : Result (List ℕ) Unread) (cause cause2 : List ℕ) → IsInputTold input.bytes input.failures input_now.failures told
+      → IsInputTold input.bytes input.failures input_now2.failures told2 → Ends w (plan_of told cause) e → Ends w (plan_of told2 cause2) f → AreOneEnd e f ⊎ (IsForgone e ⊎ IsForgone f)
+  one_end e f told told2 cause cause2 is is2 ends ends2 =
+      let (t, serves, serves2) = shared e f told told2 is is2 in
+      ⊎_elim
+      (λ one. ⊎_elim
+      (λ two. inl (plan_alike alike sight cause cause2 t words (plan_of t cause) (plan_of t cause2)
+      (have.is (record { input = t; sight = sight; cause = cause })) (have.is (record { input = t; sight = sight; cause = cause2 })) w e f one two))
+      (λ gone. inr (inr gone)) (moved f told2 t cause2 serves2 ends2))
+      (λ gone. inr (inl gone)) (moved e told t cause serves ends)
+
+  abbrev AreOne : Type 0
+  AreOne = AreOneError r r2 × (now.err ≡ now2.err) × (now.out.bytes ≡ now2.out.bytes)
+
+  -- an error that comes of what is read doesn't say that memory was refused
+  not_forgone : {X : Type 0} (x : Refusal) (s : Stop) (e : End) (input_then : Told) → IsOfReading input input_then x → e ≡ Stops s → stop_of x ≡ s → IsForgone e → X
+  not_forgone x s e input_then of_x is said gone = absurd (of_x.memory (no_memory x (said ∙ one)))
+    where
+      one : s ≡ Plain OutOfMemory
+      one = cc
+
+  streams_forgone : {X : Type 0} (text : List (List ℕ) → List ℕ) (e : End) → e ≡ Streams text → IsForgone e → X
+  streams_forgone text e is gone = absurd cc
+
+  same_errors : (s s2 : Stop) → AreOneEnd (Stops s) (Stops s2) → stop_of r ≡ s → stop_of r2 ≡ s2 → AreOneError r r2
+  same_errors s s2 one is is2 = subst (λ (x : Stop). AreOneEnd (Stops x) (Stops (stop_of r2))) (sym is) (subst (λ (x : Stop). AreOneEnd (Stops s) (Stops x)) (sym is2) one)
+
+  both : (e f : End) → AreOneEnd e f ⊎ (IsForgone e ⊎ IsForgone f) → IsStopped before now r e ⊎ IsStreamed of_input.0 before now r e → IsStopped before now2 r2 f ⊎ IsStreamed of_input.0 before now2 r2 f → AreOne
+  both e f (inr (inl gone)) (inl (s, is, said, same)) two = not_forgone r s e input_now reading is said gone
+  both e f (inr (inl gone)) (inr (text, is, line, quiet)) two = streams_forgone text e is gone
+  both e f (inr (inr gone)) one (inl (s, is, said, same)) = not_forgone r2 s f input_now2 reading2 is said gone
+  both e f (inr (inr gone)) one (inr (text, is, line, quiet)) = streams_forgone text f is gone
+  both e f (inl ends) (inl (s, is, said, same)) (inl (s2, is2, said2, same2)) = (
+    same_errors s s2 (subst (λ (x : End). AreOneEnd x (Stops s2)) is (subst (λ (x : End). AreOneEnd e x) is2 ends)) said said2,
+    ap (λ (o : Outs). o.err) (same ∙ sym same2),
+    ap (λ (o : Outs). o.out.bytes) (same ∙ sym same2),
+  )
+  both e f (inl ends) (inl (s, is, said, same)) (inr (text, is2, line, quiet)) = stops_alone s text (subst (λ (x : End). AreOneEnd x (Streams text)) is (subst (λ (x : End). AreOneEnd e x) is2 ends))
+  both e f (inl ends) (inr (text, is, line, quiet)) (inl (s2, is2, said2, same2)) = streams_alone text s2 (subst (λ (x : End). AreOneEnd x (Stops s2)) is (subst (λ (x : End). AreOneEnd e x) is2 ends))
+  both e f (inl ends) (inr (text, is, (line, took), quiet)) (inr (text2, is2, (line2, took2), quiet2)) =
+      let same : text ≡ text2 = one_text text text2 (subst (λ (x : End). AreOneEnd x (Streams text2)) is (subst (λ (x : End). AreOneEnd e x) is2 ends)) in
+      let lines = answered_lines (devices_of of_input.0) in
+      let had = λ (after : Told) (t : List (List ℕ) → List ℕ) (took : Appends before.out.bytes after.bytes (t lines)). subst (λ (o : Option (List ℕ)). Appends o after.bytes (t lines)) of_out.1 took in (
+        lines_one (devices_of of_input.0) r r2 line line2,
+        quiet ∙ sym quiet2,
+        one_grown of_out.0 now.out.bytes now2.out.bytes (text lines) (had now.out text took) (subst (λ (t : List (List ℕ) → List ℕ). Appends (Some of_out.0) now2.out.bytes (t lines)) (sym same) (had now2.out text2 took2)),
+      )
+
+  errors_one : ShowsPlan (λ a. program_plan a words) w sight input input_now before now (Err r) → ShowsPlan (λ a. program_plan a words) w sight input input_now2 before now2 (Err r2) → AreOne
+  errors_one (told, so, (cause, line, shows)) (told2, so2, (cause2, line2, shows2)) =
+      by
+      (subst (λ (o : Option Plan). IfSome o (λ p. ShowsEnd w p input input_now before now (Err r))) (have.is (record { input = told; sight = sight; cause = cause })) shows)
+      (subst (λ (o : Option Plan). IfSome o (λ p. ShowsEnd w p input input_now2 before now2 (Err r2))) (have.is (record { input = told2; sight = sight; cause = cause2 })) shows2)
+    where
+      by : ShowsEnd w (plan_of told cause) input input_now before now (Err r) → ShowsEnd w (plan_of told2 cause2) input input_now2 before now2 (Err r2) → AreOne
+      by (inr none) two = absurd (reading.memory none.0)
+      by (inl one) (inr none) = absurd (reading2.memory none.0)
+      by (inl (e, ends, shows)) (inl (f, ends2, shows2)) =
+          both e f (one_end e f told told2 cause cause2 so so2 ends ends2)
+          (shown_error input input_now before now r of_input.0 of_input.1 reading e shows) (shown_error input input_now2 before now2 r2 of_input.0 of_input.1 reading2 f shows2)
+
+pub planned_errors : PlansEndAlike → PlannedErrorsAreOne
+planned_errors alike words w sight input input_now input_now2 before now now2 r r2 have of_input of_out reading reading2 =
+    errors_one alike words w sight input input_now input_now2 before now now2 r r2 have of_input of_out reading reading2
