@@ -20,3 +20,4 @@ pub mod ComputedPlanRows
 pub mod ComputedKeyRows
 pub mod PlannedLemmas
 pub mod PlannedErrorLemmas
+pub mod ProgramRunLemmas

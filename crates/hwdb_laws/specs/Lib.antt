@@ -19,3 +19,4 @@ pub mod PlanRows
 pub mod KeyRows
 pub mod PlannedRuns
 pub mod PlannedErrors
+pub mod ProgramRuns

@@ -26,12 +26,15 @@
 //! | `KeyRows` | keys with their codes, and which of them words ask for |
 //!
 //! `rows` shows them. `planned` shows `PlannedRuns` and `PlannedErrors`: two runs with the same words are one, if the words have a plan.
+//! `program_runs` shows the same of runs of the program.
 #![tactic(auto)]
 
 mod planned;
+mod program_runs;
 mod rows;
 
 pub use planned::{planned_errors_are_one, planned_runs_are_one};
+pub use program_runs::{input_errors_are_so, jobs_are_one, words_end_in_one};
 pub use rows::{
     answer_rows, change_rows, check_rows, colour_rows, compare_rows, device_rows, error_rows,
     explain_rows, form_rows, key_rows, likely_rows, near_rows, over_text_rows, place_rows,
