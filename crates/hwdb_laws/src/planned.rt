@@ -1,7 +1,7 @@
 //! What two runs with the same words have in common, if the words have a plan. It follows from the laws of all plans.
 ghost use Rattle.hwdb_laws.specs.PlannedRuns.{PlannedDoneIsNoError, PlannedRunsAreOne};
 
-use hwdb_plan::done_is_one;
+use hwdb_plan::{done_is_one, over_is_no_more, over_is_over};
 
 /// Over one input, what words with a plan leave on both outputs is one, and so is the status, if no run of them ends with an error. If one run
 /// of them ends with none, another one ends with an error only for want of memory, or since an output or standard input failed.
@@ -10,4 +10,6 @@ pub fn planned_runs_are_one()
     ensures done { PlannedDoneIsNoError }
 {
     done_is_one();
+    over_is_over();
+    over_is_no_more();
 }

@@ -4,17 +4,27 @@ use Rattle.std.proofs.KnownBytes.{Appends-trans}
 use Rattle.std.proofs.Math.Seq.{take-append-add}
 use Rattle.std.proofs.lemmas.List.{take-append-le}
 use Rattle.std.specs.Io.KnownBytes.{Appends}
+use Rattle.std.specs.Result.{IsErrAnd}
 use Rattle.hwdb_spec.specs.Failures.{OneFailed}
 use Rattle.hwdb_spec.specs.declared.errors.ToolError.TheVariants as error
+use Rattle.hwdb_spec_commands.specs.Asked.{database_path}
 use Rattle.hwdb_spec_commands.specs.Runs.{HasTaken, Told, WasCut}
 use Rattle.hwdb_spec_commands.specs.Told.{Reads, Stop}
+use Rattle.hwdb_spec_commands.specs.Told.Stop.{NoDatabase}
+use Rattle.hwdb_spec_commands.specs.declared.form.Form.{Form}
 use Rattle.hwdb_spec_commands.specs.declared.refusals.Refusal.{Refusal}
 use Rattle.hwdb_spec_commands.specs.declared.refusals.Refusal.TheVariants as refusal
+use Rattle.hwdb_spec_commands.specs.declared.unread.Unread.{Unread}
+use Rattle.hwdb_plan.specs.Answers.{answer_plan, answered}
+use Rattle.hwdb_plan.specs.Asking.{if_there}
 use Rattle.hwdb_plan.specs.Ended.{FailedIn, Outs, Prints, Shows, TookBoth}
-use Rattle.hwdb_plan.specs.OverText.{said_after, with_after}
-use Rattle.hwdb_plan.specs.Plans.{End, Ends, Plan}
+use Rattle.hwdb_plan.specs.Folders.{Texts, texts_of_folders}
+use Rattle.hwdb_plan.specs.Lemmas.Folders.{value_stops, value_then}
+use Rattle.hwdb_plan.specs.OverText.{Basis, basis, basis_now, basis_of, from_basis, is_first, said_after, text_plan, with_after}
+use Rattle.hwdb_plan.specs.Plans.{End, Ends, Plan, ReachesValue, over}
 use Rattle.hwdb_plan.specs.Plans.End.{Answers, Lines, Replaces, Stops, Streams}
 use Rattle.hwdb_plan.specs.Plans.Plan.{Compile, Database, Decode, Done, Folder, Ignored, Input, Inspect, Names, Spell, Text}
+use Rattle.hwdb_plan.specs.Sides.{made_of, taken_from}
 use Rattle.hwdb_plan.specs.TextLaws.{MayFollow, SaidIsAfter, SaidIsNoMore, ShowsAfter, WasSaid}
 
 -- ---- ends
@@ -135,3 +145,61 @@ shows_after text (Lines lines) ib im before middle now first result may shows sa
 shows_after text (Streams of_lines) ib im before middle now first result may shows said =
     none_after text before middle now (λ o r. Shows (Streams of_lines) ib im before o r) first result may said shows
 shows_after text (Replaces folder bytes out status) ib im before middle now first result may shows said = absurd shows
+
+-- ---- what is answered from
+module _ (w : Reads) (root : List ℕ) (besides : Texts → List ℕ) {S V : Type 0} (texts : S → Texts) (of : V → Basis) where
+  abbrev Made : S → (List ℕ → Plan) → Plan
+  Made s = made_of (taken_from true (texts s).chosen (texts s).texts) (taken_from false (texts s).chosen (texts s).texts)
+
+  -- the text files can't be read
+  pub texts_stop : (r : Refusal) (result : Result V Refusal) → ReachesValue texts w (texts_of_folders root) (Err r) → IsErrAnd result (λ x. x ≡ r) → ReachesValue of w (basis_now root besides) result
+  texts_stop r result read is = value_stops w texts of (texts_of_folders root) (basis_of besides) r result read is
+
+  -- or not be compiled
+  pub made_stop : {Y : Type 0} (value : Y → List ℕ) (s : S) (r : Refusal) (result : Result V Refusal) → ReachesValue texts w (texts_of_folders root) (Ok s) → ReachesValue value w (Made s) (Err r)
+      → IsErrAnd result (λ x. x ≡ r) → ReachesValue of w (basis_now root besides) result
+  made_stop value s r result read not is =
+      value_then w texts of (texts_of_folders root) (basis_of besides) s result read (value_stops w value of (Made s) (λ d next. next (basis (besides (texts s)) d)) r result not is)
+
+  -- they are
+  pub basis_made : {Y : Type 0} (value : Y → List ℕ) (s : S) (y : Y) (v : V) → ReachesValue texts w (texts_of_folders root) (Ok s) → ReachesValue value w (Made s) (Ok y)
+      → of v ≡ basis (besides (texts s)) (value y) → ReachesValue of w (basis_now root besides) (Ok v)
+  basis_made value s y v read made is = λ next e ends.
+      read (λ t. basis_of besides t next) e (made (λ d. next (basis (besides (texts s)) d)) e (subst (λ (b : Basis). Ends w (next b) e) is ends))
+
+  -- the plan goes on over what they make
+  pub basis_goes : (v : V) → ReachesValue of w (basis_now root besides) (Ok v) → (p : Plan) (e : End) → Ends w (over (is_first root) (of v).database p) e
+      → Ends w (text_plan root besides p) (with_after (of v).besides e)
+  basis_goes v goes p e ends = goes (from_basis root p) (with_after (of v).besides e) (said_is_after (of v).besides w (over (is_first root) (of v).database p) e ends)
+
+-- ---- what a text may follow
+-- every end by none
+pub none_follows : (text : List ℕ) (e : End) → text ≡ [] → MayFollow text e
+none_follows text (Stops s) none = tt
+none_follows text (Answers status err out) none = tt
+none_follows text (Lines lines) none = none
+none_follows text (Streams of_lines) none = none
+none_follows text (Replaces folder bytes said status) none = none
+
+-- what the database that is asked gives devices is an answer, or an error
+module _ (text : List ℕ) (form : Form) (devices : List (List ℕ)) (w : Reads) (e : End) where
+  answered_follows : (path bytes : List ℕ) → Ends w (answered form devices path bytes) e → MayFollow text e
+  unfolding Ends
+  answered_follows path bytes (inl (t, is, ends)) = subst (MayFollow text) (sym ends) tt
+  answered_follows path bytes (inr (f, has, ends)) = subst (MayFollow text) (sym ends) tt
+
+  there_follows : (path : List ℕ) (none : Plan) (told : Result (Option (List ℕ)) Unread) → (Ends w none e → MayFollow text e) → Ends w (if_there path (answered form devices) none told) e → MayFollow text e
+  unfolding Ends
+  there_follows path none (Ok None) after ends = after ends
+  there_follows path none (Ok (Some bytes)) after ends = answered_follows path bytes ends
+  there_follows path none (Err why) after ends = subst (MayFollow text) (sym ends) tt
+
+  none_there : Ends w (Done (Stops NoDatabase)) e → MayFollow text e
+  unfolding Ends
+  none_there ends = subst (MayFollow text) (sym ends) tt
+
+  pub asked_follows : (root : List ℕ) → Ends w (answer_plan root form devices) e → MayFollow text e
+  unfolding Ends
+  asked_follows root =
+      there_follows (database_path false root) (Database (database_path true root) (if_there (database_path true root) (answered form devices) (Done (Stops NoDatabase)))) (w.database (database_path false root))
+      (there_follows (database_path true root) (Done (Stops NoDatabase)) (w.database (database_path true root)) none_there)
