@@ -114,7 +114,7 @@ NoneRows =
     (a : Around) → asked a [] ∷ asked a (codes "frob" ∷ []) ∷ asked a (codes "update" ∷ codes "--verbose" ∷ []) ∷ [] ≡ None ∷ None ∷ None ∷ []
 
 -- ---- `--text`
--- What the option makes of a plan below a root, if nothing is said besides: the text files of both folders are read and compiled as an
+-- What the option makes of a plan below a root, if nothing is said besides. The text files of both folders are read and compiled as an
 -- update would do it, and what is asked first has these bytes.
 abbrev pub over_text : (root first : List ℕ) → Plan → Plan
 over_text root first p =

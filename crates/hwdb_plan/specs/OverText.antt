@@ -1,4 +1,4 @@
--- `--text` as a function from plans to plans: the text files of both folders are compiled as an update would do it, and the plan goes on over
+-- `--text` as a function from plans to plans. The text files of both folders are compiled as an update would do it. Then the plan goes on over
 -- the files as they are, but that the database of /etc has these bytes. Nothing is written. Our choice.
 use Rattle.std.specs.Prelude.{◌++◌, ℕ, Bool, false, true, List, None, Option, Some}
 use Rattle.std.specs.Str.{bytes_eq}

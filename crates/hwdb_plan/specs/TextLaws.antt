@@ -26,7 +26,7 @@ MayFollow text (Lines lines) = text ≡ []
 MayFollow text (Streams of_lines) = text ≡ []
 MayFollow text (Replaces folder bytes said status) = text ≡ []
 
--- What is so after a run that had this result and left these outputs, if it was done: standard output took a text, or failed. An empty text
+-- A run had a first result, and left both outputs so. If it was done, a text was said to standard output then, or that failed. An empty text
 -- changes nothing.
 pub record WasSaid (text : List ℕ) (middle now : Outs) (first result : Result ℕ Refusal) : Type 0 where
   pub quiet : text ≡ [] → (now ≡ middle) × (result ≡ first)

@@ -144,8 +144,8 @@ abbrev pub files_plan : Around → (words : List Text) → Option Plan
 files_plan a words = found_plan a (matches_of hwdb_app words) (subcommand_of hwdb_app words)
 
 -- ---- `--text`
--- A command that takes `--text`: what is said of its other words if they don't fit that, as they name what is asked, or no database is.
--- And what it says besides, by the text files.
+-- A command that takes `--text`. Its other words may not fit that, since they name what is asked, or no database is: then this is said of
+-- them. And what it says besides, by the text files.
 pub record Taker : Type 0 where
   pub misuse : Option Text
   pub besides : Texts → List ℕ
