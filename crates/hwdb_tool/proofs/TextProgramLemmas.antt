@@ -5,7 +5,7 @@ use Rattle.std.specs.Prelude.{◌==◌, codes, filter, find, if◌then◌else◌
 use Rattle.std.specs.Result.{IsErrAnd}
 use Rattle.std.specs.Str.{bytes_eq}
 use Rattle.clap.specs.Simple.{matches_of, subcommand_of}
-use Rattle.clap.specs.Walk.{Row, Text}
+use Rattle.clap.specs.Walk.{Row, Text, first_of}
 use Rattle.hwdb_compile.specs.Lemmas.Files.{same_assignments}
 use Rattle.hwdb_compile.specs.Views.{ForFolders}
 use Rattle.hwdb_text.specs.Views.{bytes_in, choice_in}
@@ -41,7 +41,7 @@ use Rattle.hwdb_spec_program.specs.ProgramPlan.{Around, ShowsPlan, Taker, as_giv
 use Rattle.hwdb_spec_program.specs.Words.{AskFor}
 use Rattle.hwdb_plan.specs.Answers.{devices_plan, explain_plan}
 use Rattle.hwdb_plan.specs.Ended.{Outs, ShowsEnd}
-use Rattle.hwdb_plan.specs.Folders.{with_texts}
+use Rattle.hwdb_plan.specs.Folders.{Texts, with_texts}
 use Rattle.hwdb_plan.specs.Laws.{OverIsNoMore}
 use Rattle.hwdb_plan.specs.Lemmas.OverText.{asked_follows, none_follows, said_is_after, shows_after}
 use Rattle.hwdb_plan.specs.Lemmas.Sides.{in_words_stops}

@@ -1,4 +1,4 @@
-use Rattle.std.proofs.Common.{Bool, IfErr, IfOk, inl, subst, sym, ◌∙◌}
+use Rattle.std.proofs.Common.{Bool, IfErr, IfOk, inl, refl, subst, sym, ◌∙◌}
 use Rattle.hwdb_spec_program.specs.Program.{IsDoneFrom, OldOrDone, root_of}
 use Rattle.hwdb_spec_commands.specs.Runs.{World, files_by, told_by}
 use Rattle.hwdb_spec_commands.specs.SysfsAnswers.{sight_by}

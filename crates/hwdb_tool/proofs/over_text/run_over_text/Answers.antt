@@ -1,4 +1,4 @@
-use Rattle.std.proofs.Common.{List, Ok, Err, [], ap, inl, inr, length, refl, subst, sym, ◌∙◌, ◌≡◌, ◌≢◌, ◌≤◌, ℕ, true}
+use Rattle.std.proofs.Common.{List, Result, Ok, Err, [], ap, inl, inr, length, refl, subst, sym, ◌∙◌, ◌≡◌, ◌≢◌, ◌≤◌, ℕ, true}
 use Rattle.hwdb_spec.specs.Lemmas.Calls.{given_error}
 use Rattle.hwdb_spec_commands.specs.OverText.{text_besides, world_over}
 use Rattle.hwdb_spec_program.specs.Program.{IsTaskDone, root_of}
@@ -8,11 +8,12 @@ use Rattle.hwdb_spec_commands.specs.SysfsAnswers.{sight_by}
 use Rattle.hwdb_spec_program.specs.TaskRefusals.{IsNotDone, IsNotDoneFrom}
 use Rattle.hwdb_tool.proofs.FlushLemmas.{hands_on_twice}
 use Rattle.hwdb_tool.proofs.OverTextLemmas.{no_misuse, words_reason}
-use Rattle.hwdb_plan.specs.Ended.{outs}
+use Rattle.hwdb_plan.specs.Ended.{Outs, outs}
 use Rattle.hwdb_plan.specs.OverText.{Basis, basis, basis_now}
-use Rattle.hwdb_plan.specs.Plans.{ReachesValue}
+use Rattle.hwdb_plan.specs.Plans.{End, Ends, Plan, ReachesValue}
 use Rattle.hwdb_plan.specs.TextLaws.{WasSaid}
 use Rattle.hwdb_spec.specs.Texts.{max_file}
+use Rattle.hwdb_spec_commands.specs.declared.refusals.Refusal.{Refusal}
 use Rattle.hwdb_spec_program.specs.ProgramPlan.{ShowsPlan, program_plan}
 use Rattle.hwdb_tool.specs.TextPlans.{besides_for, plan_over}
 use Rattle.hwdb_tool.specs.declared.over_text.Basis.{Basis as Held}
