@@ -5,7 +5,8 @@ use Rattle.hex.specs.Hex.{encode_with}
 use Rattle.hwdb_spec.specs.Lines.{pieces}
 use Rattle.hwdb_spec.specs.Visible.{visible_after}
 use Rattle.hwdb_spec_commands.specs.DeviceTree.{last_after}
-use Rattle.hwdb_laws.specs.PlanRows.{CheckRows, DeviceRows, DiffRows, FreshRows, InputRows, KeysRows, ListRows, NamedRows, NearRows, NoneRows, QueryRows, StatusRows, SysfsRows}
+use Rattle.hwdb_laws.specs.PlanRows.{AfterRows, BesidesRows, CheckRows, DeviceRows, DiffRows, FreshRows, InputRows, KeysRows, ListRows, MisuseRows, NamedRows, NearRows, NoneRows, QueryRows, StatusRows, SysfsRows, TextRows}
+use Rattle.hwdb_plan.specs.OverText.{said_after}
 use Rattle.std.specs.Char.{encode_utf8}
 use Rattle.std.specs.Fmt.{digits}
 use Rattle.std.specs.Str.{chars, is_utf8}
@@ -50,6 +51,22 @@ keys_rows = λ a. refl
 pub none_rows : NoneRows
 unfolding pieces visible_after is_utf8 chars encode_utf8 encode_with digits bundle_met walked flags_fault walk_fault defaults_fault last_after
 none_rows = λ a. refl
+
+pub text_rows : TextRows
+unfolding pieces visible_after is_utf8 chars encode_utf8 encode_with digits bundle_met walked flags_fault walk_fault defaults_fault last_after
+text_rows = λ a. refl
+
+pub misuse_rows : MisuseRows
+unfolding pieces visible_after is_utf8 chars encode_utf8 encode_with digits bundle_met walked flags_fault walk_fault defaults_fault last_after
+misuse_rows = λ a. refl
+
+pub besides_rows : BesidesRows
+unfolding pieces visible_after is_utf8 chars encode_utf8 encode_with digits bundle_met walked flags_fault walk_fault defaults_fault last_after
+besides_rows = λ a. refl
+
+pub after_rows : AfterRows
+unfolding pieces visible_after is_utf8 chars encode_utf8 said_after
+after_rows = refl
 
 pub status_rows : StatusRows
 unfolding pieces visible_after is_utf8 chars encode_utf8 encode_with digits bundle_met walked flags_fault walk_fault defaults_fault last_after

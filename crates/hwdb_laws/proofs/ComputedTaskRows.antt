@@ -1,6 +1,7 @@
 -- The rows, computed.
-use Rattle.hwdb_laws.specs.TaskRows.{BesidesRows, DashRows, DiffRows, JobRows, NamedRows, OtherRows, OverRows, PlainRows, ReplacedRows, StatusRows, TakenRows, ToldRows}
+use Rattle.hwdb_laws.specs.TaskRows.{BesidesRows, DashRows, DiffRows, JobRows, NamedRows, OtherRows, OverRows, PlainRows, ReadRows, ReplacedRows, StatusRows, TakenRows, ToldRows}
 use Rattle.hex.specs.Hex.{encode_with}
+use Rattle.hwdb_plan.specs.Sides.{taken_from}
 use Rattle.hwdb_spec.specs.Answers.{effective_of, last_of_each, last_value}
 use Rattle.hwdb_spec.specs.Assignment.{ascending, assignment_cmp, position_cmp, put, put_all}
 use Rattle.hwdb_spec.specs.Explanations.{explained}
@@ -35,6 +36,10 @@ plain_rows = (refl, refl, refl, refl, refl)
 pub replaced_rows : ReplacedRows
 unfolding pieces numbered trimmed first_section sections_from behind records_from tokens_from token_at item_at items_from bracket_at classes nodes nodes_of depth depth_of explained first_of once last_up_to first_up_to some_up_to values_under values_below ascending put put_all assignment_cmp position_cmp matches some_ending byte_then piece_then visible_after is_utf8 chars encode_utf8 digits encode_with items_of members_of escaped_after escape_byte print_from answers effective_of last_of_each last_value with_database replacements
 replaced_rows = refl
+
+pub read_rows : ReadRows
+unfolding taken_from pieces numbered trimmed first_section sections_from behind records_from tokens_from token_at item_at items_from bracket_at classes nodes nodes_of depth depth_of explained first_of once last_up_to first_up_to some_up_to values_under values_below ascending put put_all assignment_cmp position_cmp matches some_ending byte_then piece_then visible_after is_utf8 chars encode_utf8 digits encode_with items_of members_of escaped_after escape_byte print_from answers effective_of last_of_each last_value with_database replacements
+read_rows = refl
 
 pub dash_rows : DashRows
 dash_rows word other words w o ws =

@@ -11,7 +11,8 @@ use Rattle.hwdb_spec.specs.Tree.{Tree}
 use Rattle.hwdb_spec_commands.specs.CheckedFiles.{files_in, folder_of}
 use Rattle.hwdb_spec_commands.specs.CommandLine.{hwdb_app}
 use Rattle.hwdb_spec_commands.specs.DeviceAsked.{device_form, device_list, missing_text, no_sysfs_text, unread_text}
-use Rattle.hwdb_spec_commands.specs.DeviceTree.{Sight, device_at, device_for, last_after, unread_for}
+use Rattle.hwdb_spec_commands.specs.DeviceFound.{places_meant, several_text}
+use Rattle.hwdb_spec_commands.specs.DeviceTree.{Sight, device_at, last_after, unread_for}
 use Rattle.hwdb_spec_commands.specs.declared.devices.DeviceForm.{DeviceForm}
 use Rattle.hwdb_spec_commands.specs.Given.{any_dash, is_dash}
 use Rattle.hwdb_spec_commands.specs.Jobs.{has_flag}
@@ -32,7 +33,7 @@ use Rattle.hwdb_spec_commands.specs.declared.unread.Unread.TheVariants as unread
 use Rattle.hwdb_plan.specs.Ask.{lone_answer}
 use Rattle.hwdb_plan.specs.Asking.{asked, if_read, named}
 use Rattle.hwdb_plan.specs.Check.{check_plan, said_of}
-use Rattle.hwdb_plan.specs.Device.{device_answer, device_plan, folder_of as folder_place, place_of, says, sysfs_of}
+use Rattle.hwdb_plan.specs.Device.{device_answer, device_plan, folder_of as folder_place, none_there, one_of, place_of, says, sysfs_of}
 use Rattle.hwdb_spec_program.specs.DeviceErrors.{asked_names}
 use Rattle.hwdb_plan.specs.Diff.{change_of, compared, diff_plan, once, sides_compared}
 use Rattle.hwdb_plan.specs.Dump.{text_form}
@@ -42,14 +43,16 @@ use Rattle.hwdb_plan.specs.Folders.{Texts, choose, if_listed, names_of, paths_of
 use Rattle.hwdb_plan.specs.Given.{given_at, given_or_asked}
 use Rattle.hwdb_plan.specs.GivenFolders.{files_at, files_for, if_few, if_folder, named_files}
 use Rattle.hwdb_plan.specs.Input.{IsInputTold}
-use Rattle.hwdb_plan.specs.Laws.{DoneIsOne}
+use Rattle.hwdb_plan.specs.Laws.{DoneIsOne, OverIsNoMore, OverIsOver}
 use Rattle.hwdb_plan.specs.Lemmas.Ends.{leaves_one, nothing_changed}
+use Rattle.hwdb_plan.specs.Lemmas.OverText.{said_is_after, said_is_no_more}
 use Rattle.hwdb_plan.specs.Near.{near_plan}
-use Rattle.hwdb_plan.specs.Plans.{End, Ends, Next, Plan}
+use Rattle.hwdb_plan.specs.OverText.{Basis, basis, basis_of, from_basis, if_fit, is_first, text_plan, with_after}
+use Rattle.hwdb_plan.specs.Plans.{End, Ends, Next, Plan, over, reads_over}
 use Rattle.hwdb_plan.specs.Plans.End.{Answers, Lines, Replaces, Stops, Streams}
 use Rattle.hwdb_plan.specs.Plans.Plan.{Done, Input}
 use Rattle.hwdb_spec_program.specs.GivenDatabases.{names_twice, twice_text}
-use Rattle.hwdb_spec_program.specs.ProgramPlan.{Around, ShowsPlan, before_last, files_plan, found_plan, has_text, limit_of, plans, program_plan, root_given, strict_given, update_plans, value_of, values_of}
+use Rattle.hwdb_spec_program.specs.ProgramPlan.{Around, ShowsPlan, Taker, as_given, before_last, files_plan, found_plan, limit_of, over_texts, plans, program_plan, root_given, strict_given, takers, update_plans, value_of, values_of}
 use Rattle.hwdb_laws.specs.PlannedRuns.{HavePlan, PlannedDoneIsNoError, PlannedRunsAreOne, Tells}
 use Rattle.hwdb_plan.specs.Sides.{bytes_if, file_bytes, made_at, made_of, plain_side, root_made, side, taken_from}
 use Rattle.hwdb_plan.specs.Status.{status_plan}
@@ -255,20 +258,25 @@ module _ (w : Reads) (e : End) (Lost : Type 0) where
         folder_moves (root ++ codes "/sys") (λ sys. folder_place sight cause (sys ++ codes "/devices") (λ devices. one sys)) (λ sys. folder_place sight other (sys ++ codes "/devices") (λ devices. two sys))
         (λ sys. folder_moves (sys ++ codes "/devices") (λ devices. one sys) (λ devices. two sys) (λ devices. step sys))
 
-    place_moves : (root given sys : List ℕ) (next : List ℕ → Plan) → Moves (place_of sight cause root given sys next) (place_of sight other root given sys next)
-    place_moves root given sys next = by (device_for sight root sys given) (unread_for sight root sys given)
+    place_moves : (root given sys : List ℕ) (next : List ℕ → Plan) → Moves (place_of sight cause asked_names root given sys next) (place_of sight other asked_names root given sys next)
+    place_moves root given sys next = by (places_meant sight asked_names root sys given)
       where
-        by : (o u : Option (List ℕ)) → Moves (option_map_or next o (option_map_or (λ path. says (unread_text path cause)) u (says (missing_text sight root sys given cause))))
-            (option_map_or next o (option_map_or (λ path. says (unread_text path other)) u (says (missing_text sight root sys given other))))
-        by None None ends = lost_at (Says (missing_text sight root sys given cause)) (lost (missing_text sight root sys given cause)) ends
-        by None (Some path) ends = lost_at (Says (unread_text path cause)) (lost (unread_text path cause)) ends
-        by (Some place) u ends = inl ends
+        none : (u : Option (List ℕ)) → Moves (option_map_or (λ path. says (unread_text path cause)) u (says (missing_text sight root sys given cause)))
+            (option_map_or (λ path. says (unread_text path other)) u (says (missing_text sight root sys given other)))
+        none None ends = lost_at (Says (missing_text sight root sys given cause)) (lost (missing_text sight root sys given cause)) ends
+        none (Some path) ends = lost_at (Says (unread_text path cause)) (lost (unread_text path cause)) ends
+
+        by : (places : List (List ℕ)) → Moves (one_of next (λ l. says (several_text sight asked_names sys given l)) (none_there sight cause root given sys) places)
+            (one_of next (λ l. says (several_text sight asked_names sys given l)) (none_there sight other root given sys) places)
+        by [] ends = none (unread_for sight root sys given) ends
+        by (place ∷ []) ends = inl ends
+        by (place ∷ two ∷ more) ends = inl ends
 
     device_moves : (root : List ℕ) (form : DeviceForm) (given : Option (List ℕ)) → Moves (device_plan sight cause asked_names root form given) (device_plan sight other asked_names root form given)
     device_moves root form None = let all = λ (sys : List ℕ). Done (Answers 0 [] (device_list sight asked_names sys)) in sysfs_moves root all all (λ sys ends. inl ends)
     device_moves root form (Some given) =
         let meant = λ (sys place : List ℕ). asked root (device_answer form (device_at sight asked_names sys place)) in
-        sysfs_moves root (λ sys. place_of sight cause root given sys (meant sys)) (λ sys. place_of sight other root given sys (meant sys)) (λ sys. place_moves root given sys (meant sys))
+        sysfs_moves root (λ sys. place_of sight cause asked_names root given sys (meant sys)) (λ sys. place_of sight other asked_names root given sys (meant sys)) (λ sys. place_moves root given sys (meant sys))
 
   -- ---- each command's row
   abbrev RowsMove : (rows others : List (Text × Plan)) → Type 0
@@ -400,12 +408,78 @@ module _ (w : Reads) (e : End) (Lost : Type 0) where
     found_moves top (Some f) p q is is2 =
         row_moves f.0 (plans first (root_given top f.1) (strict_given top f.1) f.1) (plans second (root_given top f.1) (strict_given top f.1) f.1) p q (rows_move (root_given top f.1) (strict_given top f.1) f.1) is is2
 
-    pub plan_moves : (words : List Text) (p q : Plan) → program_plan first words ≡ Some p → program_plan second words ≡ Some q → Moves p q
-    plan_moves words p q = by (has_text (subcommand_of hwdb_app words))
-      where
-        by : (b : Bool) → (if b then None else files_plan first words) ≡ Some p → (if b then None else files_plan second words) ≡ Some q → Moves p q
-        by true is is2 = absurd cc
-        by false is is2 = found_moves (matches_of hwdb_app words) (subcommand_of hwdb_app words) p q is is2
+-- ---- `--text`
+-- the plan over other bytes in a place ends in what the plan ends in over a file system with these bytes there
+abbrev pub OverLaws : Type 0
+OverLaws = OverIsOver × OverIsNoMore
+
+-- another end stops as this one does
+abbrev StopsAs : (e f : End) → Type 0
+StopsAs e f = (s : Stop) → f ≡ Stops s → e ≡ Stops s
+
+serves_as : (w x : Reads) (e f : End) (Lost : Type 0) → StopsAs e f → (one other : Result (List ℕ) Unread) → Serves w e Lost one other → Serves x f Lost one other
+serves_as w x e f Lost so one other (inl same) = inl same
+serves_as w x e f Lost so (Ok bytes) other (inr spare) = absurd spare
+serves_as w x e f Lost so (Err why) other (inr spare) = inr (λ is. spare (so (unread_stop (codes "standard input") why) is))
+
+served_as : (w x : Reads) (e f : End) (Lost : Type 0) → StopsAs e f → (cause cause2 : List ℕ) → AreServed w e Lost cause cause2 → AreServed x f Lost cause cause2
+served_as w x e f Lost so cause cause2 (inl same) = inl same
+served_as w x e f Lost so cause cause2 (inr lost) = inr (λ text is. lost text (so (Says text) is))
+
+module _ (laws : OverLaws) (w : Reads) (e : End) (Lost : Type 0) (p q : Plan) (step : (x : Reads) (f : End) → StopsAs e f → Moves x f Lost p q) where
+  basis_moves : (root : List ℕ) (b : Basis) → Moves w e Lost (from_basis root p b) (from_basis root q b)
+  basis_moves root b ends =
+      let is = is_first root in
+      let said = said_is_no_more b.besides w (over is b.database p) e ends in
+      let below = laws.1 is b.database w p said.0 said.1 in
+      ⊎_elim
+      (λ moved. inl (subst (λ (x : End). Ends w (from_basis root q b) x) (sym said.2) (said_is_after b.besides w (over is b.database q) said.0 (laws.0 is b.database w q said.0 moved))))
+      (λ lost. inr lost)
+      (step (reads_over is b.database w) said.0 (λ s stops. said.2 ∙ ap (with_after b.besides) stops) below)
+
+  text_plan_moves : (root : List ℕ) (besides : Texts → List ℕ) → Moves w e Lost (text_plan root besides p) (text_plan root besides q)
+  text_plan_moves root besides =
+      folders_move w e Lost root (λ texts. basis_of besides texts (from_basis root p)) (λ texts. basis_of besides texts (from_basis root q))
+      (λ texts. made_moves w e Lost (λ d. from_basis root p (basis (besides texts) d)) (λ d. from_basis root q (basis (besides texts) d)) (λ d. basis_moves root (basis (besides texts) d))
+      (taken_from true texts.chosen texts.texts) (taken_from false texts.chosen texts.texts))
+
+  fit_moves : (root : List ℕ) (misuse : Option Text) (besides : Texts → List ℕ) → Moves w e Lost (if_fit misuse (text_plan root besides p)) (if_fit misuse (text_plan root besides q))
+  fit_moves root None besides ends = text_plan_moves root besides ends
+  fit_moves root (Some text) besides ends = inl ends
+
+  taker_moves : (root : List ℕ) (t : Option (Text × Taker)) → Moves w e Lost (over_texts root t p) (over_texts root t q)
+  taker_moves root None ends = step w e (λ s is. is) ends
+  taker_moves root (Some t) ends = fit_moves root t.1.misuse t.1.besides ends
+
+  given_words_move : (top : List Row) (found : Option (Text × List Row)) → Moves w e Lost (as_given top found p) (as_given top found q)
+  given_words_move top None ends = step w e (λ s is. is) ends
+  given_words_move top (Some found) ends = by (has_flag (codes "text") found.1) ends
+    where
+      taken : Option (Text × Taker)
+      taken = find (λ t. bytes_eq t.0 found.0) (takers found.1)
+
+      by : (b : Bool) → Moves w e Lost (if b then over_texts (root_given top found.1) taken p else p) (if b then over_texts (root_given top found.1) taken q else q)
+      by true ends = taker_moves (root_given top found.1) taken ends
+      by false ends = step w e (λ s is. is) ends
+
+-- what a plan became
+pub mapped : (f : Plan → Plan) (o : Option Plan) (p : Plan) → option_map f o ≡ Some p → (x : Plan) × (o ≡ Some x) × (f x ≡ p)
+mapped f None p is = absurd cc
+mapped f (Some x) p is = (x, refl, one_some (f x) p is)
+
+pub plan_moves : OverLaws → (w : Reads) (e : End) (Lost : Type 0) (sight : Sight) (cause cause2 : List ℕ) (one other : Result (List ℕ) Unread) → Serves w e Lost one other → AreServed w e Lost cause cause2
+    → (words : List Text) (p q : Plan) → program_plan (record { input = one; sight = sight; cause = cause }) words ≡ Some p → program_plan (record { input = other; sight = sight; cause = cause2 }) words ≡ Some q
+    → Moves w e Lost p q
+plan_moves laws w e Lost sight cause cause2 one other serves causes words p q is is2 ends =
+    let top = matches_of hwdb_app words in
+    let found = subcommand_of hwdb_app words in
+    let a : Around = record { input = one; sight = sight; cause = cause } in
+    let b : Around = record { input = other; sight = sight; cause = cause2 } in
+    let x = mapped (as_given top found) (files_plan a words) p is in
+    let y = mapped (as_given top found) (files_plan b words) q is2 in
+    let moved = given_words_move laws w e Lost x.0 y.0
+    (λ r f so. found_moves r f Lost sight cause cause2 one other (serves_as w r e f Lost so one other serves) (served_as w r e f Lost so cause cause2 causes) top found x.0 y.0 x.1 y.1) top found in
+    subst (λ (z : Plan). Ends w z e ⊎ Lost) y.2 (moved (subst (λ (z : Plan). Ends w z e) (sym x.2) ends))
 
 -- ---- two runs
 -- both tell what standard input had, or one of them did without it
@@ -422,11 +496,11 @@ one_serves w input n m k (Err why) told2 tells is is2 = inl (λ g done. inr (λ 
 one_serves w input n m k (Ok x) (Err why) tells is is2 = inr (λ g done. inr (λ end. done (unread_stop (codes "standard input") why) end))
 one_serves w input n m k (Ok x) (Ok y) tells is is2 = inl (λ g done. inl (ap Ok (one_told input n m k x y tells is is2)))
 
-done_moves : (w : Reads) (g : End) → IsDone g → (sight : Sight) (cause cause2 : List ℕ) (one other : Result (List ℕ) Unread) → Serves w g ⊥ one other → (words : List Text) (p q : Plan)
+done_moves : OverLaws → (w : Reads) (g : End) → IsDone g → (sight : Sight) (cause cause2 : List ℕ) (one other : Result (List ℕ) Unread) → Serves w g ⊥ one other → (words : List Text) (p q : Plan)
     → program_plan (record { input = one; sight = sight; cause = cause }) words ≡ Some p → program_plan (record { input = other; sight = sight; cause = cause2 }) words ≡ Some q → Ends w p g → Ends w q g
-done_moves w g done sight cause cause2 one other serves words p q is is2 ends =
+done_moves laws w g done sight cause cause2 one other serves words p q is is2 ends =
     ⊎_elim (λ moved. moved) (λ none. absurd none)
-    (plan_moves w g ⊥ sight cause cause2 one other serves (inr (λ text end. done (Says text) end)) words p q is is2 ends)
+    (plan_moves laws w g ⊥ sight cause cause2 one other serves (inr (λ text end. done (Says text) end)) words p q is is2 ends)
 
 module _ (one_end : DoneIsOne) where
   done_is_one : (w : Reads) (p q : Plan) (e f : End) → IsDone e → IsDone f → ((g : End) → IsDone g → Ends w p g → Ends w q g) ⊎ ((g : End) → IsDone g → Ends w q g → Ends w p g)
@@ -453,7 +527,7 @@ shown_done (Lines lines) input input_now before now n shows = λ s is. cc
 shown_done (Streams text) input input_now before now n shows = λ s is. cc
 shown_done (Replaces folder bytes said status) input input_now before now n shows = λ s is. cc
 
-module _ (one_end : DoneIsOne) (words : List Text) (w : Reads) (sight : Sight) (input input_now input_now2 : Told) (before now now2 : Outs) (status status2 : ℕ) (have : HavePlan words)
+module _ (one_end : DoneIsOne) (laws : OverLaws) (words : List Text) (w : Reads) (sight : Sight) (input input_now input_now2 : Told) (before now now2 : Outs) (status status2 : ℕ) (have : HavePlan words)
     (of_input : Tells input) where
   abbrev Shown : (now : Outs) (input_now : Told) (status : ℕ) → Plan → Type 0
   Shown after input_after n p = ShowsEnd w p input input_after before after (Ok n)
@@ -480,8 +554,8 @@ module _ (one_end : DoneIsOne) (words : List Text) (w : Reads) (sight : Sight) (
       let first : Around = record { input = told; sight = sight; cause = cause } in
       let second : Around = record { input = told2; sight = sight; cause = cause2 } in
       ⊎_elim
-      (λ one. inl (λ g done. done_moves w g done sight cause cause2 told told2 (one g done) words (have.plan first) (have.plan second) (have.is first) (have.is second)))
-      (λ other. inr (λ g done. done_moves w g done sight cause2 cause told2 told (other g done) words (have.plan second) (have.plan first) (have.is second) (have.is first)))
+      (λ one. inl (λ g done. done_moves laws w g done sight cause cause2 told told2 (one g done) words (have.plan first) (have.plan second) (have.is first) (have.is second)))
+      (λ other. inr (λ g done. done_moves laws w g done sight cause2 cause told2 told (other g done) words (have.plan second) (have.plan first) (have.is second) (have.is first)))
       serves
 
   of_plan : (a : Around) (after : Outs) (input_after : Told) (n : ℕ) → IfSome (program_plan a words) (Shown after input_after n) → Shown after input_after n (have.plan a)
@@ -495,9 +569,9 @@ module _ (one_end : DoneIsOne) (words : List Text) (w : Reads) (sight : Sight) (
       (plans_are_one told told2 cause cause2 (one_serves w input input.failures input_now.failures input_now2.failures told told2 of_input so so2))
       (of_plan first now input_now status shows) (of_plan second now2 input_now2 status2 shows2)
 
-pub planned_runs : DoneIsOne → PlannedRunsAreOne
-planned_runs one_end words w sight input input_now input_now2 before now now2 status status2 have of_input of_err of_out =
-    runs_one one_end words w sight input input_now input_now2 before now now2 status status2 have of_input of_err of_out
+pub planned_runs : DoneIsOne → OverIsOver → OverIsNoMore → PlannedRunsAreOne
+planned_runs one_end is_over no_more words w sight input input_now input_now2 before now now2 status status2 have of_input of_err of_out =
+    runs_one one_end (is_over, no_more) words w sight input input_now input_now2 before now now2 status status2 have of_input of_err of_out
 
 -- ---- a run that is done, and one that ends with an error
 pub too_long : (n most : ℕ) → n ≤ most → most < n → ⊥
@@ -516,7 +590,7 @@ no_memory (refusal.At error path cause) is = absurd cc
 no_memory refusal.NoDatabase is = absurd cc
 no_memory (refusal.InWords text) is = absurd cc
 
-module _ (one_end : DoneIsOne) (words : List Text) (w : Reads) (sight : Sight) (input input_now input_now2 : Told) (before now now2 : Outs) (status : ℕ) (r : Refusal) (have : HavePlan words)
+module _ (one_end : DoneIsOne) (laws : OverLaws) (words : List Text) (w : Reads) (sight : Sight) (input input_now input_now2 : Told) (before now now2 : Outs) (status : ℕ) (r : Refusal) (have : HavePlan words)
     (of_input : Tells input) (unfailed : HasFailed input.failures input_now2.failures → ⊥) where
   abbrev Allowed : Type 0
   Allowed = (r ≡ refusal.Plain OutOfMemory) ⊎ (r ≡ refusal.Plain Write)
@@ -527,7 +601,7 @@ module _ (one_end : DoneIsOne) (words : List Text) (w : Reads) (sight : Sight) (
   -- the plan stops, so that the other run isn't done
   moved : (e : End) → IsDone e → (one other : Result (List ℕ) Unread) (cause cause2 : List ℕ) → Serves w e ⊥ one other → Ends w (plan_of one cause) e → Ends w (plan_of other cause2) e
   moved e done one other cause cause2 serves ends =
-      done_moves w e done sight cause cause2 one other serves words (plan_of one cause) (plan_of other cause2)
+      done_moves laws w e done sight cause cause2 one other serves words (plan_of one cause) (plan_of other cause2)
       (have.is (record { input = one; sight = sight; cause = cause })) (have.is (record { input = other; sight = sight; cause = cause2 })) ends
 
   stops : (e : End) (s : Stop) → IsDone e → (told told2 : Result (List ℕ) Unread) (cause cause2 : List ℕ) → IsInputTold input.bytes input.failures input_now.failures told
@@ -549,7 +623,7 @@ module _ (one_end : DoneIsOne) (words : List Text) (w : Reads) (sight : Sight) (
       ⊎_elim
       (λ ends3. absurd (done s (one_end w (plan_of (Ok x) cause2) e (Stops s) done (moved e done (Ok x) (Ok x) cause cause2 (inl refl) ends) ends3)))
       (λ memory. inl (no_memory r (says ∙ memory)))
-      (plan_moves w (Stops s) (s ≡ Plain OutOfMemory) sight cause2 cause2 (Err unread.Memory) (Ok x) (inr (λ end. cc)) (inl refl) words (have.plan first) (have.plan second) (have.is first) (have.is second) ends2)
+      (plan_moves laws w (Stops s) (s ≡ Plain OutOfMemory) sight cause2 cause2 (Err unread.Memory) (Ok x) (inr (λ end. cc)) (inl refl) words (have.plan first) (have.plan second) (have.is first) (have.is second) ends2)
 
   -- lines of standard input were answered, all of them in the one run
   streams : (text : List (List ℕ) → List ℕ) → Streamed text input.bytes before.out now.out → (x : Refusal) → r ≡ x → StreamStops text input input_now2 before.out now2.out x → Allowed
@@ -595,7 +669,7 @@ module _ (one_end : DoneIsOne) (words : List Text) (w : Reads) (sight : Sight) (
   ends_so e (Streams text) told told2 cause cause2 is is2 ends ends2 shows shows2 =
       let done = shown_done e input input_now before now status shows in
       let same = done_is_one one_end w (plan_of told cause) (plan_of told2 cause2) e (Streams text) done (λ s is. cc)
-      (plans_are_one one_end words w sight input input_now input_now2 before now now2 status status have of_input told told2 cause cause2 (one_serves w input input.failures input_now.failures input_now2.failures told told2 of_input is is2)) ends ends2 in
+      (plans_are_one one_end laws words w sight input input_now input_now2 before now now2 status status have of_input told told2 cause cause2 (one_serves w input input.failures input_now.failures input_now2.failures told told2 of_input is is2)) ends ends2 in
       shown_alike (Streams text) (subst (λ (x : End). Shows x input input_now before now (Ok status)) same shows) shows2
   ends_so e (Replaces folder bytes said n) told told2 cause cause2 is is2 ends ends2 shows shows2 = absurd shows2
 
@@ -612,6 +686,6 @@ module _ (one_end : DoneIsOne) (words : List Text) (w : Reads) (sight : Sight) (
       (subst (λ (o : Option Plan). IfSome o (λ p. ShowsEnd w p input input_now before now (Ok status))) (have.is (record { input = told; sight = sight; cause = cause })) shows)
       (subst (λ (o : Option Plan). IfSome o (λ p. ShowsEnd w p input input_now2 before now2 (Err r))) (have.is (record { input = told2; sight = sight; cause = cause2 })) shows2)
 
-pub planned_done : DoneIsOne → PlannedDoneIsNoError
-planned_done one_end words w sight input input_now input_now2 before now now2 status r have of_input unfailed =
-    no_error_then one_end words w sight input input_now input_now2 before now now2 status r have of_input unfailed
+pub planned_done : DoneIsOne → OverIsOver → OverIsNoMore → PlannedDoneIsNoError
+planned_done one_end is_over no_more words w sight input input_now input_now2 before now now2 status r have of_input unfailed =
+    no_error_then one_end (is_over, no_more) words w sight input input_now input_now2 before now now2 status r have of_input unfailed

@@ -9,7 +9,7 @@ use Rattle.hwdb_spec_commands.specs.CommandLine.{hwdb_app}
 use Rattle.hwdb_spec_commands.specs.DeviceTree.{Sight}
 use Rattle.hwdb_spec_commands.specs.NearAsked.{near_form}
 use Rattle.hwdb_spec_commands.specs.SysfsAnswers.{nothing_there, seen}
-use Rattle.hwdb_spec_commands.specs.Told.Stop.{Over, Says}
+use Rattle.hwdb_spec_commands.specs.Told.Stop.{NoDatabase, Over, Says}
 use Rattle.hwdb_spec_commands.specs.declared.devices.DeviceForm.TheVariants.{Json, Lookups, Pattern}
 use Rattle.hwdb_spec_commands.specs.declared.unread.Unread.TheVariants as unread
 use Rattle.hwdb_spec_program.specs.DeviceErrors.{asked_names}
@@ -21,12 +21,15 @@ use Rattle.hwdb_plan.specs.Check.{check_plan, said_of}
 use Rattle.hwdb_plan.specs.Device.{device_plan}
 use Rattle.hwdb_plan.specs.Diff.{change_of, diff_plan}
 use Rattle.hwdb_plan.specs.Dump.{dump_plan}
+use Rattle.hwdb_plan.specs.Folders.{texts_of_folders}
 use Rattle.hwdb_plan.specs.Keys.{keys_plan}
 use Rattle.hwdb_plan.specs.List.{list_plan}
 use Rattle.hwdb_plan.specs.Near.{near_plan}
-use Rattle.hwdb_plan.specs.Plans.{Plan}
-use Rattle.hwdb_plan.specs.Plans.End.{Stops}
-use Rattle.hwdb_plan.specs.Plans.Plan.{Done}
+use Rattle.hwdb_plan.specs.OverText.{replaced_of, said_after}
+use Rattle.hwdb_plan.specs.Plans.{Plan, over}
+use Rattle.hwdb_plan.specs.Plans.End.{Answers, Stops}
+use Rattle.hwdb_plan.specs.Plans.Plan.{Database, Done}
+use Rattle.hwdb_plan.specs.Sides.{made_of, taken_from}
 use Rattle.hwdb_plan.specs.Status.{status_plan}
 use Rattle.hwdb_plan.specs.Test.{test_plan}
 use Rattle.hwdb_plan.specs.Verify.{verify_plan}
@@ -105,11 +108,58 @@ KeysRows =
     → asked a (codes "keys" ∷ codes "super" ∷ codes "--json" ∷ codes "f1" ∷ []) ∷ asked a (codes "-r/r" ∷ codes "keys" ∷ []) ∷ []
     ≡ Some (keys_plan true (codes "super" ∷ codes "f1" ∷ [])) ∷ Some (keys_plan false []) ∷ []
 
--- Words that ask for no command, for an update, or for `--text`.
+-- Words that ask for no command, or for an update.
 abbrev pub NoneRows : Type 0
 NoneRows =
-    (a : Around) → asked a [] ∷ asked a (codes "frob" ∷ []) ∷ asked a (codes "update" ∷ codes "--verbose" ∷ []) ∷ asked a (codes "verify" ∷ codes "--text" ∷ []) ∷ [] ≡ None ∷ None ∷ None ∷ None ∷ []
+    (a : Around) → asked a [] ∷ asked a (codes "frob" ∷ []) ∷ asked a (codes "update" ∷ codes "--verbose" ∷ []) ∷ [] ≡ None ∷ None ∷ None ∷ []
 
+-- ---- `--text`
+-- What the option makes of a plan below a root, if nothing is said besides. The text files of both folders are read and compiled as an
+-- update would do it, and what is asked first has these bytes.
+abbrev pub over_text : (root first : List ℕ) → Plan → Plan
+over_text root first p =
+    texts_of_folders root
+    (λ texts. made_of (taken_from true texts.chosen texts.texts) (taken_from false texts.chosen texts.texts) (λ made. said_after [] (over (λ path. bytes_eq path first) made p)))
+
+-- The root may be given before the command's word.
+abbrev pub TextRows : Type 0
+TextRows =
+    (a : Around) →
+    let etc = over_text [] (codes "/etc/udev/hwdb.bin") in
+    asked a (codes "query" ∷ codes "--text" ∷ codes "a" ∷ []) ∷ asked a (codes "-r/r" ∷ codes "query" ∷ codes "--text" ∷ codes "-" ∷ []) ∷ asked a (codes "list" ∷ codes "--text" ∷ codes "a" ∷ [])
+    ∷ asked a (codes "near" ∷ codes "--text" ∷ codes "a" ∷ []) ∷ asked a (codes "device" ∷ codes "--text" ∷ codes "event3" ∷ []) ∷ asked a (codes "test" ∷ codes "--text" ∷ codes "f" ∷ [])
+    ∷ asked a (codes "verify" ∷ codes "--text" ∷ []) ∷ asked a (codes "dump" ∷ codes "--text" ∷ codes "--root=/r" ∷ []) ∷ asked a (codes "explain" ∷ codes "--text" ∷ codes "-" ∷ []) ∷ []
+    ≡ Some (etc (query_plan [] false (codes "a" ∷ []))) ∷ Some (over_text (codes "/r") (codes "/r/etc/udev/hwdb.bin") (query_plan (codes "/r") false (codes "-" ∷ []))) ∷ Some (etc (list_plan [] false (codes "a") None None))
+    ∷ Some (etc (near_plan a.input [] [] (near_form false (codes "a") 3))) ∷ Some (etc (device_plan a.sight a.cause asked_names [] Lookups (Some (codes "event3")))) ∷ Some (etc (test_plan a.input (codes "f" ∷ []) None [] false))
+    ∷ Some (etc (verify_plan None [])) ∷ Some (over_text (codes "/r") (codes "/r/etc/udev/hwdb.bin") (dump_plan None (codes "/r"))) ∷ Some (etc (explain_plan [] false (codes "-"))) ∷ []
+
+-- Words that name another source, or a list of devices: nothing is asked, and this is said of them.
+abbrev pub MisuseRows : Type 0
+MisuseRows =
+    (a : Around) →
+    let said = λ (text : List ℕ). Some (Done (Stops (Says text))) in
+    let file = codes "--text and FILE are two sources: leave out one of them" in
+    let database = codes "--text and DATABASE are two sources: leave out one of them" in
+    asked a (codes "near" ∷ codes "--text" ∷ codes "f" ∷ codes "a" ∷ []) ∷ asked a (codes "device" ∷ codes "--text" ∷ []) ∷ asked a (codes "test" ∷ codes "--database=d" ∷ codes "--text" ∷ codes "f" ∷ [])
+    ∷ asked a (codes "verify" ∷ codes "--text" ∷ codes "d" ∷ []) ∷ asked a (codes "dump" ∷ codes "-" ∷ codes "--text" ∷ []) ∷ []
+    ≡ said file ∷ said (codes "--text needs DEVICE: a list of devices asks no database") ∷ said (codes "--text and --database are two sources: leave out one of them") ∷ said database ∷ said database ∷ []
+
+-- What `explain` says besides of a device comes after what the database gives it.
+abbrev pub BesidesRows : Type 0
+BesidesRows =
+    (a : Around)
+    → asked a (codes "explain" ∷ codes "--text" ∷ codes "--json" ∷ codes "a" ∷ []) ∷ []
+    ≡ Some (texts_of_folders []
+    (λ texts. made_of (taken_from true texts.chosen texts.texts) (taken_from false texts.chosen texts.texts)
+    (λ made. said_after (replaced_of true (codes "a") texts) (over (λ path. bytes_eq path (codes "/etc/udev/hwdb.bin")) made (explain_plan [] true (codes "a")))))) ∷ []
+
+-- An answer alone is followed by what is said after it.
+abbrev pub AfterRows : Type 0
+AfterRows =
+    said_after (codes "b") (Done (Answers 1 (codes "e") (codes "a"))) ∷ said_after (codes "b") (Done (Stops NoDatabase)) ∷ said_after (codes "b") (Database (codes "d") (λ found. Done (Answers 0 [] []))) ∷ []
+    ≡ Done (Answers 1 (codes "e") (codes "ab")) ∷ Done (Stops NoDatabase) ∷ Database (codes "d") (λ found. Done (Answers 0 [] (codes "b"))) ∷ []
+
+-- ---- statuses
 -- The status of an error, as EXIT STATUS of hwdb(8) has it: 2 of `diff`, whose 1 says that something changed.
 abbrev pub StatusRows : Type 0
 StatusRows =

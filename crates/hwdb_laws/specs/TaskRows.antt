@@ -2,6 +2,8 @@
 -- them; the status of an error; and what `explain --text` says besides.
 use Rattle.std.specs.Prelude.{◌+◌, ◌++◌, ◌∷◌, ◌≡◌, Bool, List, None, Option, Some, String, Vec, [], codes, false, length, map, string_bytes, true, ℕ}
 use Rattle.std.specs.declared.alloc.Global.{Global}
+use Rattle.hwdb_plan.specs.Folders.{Texts, with_texts}
+use Rattle.hwdb_plan.specs.OverText.{replaced_of}
 use Rattle.hwdb_spec.specs.Folders.{Source}
 use Rattle.hwdb_spec_commands.specs.OverText.{text_besides, with_out, world_over}
 use Rattle.hwdb_spec_program.specs.Program.{asks_text, looks_below_root, reads_input, root_of, skips, streams}
@@ -92,6 +94,20 @@ ReplacedRows =
     ∷ (codes "{\"device\":\"a\",\"replaced\":{\"key\":\"K\",\"value\":\"1\",\"path\":\"/etc/udev/hwdb.d/1.hwdb\",\"line\":2,\"pattern\":\"a\"},"
     ++ codes "\"by\":{\"key\":\"K\",\"value\":\"2\",\"path\":\"/etc/udev/hwdb.d/2.hwdb\",\"line\":2,\"pattern\":\"a\"}}\n{\"masked\":\"/usr/lib/udev/hwdb.d/1.hwdb\"}\n")
     ∷ [] ∷ []
+
+-- the same files as they are read: of the one that isn't, the name alone is known
+abbrev pub as_read : Texts
+as_read =
+    with_texts (codes "1.hwdb" ∷ [])
+    (record { from_etc = true; name = codes "1.hwdb"; priority = 1 } ∷ record { from_etc = true; name = codes "2.hwdb"; priority = 2 } ∷ [])
+    (codes "a\n K=1\n" ∷ codes "a\n K=2\n" ∷ [])
+
+-- so says the plan
+abbrev pub ReadRows : Type 0
+ReadRows =
+    replaced_of false (codes "a") as_read ∷ replaced_of true (codes "b") as_read ∷ []
+    ≡ codes "replaced K=1\n    /etc/udev/hwdb.d/1.hwdb:2  a\n  by K=2\n    /etc/udev/hwdb.d/2.hwdb:2  a\nmasked: /usr/lib/udev/hwdb.d/1.hwdb\n"
+    ∷ codes "{\"masked\":\"/usr/lib/udev/hwdb.d/1.hwdb\"}\n" ∷ []
 
 -- It is said of one device, and not of those that standard input names. No other task says anything besides.
 abbrev pub BesidesRows : Type 0

@@ -2,7 +2,7 @@
 ghost use Rattle.hwdb_laws.specs.PlannedErrors.{PlannedErrorsAreOne};
 ghost use Rattle.hwdb_laws.specs.PlannedRuns.{PlannedDoneIsNoError, PlannedRunsAreOne};
 
-use hwdb_plan::{done_is_one, plans_end_alike};
+use hwdb_plan::{done_is_one, over_is_no_more, over_is_over, plans_end_alike};
 
 /// Over one input, what words with a plan leave on both outputs is one, and so is the status, if no run of them ends with an error. If one run
 /// of them ends with none, another one ends with an error only for want of memory, or since an output or standard input failed.
@@ -11,6 +11,8 @@ pub fn planned_runs_are_one()
     ensures done { PlannedDoneIsNoError }
 {
     done_is_one();
+    over_is_over();
+    over_is_no_more();
 }
 
 /// Over one input, two runs of words with a plan that end with an error end with one, and both outputs have the same then. That is so of errors
@@ -20,4 +22,6 @@ pub fn planned_errors_are_one()
     ensures { PlannedErrorsAreOne }
 {
     plans_end_alike();
+    over_is_over();
+    over_is_no_more();
 }

@@ -246,6 +246,7 @@ pub fn task_rows()
     ensures status { TaskRows.StatusRows }
     ensures jobs { TaskRows.JobRows }
     ensures replaced { TaskRows.ReplacedRows }
+    ensures read { TaskRows.ReadRows }
     ensures besides { TaskRows.BesidesRows }
     ensures told { TaskRows.ToldRows }
     ensures over { TaskRows.OverRows }
@@ -308,6 +309,10 @@ pub fn plan_rows()
     ensures fresh { PlanRows.FreshRows }
     ensures keys { PlanRows.KeysRows }
     ensures none { PlanRows.NoneRows }
+    ensures text { PlanRows.TextRows }
+    ensures misuse { PlanRows.MisuseRows }
+    ensures besides { PlanRows.BesidesRows }
+    ensures after { PlanRows.AfterRows }
     ensures status { PlanRows.StatusRows }
     ensures input { PlanRows.InputRows }
     ensures sysfs { PlanRows.SysfsRows }

@@ -13,3 +13,4 @@ pub mod Update
 pub mod Sides
 pub mod Diff
 pub mod Status
+pub mod OverText

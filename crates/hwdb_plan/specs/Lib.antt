@@ -23,5 +23,7 @@ pub mod Readable
 pub mod Update
 pub mod Status
 pub mod Keys
+pub mod OverText
+pub mod TextLaws
 pub mod Putting
 pub mod Lemmas

@@ -1,5 +1,6 @@
 //! Laws of plans. Each function does nothing: its contract is the law.
 ghost use Rattle.hwdb_plan.specs.Laws.{AnswersLeaveAll, DoneIsOne, OnlyAskedMatters, OverIsNoMore, OverIsOver, PlansEndAlike};
+ghost use Rattle.hwdb_plan.specs.TextLaws.{SaidIsAfter, SaidIsNoMore, ShowsAfter};
 
 use hwdb_query::positions_are_read_back;
 use hwdb_reader::law_one_tree;
@@ -43,6 +44,24 @@ pub fn over_is_over()
 #[tactic(auto, using(crate::proofs::LawLemmas::over_is_no_more))]
 pub fn over_is_no_more()
     ensures { OverIsNoMore }
+{}
+
+/// A text after the rest is after what the plan ends in.
+#[tactic(auto, using(crate::specs::Lemmas::OverText::said_is_after))]
+pub fn said_is_after()
+    ensures { SaidIsAfter }
+{}
+
+/// And the plan ends in nothing else.
+#[tactic(auto, using(crate::specs::Lemmas::OverText::said_is_no_more))]
+pub fn said_is_no_more()
+    ensures { SaidIsNoMore }
+{}
+
+/// Who shows what a plan ends in, and then says the text, shows that.
+#[tactic(auto, using(crate::specs::Lemmas::OverText::shows_after))]
+pub fn shows_after()
+    ensures { ShowsAfter }
 {}
 
 /// What a plan doesn't ask doesn't matter.

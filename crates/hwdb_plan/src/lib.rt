@@ -22,6 +22,8 @@
 //! | `Diff` | that of `diff`, over two sides |
 //! | `Status` | that of `status`, and the test that two maps say the same |
 //! | `Keys` | that of `keys`, which asks nothing |
+//! | `OverText` | `--text`, as a function from plans to plans |
+//! | `TextLaws` | what is so of plans that say a text after the rest |
 //! | `Readable` | the text files of both folders, of which some may be left out, as the front of a plan |
 //! | `Update`, `Put` | the plans of `update`, and their end |
 //! | `Putting` | what a run leaves that puts a database in its place |
@@ -33,5 +35,5 @@ mod laws;
 
 pub use laws::{
     answers_leave_all, done_is_one, only_asked_matters, over_is_no_more, over_is_over,
-    plans_end_alike,
+    plans_end_alike, said_is_after, said_is_no_more, shows_after,
 };

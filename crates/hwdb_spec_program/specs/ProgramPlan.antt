@@ -1,18 +1,20 @@
--- The plan of a run, as its words compute it. Which words each command has is in `Jobs`. `update` has a plan here with `--check` alone,
--- and no command has its own with `--text`. `query` is systemd-hwdb(8)'s; the rest is our choice.
+-- The plan of a run, as its words compute it. Which words each command has is in `Jobs`. `update` has a plan here with `--check` alone.
+-- `query` is systemd-hwdb(8)'s; the rest is our choice.
 use Rattle.clap.specs.Faults.{fault_of}
 use Rattle.clap.specs.Simple.{matches_of, subcommand_of}
 use Rattle.clap.specs.Walk.{Row, Text, all_of, first_of, one_of}
 use Rattle.std.specs.Option.{option_or, unwrap_or}
-use Rattle.std.specs.Prelude.{◌-◌, ◌≡◌, ◌⊎◌, ◌||◌, ◌∷◌, ℕ, Bool, false, List, [], None, Option, Some, Result, Ok, Err, IfSome, codes, find, if◌then◌else◌, length, option_map, take, true}
+use Rattle.std.specs.Prelude.{◌-◌, ◌==◌, ◌≡◌, ◌⊎◌, ◌||◌, ◌∷◌, ℕ, Bool, false, List, [], None, Option, Some, Result, Ok, Err, IfSome, codes, find, if◌then◌else◌, is_some, length, not, option_map, take, true}
 use Rattle.std.specs.Str.{bytes_eq}
 use Rattle.std.specs.Str.Parse.{digits_value, without_leading_plus}
 use Rattle.hwdb_spec_commands.specs.Checks.{format_of}
 use Rattle.hwdb_spec_commands.specs.CommandLine.{hwdb_app}
 use Rattle.hwdb_spec_commands.specs.DeviceAsked.{device_form}
 use Rattle.hwdb_spec_commands.specs.DeviceTree.{Sight, last_after}
+use Rattle.hwdb_spec_commands.specs.Given.{is_dash}
 use Rattle.hwdb_spec_commands.specs.Jobs.{has_flag}
 use Rattle.hwdb_spec_commands.specs.NearAsked.{near_form, near_limit}
+use Rattle.hwdb_spec_commands.specs.OverText.{said_besides, text_if}
 use Rattle.hwdb_spec.specs.declared.errors.ToolError.TheVariants.{Memory, Write}
 use Rattle.hwdb_spec_commands.specs.Runs.{Told, World}
 use Rattle.hwdb_spec_commands.specs.Told.{Reads}
@@ -30,10 +32,12 @@ use Rattle.hwdb_plan.specs.Diff.{change_of, diff_plan, once}
 use Rattle.hwdb_plan.specs.Dump.{text_form}
 use Rattle.hwdb_plan.specs.Ended.{Outs, ShowsEnd, outs, outs_of}
 use Rattle.hwdb_plan.specs.Files.{OfInput}
+use Rattle.hwdb_plan.specs.Folders.{Texts}
 use Rattle.hwdb_plan.specs.Given.{given_at, given_or_asked}
 use Rattle.hwdb_plan.specs.Keys.{keys_plan}
 use Rattle.hwdb_plan.specs.List.{list_plan}
 use Rattle.hwdb_plan.specs.Near.{near_plan}
+use Rattle.hwdb_plan.specs.OverText.{if_fit, replaced_of, text_plan}
 use Rattle.hwdb_plan.specs.Plans.{Plan}
 use Rattle.hwdb_plan.specs.Status.{status_plan}
 use Rattle.hwdb_plan.specs.Test.{test_plan}
@@ -139,14 +143,50 @@ found_plan a top (Some found) = command_plan a (root_given top found.1) (strict_
 abbrev pub files_plan : Around → (words : List Text) → Option Plan
 files_plan a words = found_plan a (matches_of hwdb_app words) (subcommand_of hwdb_app words)
 
--- the command has `--text`
-abbrev pub has_text : Option (Text × List Row) → Bool
-has_text None = false
-has_text (Some found) = has_flag (codes "text") found.1
+-- ---- `--text`
+-- A command that takes `--text`. Its other words may not fit that, since they name what is asked, or no database is: then this is said of
+-- them. And what it says besides, by the text files.
+pub record Taker : Type 0 where
+  pub misuse : Option Text
+  pub besides : Texts → List ℕ
+
+-- one that says this of such words, and nothing besides
+abbrev pub taker : (misuse : Option Text) → Taker
+taker misuse = record { misuse = misuse; besides = λ texts. [] }
+
+-- `explain`: it says what the text files have and the database has not, unless standard input names devices
+abbrev pub explain_taker : List Row → Taker
+explain_taker rows =
+    let device = value_of (codes "MODALIAS") rows in
+    record { misuse = None; besides = λ texts. said_besides (is_dash device) (replaced_of (has_flag (codes "json") rows) device texts) }
+
+-- each command that takes `--text`, by its word
+abbrev pub takers : List Row → List (Text × Taker)
+takers rows =
+    (codes "query", taker None)
+    ∷ (codes "explain", explain_taker rows)
+    ∷ (codes "list", taker None)
+    ∷ (codes "near", taker (text_if (not (length (before_last (values_of (codes "MODALIAS") rows)) == 0)) (codes "--text and FILE are two sources: leave out one of them")))
+    ∷ (codes "device", taker (text_if (not (is_some (first_of (codes "DEVICE") rows))) (codes "--text needs DEVICE: a list of devices asks no database")))
+    ∷ (codes "test", taker (text_if (is_some (first_of (codes "database") rows)) (codes "--text and --database are two sources: leave out one of them")))
+    ∷ (codes "verify", taker (text_if (is_some (first_of (codes "DATABASE") rows)) (codes "--text and DATABASE are two sources: leave out one of them")))
+    ∷ (codes "dump", taker (text_if (is_some (first_of (codes "DATABASE") rows)) (codes "--text and DATABASE are two sources: leave out one of them")))
+    ∷ []
+
+-- the plan of a command over the text files, if it takes `--text`
+abbrev pub over_texts : (root : List ℕ) → Option (Text × Taker) → Plan → Plan
+over_texts root None p = p
+over_texts root (Some t) p = if_fit t.1.misuse (text_plan root t.1.besides p)
+
+-- the same if `--text` is given
+abbrev pub as_given : (top : List Row) → Option (Text × List Row) → Plan → Plan
+as_given top None p = p
+as_given top (Some found) p =
+    if has_flag (codes "text") found.1 then over_texts (root_given top found.1) (find (λ t. bytes_eq t.0 found.0) (takers found.1)) p else p
 
 -- the plan of a run with these words
 abbrev pub program_plan : Around → (words : List Text) → Option Plan
-program_plan a words = if has_text (subcommand_of hwdb_app words) then None else files_plan a words
+program_plan a words = option_map (as_given (matches_of hwdb_app words) (subcommand_of hwdb_app words)) (files_plan a words)
 
 -- ---- runs
 -- so of what a run is told beside its files

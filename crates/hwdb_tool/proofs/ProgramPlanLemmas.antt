@@ -24,7 +24,7 @@ use Rattle.hwdb_spec_commands.specs.declared.unread.Unread.TheVariants as unread
 use Rattle.hwdb_spec_program.specs.DeviceErrors.{asked_names}
 use Rattle.hwdb_spec_program.specs.GivenDatabases.{names_twice, twice_text}
 use Rattle.hwdb_spec_program.specs.Program.{root_of}
-use Rattle.hwdb_spec_program.specs.ProgramPlan.{Around, ShowsPlan, before_last, command_plan, files_plan, found_plan, has_text, limit_of, program_plan, root_given, strict_given, value_of, values_of}
+use Rattle.hwdb_spec_program.specs.ProgramPlan.{Around, ShowsPlan, before_last, command_plan, files_plan, found_plan, limit_of, root_given, strict_given, value_of, values_of}
 use Rattle.hwdb_spec_program.specs.Words.{AskFor}
 use Rattle.hwdb_plan.specs.Answers.{explain_plan, query_plan}
 use Rattle.hwdb_plan.specs.Ask.{ask_plan, lone_answer}
@@ -67,16 +67,16 @@ taken : (files : List Text) (device : Text) → take (length files) (files ++ de
 taken [] device = refl
 taken (file ∷ more) device = ap (λ (l : List Text). file ∷ l) (taken more device)
 
-before_is : (files : List Text) (device : Text) → before_last (files ++ device ∷ []) ≡ files
+pub before_is : (files : List Text) (device : Text) → before_last (files ++ device ∷ []) ≡ files
 before_is files device =
     let long = one_longer files device in
     let short : length (files ++ device ∷ []) - 1 ≡ length files = omega (arith, long) in
     ap (λ (n : ℕ). take n (files ++ device ∷ [])) short ∙ taken files device
 
-some_values : (id : Text) (rows : List Row) (texts : List Text) → Some texts ≡ all_of id rows → texts ≡ values_of id rows
+pub some_values : (id : Text) (rows : List Row) (texts : List Text) → Some texts ≡ all_of id rows → texts ≡ values_of id rows
 some_values id rows texts are = ap (λ (o : Option (List Text)). unwrap_or o []) are
 
-some_value : (id : Text) (rows : List Row) (text : Text) → Some text ≡ first_of id rows → text ≡ value_of id rows
+pub some_value : (id : Text) (rows : List Row) (text : Text) → Some text ≡ first_of id rows → text ≡ value_of id rows
 some_value id rows text is = ap (λ (o : Option Text). unwrap_or o []) is
 
 limit_is : (rows : List Row) (limit : Option ℕ) → IsLimit (one_of (codes "limit") rows) limit → limit ≡ limit_of rows
@@ -91,7 +91,7 @@ same_default : (o : Option (List ℕ)) → option_map_or (λ (x : List ℕ). x) 
 same_default None = refl
 same_default (Some x) = refl
 
-root_is : (top : List Row) (word : Text) (rows : List Row) (job : Job) → IsJob top word rows job → root_of job ≡ root_given top rows
+pub root_is : (top : List Row) (word : Text) (rows : List Row) (job : Job) → IsJob top word rows job → root_of job ≡ root_given top rows
 root_is top word rows job is = one_root job ∙ same_default (option_map string_bytes job.root) ∙ ap (λ (o : Option (List ℕ)). unwrap_or o []) is.root
 
 pub has_both : (b c : Bool) → (b && c) ≡ true → b ≡ true
@@ -176,25 +176,6 @@ module _ (w : Reads) (sight : Sight) (input_before input_now : Told) (before now
       by top (Some p) is =
           subst (λ (r : List ℕ). Planned (λ a. command_plan a r (strict_given top p.1) p.0 p.1)) (root_is top p.0 p.1 job is)
           (subst (λ (s : Bool). Planned (λ a. command_plan a (root_of job) s p.0 p.1)) is.strict (each p.0 p.1 is.task))
-
-  -- without `--text` the plan of a run is that over the files as they are
-  plain_or_none : (words : List Text) (a : Around) (b : Bool) → IfSome (files_plan a words) Shows → IfSome (if b then None else files_plan a words) Shows
-  plain_or_none words a true shows = tt
-  plain_or_none words a false shows = shows
-
-  pub plainly_planned : (words : List Text) → Planned (λ a. files_plan a words) → Planned (λ a. program_plan a words)
-  plainly_planned words (told, so, (cause, one_line, shows)) =
-      (told, so, (cause, one_line, plain_or_none words (record { input = told; sight = sight; cause = cause }) (has_text (subcommand_of hwdb_app words)) shows))
-
-  -- with it there is none
-  pub text_unplanned : (words : List Text) (job : Job) → AskFor words job → job.text ≡ true → Planned (λ a. program_plan a words)
-  text_unplanned words job asked text =
-      let a : Around = record { input = Err unread.Memory; sight = sight; cause = [] } in
-      (Err unread.Memory, tt, ([], refl, subst (λ (b : Bool). IfSome (if b then None else files_plan a words) Shows) (sym (by (matches_of hwdb_app words) (subcommand_of hwdb_app words) asked)) tt))
-    where
-      by : (top : List Row) (found : Option (Text × List Row)) → IsJobOf top found job → has_text found ≡ true
-      by top None is = absurd is
-      by top (Some p) is = sym is.text ∙ text
 
   module _ (root : List ℕ) (strict : Bool) (word : Text) (rows : List Row) where
     abbrev around : (told : Result (List ℕ) Unread) (cause : List ℕ) → Around

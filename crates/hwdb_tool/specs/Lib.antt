@@ -2,6 +2,7 @@ pub mod Views
 pub mod Laws
 pub mod Internal
 pub mod Statuses
+pub mod TextPlans
 pub mod Emptying
 pub mod SideSteps
 pub mod Colours

@@ -1,22 +1,31 @@
 //! `--text`: a task over the text files of both folders, as an update would compile them now. Nothing is written.
-ghost use Rattle.std.specs.Prelude.{◌≡◌, ◌≤◌, List, false, map, option_map, string_bytes, true, IfErr, IfOk, OnOk};
+ghost use Rattle.std.specs.Prelude.{◌≡◌, ◌≤◌, ℕ, List, false, length, map, option_map, string_bytes, true, IfErr, IfOk, OnOk};
+ghost use Rattle.hwdb_plan.specs.Ended.{outs};
+ghost use Rattle.hwdb_plan.specs.OverText.{basis, basis_now};
+ghost use Rattle.hwdb_plan.specs.Plans.{ReachesValue};
 ghost use Rattle.hwdb_spec.specs.Flushing.{HandsOn};
 ghost use Rattle.hwdb_spec.specs.Folders.{Source};
 ghost use Rattle.hwdb_spec_commands.specs.OverText.{AreTextsRefused, misuse_text, takes_text, text_besides};
+ghost use Rattle.hwdb_spec.specs.Texts.{max_file};
 ghost use Rattle.hwdb_spec_program.specs.Program.{IsDoneOverText, asks_text, reads_input, root_of};
+ghost use Rattle.hwdb_spec_program.specs.ProgramPlan.{ShowsPlan, program_plan};
 ghost use Rattle.hwdb_spec_commands.specs.Refusals.{HasReason, IsInWords};
 ghost use Rattle.hwdb_spec_commands.specs.Runs.{files_by, told_by, world_by};
 ghost use Rattle.hwdb_spec_commands.specs.Status.{IsMade};
 ghost use Rattle.hwdb_spec_commands.specs.SysfsAnswers.{sight_by};
 ghost use Rattle.hwdb_spec_program.specs.TaskRefusals.{IsNotDoneFrom};
+ghost use Rattle.hwdb_spec_program.specs.Words.{AskFor};
 ghost use Rattle.hwdb_tool.specs.Internal.{IsDoneOver, IsNotDoneOver};
+ghost use Rattle.hwdb_tool.specs.TextPlans.{besides_for, plan_over};
 
+use crate::as_before::text_shows_over;
 use crate::besides::text_besides;
 use crate::dispatch::{root_of, run};
 use crate::printing::say;
 use crate::status_command::compiled;
 use hwdb_cli::{Job, Task};
 use hwdb_io::{Sink, Source};
+use hwdb_plan::over_is_no_more;
 use hwdb_system::{Machine, Overlay, Refusal, System, selected, with_texts};
 use std::alloc::Global;
 
@@ -88,6 +97,8 @@ struct Basis {
 /// The database that an update would write now of the text files of both folders below the root, and what the task says besides.
 /// Errors are, in this order: the text files can't be read, and they can't be compiled.
 fn made<D: System>(alloc: Global, task: &Task, root: &str, system: &D) -> Result<Basis, Refusal>
+    ensures told { D.Store.tells → ReachesValue (λ m. basis m.besides.items m.database.items)
+        (D.System.reads system.now) (basis_now root.now (besides_for task.now)) result }
     ensures made { D.Store.tells → IfOk result (λ m. (of_etc of_usr : List Source)
         × IsMade root.now (D.Store.seen system.now) of_etc of_usr m.database.items
         × (m.besides.items ≡ text_besides task.now of_etc of_usr)) }
@@ -119,6 +130,12 @@ fn run_over<D: Machine, I: Source, O: Sink, E: Sink>(
     requires { asks_text job.now ≡ true }
     ensures status { IfOk result (λ status. status ≤ 1) }
     ensures unread { reads_input job.now.task ≡ false → input.new ≡ input.old }
+    ensures follows { D.Store.tells → length database.now ≤ max_file → (words : List (List ℕ))
+        → AskFor words job.now → ShowsPlan (plan_over (root_of job.now) database.now words)
+        (D.System.reads system.now) (sight_by D.answers system.now)
+        (told_by I.left I.failures input.old) (told_by I.left I.failures input.new)
+        (outs (told_by E.taken E.failures err.old) (told_by O.taken O.failures out.old))
+        (outs (told_by E.taken E.failures err.new) (told_by O.taken O.failures out.new)) result }
     ensures done { D.Store.tells → let world = world_by (sight_by D.answers)
         (files_by D.Store.seen D.System.may_fail D.Store.may_leave D.Store.failures)
         (told_by I.left I.failures) (told_by O.taken O.failures) (told_by E.taken E.failures) in
@@ -137,6 +154,7 @@ fn run_over<D: Machine, I: Source, O: Sink, E: Sink>(
     ensures err_hands_on { HandsOn (E.is_flushed err.old) (E.is_flushed err.new)
         (E.failures err.old) (E.failures err.new) }
 {
+    text_shows_over();
     let root = root_of(job);
     let mut shown = Overlay::new(system, root, database);
     run(alloc, job, &mut shown, input, out, err)
@@ -158,6 +176,12 @@ pub fn run_over_text<D: Machine, I: Source, O: Sink, E: Sink>(
     requires { asks_text job.now ≡ true }
     ensures status { IfOk result (λ status. status ≤ 1) }
     ensures unread { reads_input job.now.task ≡ false → input.new ≡ input.old }
+    ensures follows { D.Store.tells → (words : List (List ℕ)) → AskFor words job.now
+        → ShowsPlan (λ a. program_plan a words) (D.System.reads system.now)
+        (sight_by D.answers system.now)
+        (told_by I.left I.failures input.old) (told_by I.left I.failures input.new)
+        (outs (told_by E.taken E.failures err.old) (told_by O.taken O.failures out.old))
+        (outs (told_by E.taken E.failures err.new) (told_by O.taken O.failures out.new)) result }
     ensures done { D.Store.tells → let world = world_by (sight_by D.answers)
         (files_by D.Store.seen D.System.may_fail D.Store.may_leave D.Store.failures)
         (told_by I.left I.failures) (told_by O.taken O.failures) (told_by E.taken E.failures) in
@@ -175,6 +199,7 @@ pub fn run_over_text<D: Machine, I: Source, O: Sink, E: Sink>(
     ensures err_hands_on { HandsOn (E.is_flushed err.old) (E.is_flushed err.new)
         (E.failures err.old) (E.failures err.new) }
 {
+    over_is_no_more();
     if let Some(text) = misuse_text(&job.task) {
         return Err(misused(alloc, text));
     }

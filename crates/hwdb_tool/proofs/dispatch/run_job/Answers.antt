@@ -1,13 +1,12 @@
 use Rattle.std.proofs.Common.{Bool, IfErr, IfOk, inl, refl, subst, sym, ◌∙◌}
 use Rattle.hwdb_spec_program.specs.Program.{IsDoneFrom, OldOrDone, root_of}
-use Rattle.hwdb_spec_commands.specs.OverText.{takes_text}
 use Rattle.hwdb_spec_commands.specs.Runs.{World, files_by, told_by}
 use Rattle.hwdb_spec_commands.specs.SysfsAnswers.{sight_by}
 use Rattle.hwdb_spec_program.specs.TaskRefusals.{IsNotDoneFrom}
 use Rattle.hwdb_tool.proofs.MomentLemmas.{leaves_old}
 use Rattle.hwdb_tool.proofs.OverTextLemmas.{no_update}
 use Rattle.hwdb_plan.specs.Ended.{outs}
-use Rattle.hwdb_tool.proofs.ProgramPlanLemmas.{has_both, plainly_planned, text_unplanned}
+use Rattle.hwdb_tool.proofs.TextProgramLemmas.{plainly_planned}
 use Rattle.hwdb_tool.proofs.dispatch.run_job.Goals as goal
 
 pub returns-then-asks_text-clause-any_moment : goal.returns-then-asks_text-clause-any_moment
@@ -68,13 +67,7 @@ returns-clause-refused g c = λ tells.
     subst (λ (b : Bool). IfErr c.run.result (IsNotDoneFrom b job.task (root_of job) job.usr job.strict before now)) (sym (sym c.asks_text.ensures ∙ c.if-asks_text.false)) (c.run.ensures.refused tells)
 
 pub returns-then-asks_text-clause-follows : goal.returns-then-asks_text-clause-follows
-returns-then-asks_text-clause-follows g c = λ tells words asked.
-    let O = told_by g.O.Sink.taken g.O.Sink.failures in
-    let E = told_by g.E.Sink.taken g.E.Sink.failures in
-    let I = told_by g.I.Source.left g.I.Source.failures in
-    let before = outs (E c.args.err.now) (O c.args.out.now) in
-    let now = outs (E c.run_over_text.new.err) (O c.run_over_text.new.out) in
-    text_unplanned (g.D.System.reads c.args.system.now) (sight_by g.D.DeviceFiles.answers c.args.system.now) (I c.args.input.now) (I c.run_over_text.new.input) before now c.run_over_text.result words c.args.job.now asked (has_both c.args.job.now.text (takes_text c.args.job.now.task) (sym c.asks_text.ensures ∙ c.if-asks_text.true))
+returns-then-asks_text-clause-follows g c = λ tells words asked. c.run_over_text.ensures.follows tells words asked
 
 pub returns-clause-follows : goal.returns-clause-follows
 returns-clause-follows g c = λ tells words asked.
@@ -83,4 +76,5 @@ returns-clause-follows g c = λ tells words asked.
     let I = told_by g.I.Source.left g.I.Source.failures in
     let before = outs (E c.args.err.now) (O c.args.out.now) in
     let now = outs (E c.run.new.err) (O c.run.new.out) in
-    plainly_planned (g.D.System.reads c.args.system.now) (sight_by g.D.DeviceFiles.answers c.args.system.now) (I c.args.input.now) (I c.run.new.input) before now c.run.result words (c.run.ensures.follows tells words asked)
+    plainly_planned (g.D.System.reads c.args.system.now) (sight_by g.D.DeviceFiles.answers c.args.system.now) (I c.args.input.now) (I c.run.new.input) before words c.args.job.now asked now c.run.result
+    (sym c.asks_text.ensures ∙ c.if-asks_text.false) (c.run.ensures.follows tells words asked)
