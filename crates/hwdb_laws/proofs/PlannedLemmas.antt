@@ -11,7 +11,8 @@ use Rattle.hwdb_spec.specs.Tree.{Tree}
 use Rattle.hwdb_spec_commands.specs.CheckedFiles.{files_in, folder_of}
 use Rattle.hwdb_spec_commands.specs.CommandLine.{hwdb_app}
 use Rattle.hwdb_spec_commands.specs.DeviceAsked.{device_form, device_list, missing_text, no_sysfs_text, unread_text}
-use Rattle.hwdb_spec_commands.specs.DeviceTree.{Sight, device_at, device_for, last_after, unread_for}
+use Rattle.hwdb_spec_commands.specs.DeviceFound.{places_meant, several_text}
+use Rattle.hwdb_spec_commands.specs.DeviceTree.{Sight, device_at, last_after, unread_for}
 use Rattle.hwdb_spec_commands.specs.declared.devices.DeviceForm.{DeviceForm}
 use Rattle.hwdb_spec_commands.specs.Given.{any_dash, is_dash}
 use Rattle.hwdb_spec_commands.specs.Jobs.{has_flag}
@@ -32,7 +33,7 @@ use Rattle.hwdb_spec_commands.specs.declared.unread.Unread.TheVariants as unread
 use Rattle.hwdb_plan.specs.Ask.{lone_answer}
 use Rattle.hwdb_plan.specs.Asking.{asked, if_read, named}
 use Rattle.hwdb_plan.specs.Check.{check_plan, said_of}
-use Rattle.hwdb_plan.specs.Device.{device_answer, device_plan, folder_of as folder_place, place_of, says, sysfs_of}
+use Rattle.hwdb_plan.specs.Device.{device_answer, device_plan, folder_of as folder_place, none_there, one_of, place_of, says, sysfs_of}
 use Rattle.hwdb_spec_program.specs.DeviceErrors.{asked_names}
 use Rattle.hwdb_plan.specs.Diff.{change_of, compared, diff_plan, once, sides_compared}
 use Rattle.hwdb_plan.specs.Dump.{text_form}
@@ -255,20 +256,25 @@ module _ (w : Reads) (e : End) (Lost : Type 0) where
         folder_moves (root ++ codes "/sys") (λ sys. folder_place sight cause (sys ++ codes "/devices") (λ devices. one sys)) (λ sys. folder_place sight other (sys ++ codes "/devices") (λ devices. two sys))
         (λ sys. folder_moves (sys ++ codes "/devices") (λ devices. one sys) (λ devices. two sys) (λ devices. step sys))
 
-    place_moves : (root given sys : List ℕ) (next : List ℕ → Plan) → Moves (place_of sight cause root given sys next) (place_of sight other root given sys next)
-    place_moves root given sys next = by (device_for sight root sys given) (unread_for sight root sys given)
+    place_moves : (root given sys : List ℕ) (next : List ℕ → Plan) → Moves (place_of sight cause asked_names root given sys next) (place_of sight other asked_names root given sys next)
+    place_moves root given sys next = by (places_meant sight asked_names root sys given)
       where
-        by : (o u : Option (List ℕ)) → Moves (option_map_or next o (option_map_or (λ path. says (unread_text path cause)) u (says (missing_text sight root sys given cause))))
-            (option_map_or next o (option_map_or (λ path. says (unread_text path other)) u (says (missing_text sight root sys given other))))
-        by None None ends = lost_at (Says (missing_text sight root sys given cause)) (lost (missing_text sight root sys given cause)) ends
-        by None (Some path) ends = lost_at (Says (unread_text path cause)) (lost (unread_text path cause)) ends
-        by (Some place) u ends = inl ends
+        none : (u : Option (List ℕ)) → Moves (option_map_or (λ path. says (unread_text path cause)) u (says (missing_text sight root sys given cause)))
+            (option_map_or (λ path. says (unread_text path other)) u (says (missing_text sight root sys given other)))
+        none None ends = lost_at (Says (missing_text sight root sys given cause)) (lost (missing_text sight root sys given cause)) ends
+        none (Some path) ends = lost_at (Says (unread_text path cause)) (lost (unread_text path cause)) ends
+
+        by : (places : List (List ℕ)) → Moves (one_of next (λ l. says (several_text sight asked_names sys given l)) (none_there sight cause root given sys) places)
+            (one_of next (λ l. says (several_text sight asked_names sys given l)) (none_there sight other root given sys) places)
+        by [] ends = none (unread_for sight root sys given) ends
+        by (place ∷ []) ends = inl ends
+        by (place ∷ two ∷ more) ends = inl ends
 
     device_moves : (root : List ℕ) (form : DeviceForm) (given : Option (List ℕ)) → Moves (device_plan sight cause asked_names root form given) (device_plan sight other asked_names root form given)
     device_moves root form None = let all = λ (sys : List ℕ). Done (Answers 0 [] (device_list sight asked_names sys)) in sysfs_moves root all all (λ sys ends. inl ends)
     device_moves root form (Some given) =
         let meant = λ (sys place : List ℕ). asked root (device_answer form (device_at sight asked_names sys place)) in
-        sysfs_moves root (λ sys. place_of sight cause root given sys (meant sys)) (λ sys. place_of sight other root given sys (meant sys)) (λ sys. place_moves root given sys (meant sys))
+        sysfs_moves root (λ sys. place_of sight cause asked_names root given sys (meant sys)) (λ sys. place_of sight other asked_names root given sys (meant sys)) (λ sys. place_moves root given sys (meant sys))
 
   -- ---- each command's row
   abbrev RowsMove : (rows others : List (Text × Plan)) → Type 0
