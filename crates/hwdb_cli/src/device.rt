@@ -29,7 +29,8 @@ pub fn command<'a>(alloc: Global) -> Draft<'a>
 {
     let strings = "Print the strings alone, one a line";
     let pattern = "Print records to begin with, which fit the device; before --json and --strings";
-    let path = "A device: its name, as event3, its node below /dev, or its path below /sys";
+    let path = "A device: its name, as event3, its ids, as 046d:c31c, a part of what it is called, \
+        its node below /dev, or its path below /sys";
     let command = shared(alloc, "device", ABOUT, AFTER);
     let with_text = with_argument(command, text_option(alloc));
     let with_strings = with_argument(with_text, flag(alloc, "strings", strings));

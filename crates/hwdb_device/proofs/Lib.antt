@@ -12,3 +12,4 @@ pub mod PathLemmas
 pub mod PatternLemmas
 pub mod SameLemmas
 pub mod StringLemmas
+mod WordLemmas

@@ -1,5 +1,6 @@
 //! Strings are asked, as udev's rules ask them.
 ghost use Rattle.std.specs.Prelude.{◌≡◌, ◌++◌, IfOk, OnOk};
+ghost use Rattle.hwdb_spec_commands.specs.DeviceFound.{is_asked};
 ghost use Rattle.hwdb_spec_commands.specs.Inputs.{no_kinds};
 ghost use Rattle.hwdb_spec_commands.specs.Lookups;
 ghost use Rattle.hwdb_rules.specs.Views.{kinds_of, plans_of, questions_of, scene_of};
@@ -116,4 +117,12 @@ pub(crate) fn lookups<'a>(
         machine: &machine,
     };
     found_in(alloc, db, &scene)
+}
+
+/// Whether udev asks something for a device.
+pub(crate) fn is_asked(alloc: Global, device: &Device) -> Result<bool, AllocError>
+    ensures { IfOk result (λ is. is ≡ is_asked (device_of device.now)) }
+{
+    let found = lookups(alloc, None, device)?;
+    Ok(!found.is_empty())
 }

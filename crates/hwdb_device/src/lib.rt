@@ -9,9 +9,11 @@
 //! | `records` | records to begin with, and which strings they are for |
 //! | `lasting` | a pattern that outlives another port and another BIOS |
 //! | `row` | the line of a device in a list |
+//! | `by_word` | the devices that ids or a part of a name mean, and what is said if there are several |
 #![tactic(auto)]
 
 mod asking;
+mod by_word;
 mod found;
 mod gifts;
 mod json_lines;
@@ -27,6 +29,7 @@ mod strings;
 mod texts;
 mod told;
 
+pub use by_word::{fitting, several_text};
 pub use hwdb_spec_commands::DeviceForm;
 pub use laws::{
     asked_rows, device_rows, pattern_is_matched, pattern_is_of_one, pattern_outlives, record_rows,

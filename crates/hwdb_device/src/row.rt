@@ -1,6 +1,5 @@
 //! The line of a device in a list.
-ghost use Rattle.std.specs.Prelude.{◌≡◌, ◌++◌, [], if◌then◌else◌, codes, map, option_map, IfOk, OnOk};
-ghost use Rattle.std.specs.Option.{option_or};
+ghost use Rattle.std.specs.Prelude.{◌≡◌, ◌++◌, [], if◌then◌else◌, map, option_map, IfOk, OnOk};
 ghost use Rattle.hwdb_spec_commands.specs.DeviceTexts;
 ghost use Rattle.hwdb_spec.specs.Lines.{is_none};
 ghost use Rattle.hwdb_sysfs.specs.Views.{ancestor_of, device_of};
@@ -15,10 +14,8 @@ use hwdb_sysfs::{Ancestor, Device};
 use std::alloc::{AllocError, Global};
 
 /// How a device is called: by the attribute `name` of it or a parent, or else by `product`.
-fn title(chain: &[Ancestor]) -> Option<&[u8]>
-    ensures { option_map (λ t. t.now) result
-        ≡ option_or (DeviceTexts.text_in (codes "name") (map ancestor_of chain.now))
-        (DeviceTexts.text_in (codes "product") (map ancestor_of chain.now)) }
+pub(crate) fn title(chain: &[Ancestor]) -> Option<&[u8]>
+    ensures { option_map (λ t. t.now) result ≡ DeviceTexts.called (map ancestor_of chain.now) }
 {
     match first_text(chain, b"name") {
         Some(name) => Some(name),

@@ -1,5 +1,5 @@
 -- The rows, computed.
-use Rattle.hwdb_laws.specs.DeviceRows.{FileRows, ListRows, MeantRows, NameRows, NothingRows, TextRows}
+use Rattle.hwdb_laws.specs.DeviceRows.{FileRows, FittingRows, IdRows, ListRows, MeantRows, NameRows, NothingRows, PlaceRows, PlacesRows, TextRows}
 use Rattle.hex.specs.Hex.{encode_with}
 use Rattle.hwdb_spec.specs.Answers.{effective_of, is_after, last_assignments, last_matching, last_of_each, last_value}
 use Rattle.hwdb_spec.specs.Assignment.{ascending, assignment_cmp, position_cmp, put, put_all}
@@ -39,6 +39,22 @@ use Rattle.std.proofs.Common.{◌∙◌, ap, refl}
 pub meant_rows : MeantRows
 unfolding pieces numbered trimmed first_section sections_from behind records_from tokens_from token_at item_at items_from bracket_at classes nodes nodes_of depth depth_of explained first_of once last_up_to first_up_to some_up_to values_under values_below ascending put put_all assignment_cmp position_cmp matches some_ending byte_then piece_then visible_after is_utf8 chars encode_utf8 digits encode_with items_of members_of escaped_after escape_byte print_from answers effective_of last_of_each last_value strings_from asked_in told_value flag_after cut_back replaced value_of first_at last_after above first_given alike cost_at next_row rows nearest_of from_first up_to_colons closest_after last_matching last_assignments is_after
 meant_rows = refl
+
+pub fitting_rows : FittingRows
+unfolding pieces numbered trimmed first_section sections_from behind records_from tokens_from token_at item_at items_from bracket_at classes nodes nodes_of depth depth_of explained first_of once last_up_to first_up_to some_up_to values_under values_below ascending put put_all assignment_cmp position_cmp matches some_ending byte_then piece_then visible_after is_utf8 chars encode_utf8 digits encode_with items_of members_of escaped_after escape_byte print_from answers effective_of last_of_each last_value strings_from asked_in told_value flag_after cut_back replaced value_of first_at last_after above first_given alike cost_at next_row rows nearest_of from_first up_to_colons closest_after last_matching last_assignments is_after
+fitting_rows = refl
+
+pub places_rows : PlacesRows
+unfolding pieces numbered trimmed first_section sections_from behind records_from tokens_from token_at item_at items_from bracket_at classes nodes nodes_of depth depth_of explained first_of once last_up_to first_up_to some_up_to values_under values_below ascending put put_all assignment_cmp position_cmp matches some_ending byte_then piece_then visible_after is_utf8 chars encode_utf8 digits encode_with items_of members_of escaped_after escape_byte print_from answers effective_of last_of_each last_value strings_from asked_in told_value flag_after cut_back replaced value_of first_at last_after above first_given alike cost_at next_row rows nearest_of from_first up_to_colons closest_after last_matching last_assignments is_after
+places_rows = (refl, refl)
+
+pub place_rows : PlaceRows
+unfolding pieces numbered trimmed first_section sections_from behind records_from tokens_from token_at item_at items_from bracket_at classes nodes nodes_of depth depth_of explained first_of once last_up_to first_up_to some_up_to values_under values_below ascending put put_all assignment_cmp position_cmp matches some_ending byte_then piece_then visible_after is_utf8 chars encode_utf8 digits encode_with items_of members_of escaped_after escape_byte print_from answers effective_of last_of_each last_value strings_from asked_in told_value flag_after cut_back replaced value_of first_at last_after above first_given alike cost_at next_row rows nearest_of from_first up_to_colons closest_after last_matching last_assignments is_after
+place_rows = refl
+
+pub id_rows : IdRows
+unfolding pieces numbered trimmed first_section sections_from behind records_from tokens_from token_at item_at items_from bracket_at classes nodes nodes_of depth depth_of explained first_of once last_up_to first_up_to some_up_to values_under values_below ascending put put_all assignment_cmp position_cmp matches some_ending byte_then piece_then visible_after is_utf8 chars encode_utf8 digits encode_with items_of members_of escaped_after escape_byte print_from answers effective_of last_of_each last_value strings_from asked_in told_value flag_after cut_back replaced value_of first_at last_after above first_given alike cost_at next_row rows nearest_of from_first up_to_colons closest_after last_matching last_assignments is_after
+id_rows = (refl, refl, refl, refl)
 
 pub list_rows : ListRows
 unfolding pieces numbered trimmed first_section sections_from behind records_from tokens_from token_at item_at items_from bracket_at classes nodes nodes_of depth depth_of explained first_of once last_up_to first_up_to some_up_to values_under values_below ascending put put_all assignment_cmp position_cmp matches some_ending byte_then piece_then visible_after is_utf8 chars encode_utf8 digits encode_with items_of members_of escaped_after escape_byte print_from answers effective_of last_of_each last_value strings_from asked_in told_value flag_after cut_back replaced value_of first_at last_after above first_given alike cost_at next_row rows nearest_of from_first up_to_colons closest_after last_matching last_assignments is_after

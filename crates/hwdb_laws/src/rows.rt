@@ -229,6 +229,10 @@ pub fn word_rows()
 /// What `device` prints.
 pub fn device_rows()
     ensures meant { DeviceRows.MeantRows }
+    ensures fitting { DeviceRows.FittingRows }
+    ensures places { DeviceRows.PlacesRows }
+    ensures place { DeviceRows.PlaceRows }
+    ensures ids { DeviceRows.IdRows }
     ensures list { DeviceRows.ListRows }
     ensures nothing { DeviceRows.NothingRows }
     ensures names { DeviceRows.NameRows }

@@ -1,11 +1,12 @@
 -- The plan of `device`. What sysfs shows is an argument of it, as what standard input is told is one of other plans. So are the names of the
 -- attributes that rules ask for, and the words of the cause if a path of sysfs can't be read: no definition says these. Our choice.
 use Rattle.std.specs.Option.{option_map_or}
-use Rattle.std.specs.Prelude.{◌++◌, ℕ, List, [], None, Option, Some, codes}
+use Rattle.std.specs.Prelude.{◌++◌, ◌∷◌, ℕ, List, [], None, Option, Some, codes}
 use Rattle.hwdb_spec.specs.Failures.{IsOneLine}
 use Rattle.hwdb_spec_commands.specs.DeviceAsked.{device_list, missing_text, no_sysfs_text, unread_text}
+use Rattle.hwdb_spec_commands.specs.DeviceFound.{places_meant, several_text}
 use Rattle.hwdb_spec_commands.specs.DeviceTexts.{device_text}
-use Rattle.hwdb_spec_commands.specs.DeviceTree.{Sight, device_at, device_for, unread_for}
+use Rattle.hwdb_spec_commands.specs.DeviceTree.{Sight, device_at, unread_for}
 use Rattle.hwdb_spec_commands.specs.Sysfs.{Device}
 use Rattle.hwdb_spec_commands.specs.Told.Stop.{Says}
 use Rattle.hwdb_spec_commands.specs.declared.devices.DeviceForm.{DeviceForm}
@@ -33,11 +34,21 @@ abbrev pub sysfs_of : Sight → (cause root : List ℕ) → ((sys : List ℕ) �
 sysfs_of sight cause root next =
     folder_of sight cause (root ++ codes "/sys") (λ sys. folder_of sight cause (sys ++ codes "/devices") (λ devices. next sys))
 
--- what follows the place of the device that is meant. Or the error what can't be read first that would tell of one, or that none is there.
-abbrev pub place_of : Sight → (cause root given sys : List ℕ) → ((place : List ℕ) → Plan) → Plan
-place_of sight cause root given sys next =
-    option_map_or next (device_for sight root sys given)
-    (option_map_or (λ path. says (unread_text path cause)) (unread_for sight root sys given) (says (missing_text sight root sys given cause)))
+-- what follows the only one of some places, what is said of several, or what follows if there is none
+abbrev pub one_of : (next : (place : List ℕ) → Plan) (several : (places : List (List ℕ)) → Plan) (none : Plan) → List (List ℕ) → Plan
+one_of next several none [] = none
+one_of next several none (place ∷ []) = next place
+one_of next several none (place ∷ other ∷ more) = several (place ∷ other ∷ more)
+
+-- the error if no device is meant: what can't be read first that would tell of one, or that none is there
+abbrev pub none_there : Sight → (cause root given sys : List ℕ) → Plan
+none_there sight cause root given sys =
+    option_map_or (λ path. says (unread_text path cause)) (unread_for sight root sys given) (says (missing_text sight root sys given cause))
+
+-- What follows the place of the device that is meant. If several are, the error lists them; and none is an error, too.
+abbrev pub place_of : Sight → (cause : List ℕ) (names : List (List ℕ)) (root given sys : List ℕ) → ((place : List ℕ) → Plan) → Plan
+place_of sight cause names root given sys next =
+    one_of next (λ places. says (several_text sight names sys given places)) (none_there sight cause root given sys) (places_meant sight names root sys given)
 
 -- ---- what is printed
 -- what the database gives a device, in some form
@@ -52,7 +63,7 @@ devices_plan sight cause names root = sysfs_of sight cause root (λ sys. Done (A
 abbrev pub meant_plan : Sight → (cause : List ℕ) (names : List (List ℕ)) (root given : List ℕ) → DeviceForm → Plan
 meant_plan sight cause names root given form =
     sysfs_of sight cause root
-    (λ sys. place_of sight cause root given sys (λ place. asked root (device_answer form (device_at sight names sys place))))
+    (λ sys. place_of sight cause names root given sys (λ place. asked root (device_answer form (device_at sight names sys place))))
 
 -- that one, or if none is given all
 abbrev pub device_plan : Sight → (cause : List ℕ) (names : List (List ℕ)) (root : List ℕ) → DeviceForm → (given : Option (List ℕ)) → Plan

@@ -14,7 +14,7 @@ use hwdb_text::{Lines, Pieces};
 use std::alloc::{AllocError, Global};
 
 /// Whether a part is somewhere in a text, but for the case of letters.
-fn has_part(part: &[u8], text: &[u8]) -> bool
+pub fn has_part(part: &[u8], text: &[u8]) -> bool
     ensures { result ≡ KeysAsked.has_part part.now text.now }
 {
     let mut rest = text;

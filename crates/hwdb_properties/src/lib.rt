@@ -33,12 +33,13 @@ mod words;
 
 pub use common::is_common;
 pub use cuts::{after, before, same};
-pub use keys::keys_text;
+pub use keys::{has_part, keys_text};
 pub use laws::{
     axes_are_told, codes_are_told, keys_are_told, matrices_are_told, meant_values_are_told,
     names_are_told, numbers_are_told, odd_names_are_told, pairs_are_told, prefixes_are_told,
     resolutions_are_told, settings_are_told,
 };
+pub use names::same_letters;
 pub use remarks::{is_known, misuse_of, misuse_text, push_misuse_hint, push_unknown_hint};
 pub use rows::{Likeness, first_row};
 pub use surroundings::{companions_of, has_logged_code, is_read_below, push_elsewhere_hint};

@@ -3,8 +3,9 @@ use Rattle.std.specs.Prelude.{◌≡◌, ◌++◌, Bool, false, true, List, [], 
 use Rattle.std.specs.Option.{option_map_or}
 use Rattle.hwdb_spec_commands.specs.Asked.{IsAnswered}
 use Rattle.hwdb_spec_commands.specs.Databases.{IsTextOf}
+use Rattle.hwdb_spec_commands.specs.DeviceFound.{only, places_meant}
 use Rattle.hwdb_spec_commands.specs.DeviceTexts.{device_row, device_text, line_of}
-use Rattle.hwdb_spec_commands.specs.DeviceTree.{Sight, absolute, all_links, device_at, device_for, device_of_path, kernel_name, last_name, near_name, sysfs_below, unread_of_path}
+use Rattle.hwdb_spec_commands.specs.DeviceTree.{Sight, absolute, all_links, device_at, device_of_path, kernel_name, last_name, near_name, sysfs_below, unread_of_path}
 use Rattle.hwdb_spec.specs.Lines.{byte, has}
 use Rattle.hwdb_spec.specs.Store.{Contents}
 use Rattle.hwdb_spec_commands.specs.Sysfs.{Device}
@@ -21,10 +22,10 @@ device_form strings true false = form.Json
 device_form true false false = form.Strings
 device_form false false false = form.Lookups
 
--- the device that is meant below a root, with those of its attributes that have these names; none if there is none
+-- the device that is meant below a root, with those of its attributes that have these names; none if there is none, or several
 abbrev pub device_meant : Sight → (names : List (List ℕ)) → (root given : List ℕ) → Option Device
 device_meant sight names root given =
-    option_map_or (λ sys. option_map (device_at sight names sys) (device_for sight root sys given)) (sysfs_below sight root) None
+    option_map_or (λ sys. option_map (device_at sight names sys) (only (places_meant sight names root sys given))) (sysfs_below sight root) None
 
 -- the line of what can't be read: the name of the device that may be there, and the path
 abbrev pub unread_row : (link path : List ℕ) → List ℕ

@@ -226,10 +226,13 @@ files_device_text as_form d etc usr = found_form as_form d (files_patterns etc u
 abbrev pub text_in : (attribute : List ℕ) → List Ancestor → Option (List ℕ)
 text_in name chain = option_map (λ (p : At). attribute_text name p.ancestor) (first_of (has_text name) chain)
 
--- how a device is called, after two spaces: by the attribute `name`, or else by `product`
+-- how a device is called: by the attribute `name` of it or a parent, or else by `product`
+abbrev pub called : List Ancestor → Option (List ℕ)
+called chain = option_or (text_in (codes "name") chain) (text_in (codes "product") chain)
+
+-- the same, after two spaces
 abbrev pub title_of : List Ancestor → List ℕ
-title_of chain =
-    option_map_or (λ (title : List ℕ). codes "  " ++ title) (option_or (text_in (codes "name") chain) (text_in (codes "product") chain)) []
+title_of chain = option_map_or (λ (title : List ℕ). codes "  " ++ title) (called chain) []
 
 -- the kernel's name of a device, and how it is called
 abbrev pub row_of : List Ancestor → List ℕ

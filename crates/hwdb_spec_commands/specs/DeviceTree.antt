@@ -178,7 +178,7 @@ unfoldable pub first_given : {X Y : Type 0} → (X → Option Y) → List X → 
 first_given test [] = None
 first_given test (x ∷ rest) = option_map_or Some (test x) (first_given test rest)
 
--- the device that is meant
+-- the device of a path or of a whole name
 abbrev pub device_for : Sight → (root sys given : List ℕ) → Option (List ℕ)
 device_for sight root sys given = first_given (device_of_path sight sys) (paths_for sight root sys given)
 

@@ -47,6 +47,7 @@ pub mod Inputs
 pub mod Lookups
 pub mod DeviceRecords
 pub mod DeviceTexts
+pub mod DeviceFound
 pub mod DeviceAsked
 pub mod CommandLine
 pub mod Jobs

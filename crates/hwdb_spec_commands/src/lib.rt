@@ -53,6 +53,7 @@
 //! | `Lookups` | the strings that udev's rules ask for a device, in their order |
 //! | `DeviceRecords` | the records that `device --pattern` prints |
 //! | `DeviceTexts` | what `device` prints: the strings that are asked for a device, and what each gets |
+//! | `DeviceFound` | which devices ids or a part of a name mean, and what is said if there are several |
 //! | `DeviceAsked` | the device that `device` is asked for, what it prints, and what it says if there is none |
 //! | `CommandLine` | the command line as data: options, arguments and commands |
 //! | `Jobs` | which job the matches of a command line ask for |
@@ -89,6 +90,7 @@
 mod attributes;
 mod colours;
 mod devices;
+mod finders;
 mod form;
 mod formats;
 mod job;
@@ -100,6 +102,7 @@ mod vocabulary;
 pub use attributes::ATTRIBUTES;
 pub use colours::{LinePart, Style, TextKind};
 pub use devices::DeviceForm;
+pub use finders::FINDERS;
 pub use form::Form;
 pub use formats::{FORMATS, Format};
 use hwdb_spec::Judgement;

@@ -1,5 +1,5 @@
 -- What follows the plan of `device` keeps its older promises.
-use Rattle.std.proofs.Common.{◌≡◌, ◌⊎◌, ◌∙◌, inl, inr, ap, refl, subst, sym, List, Option, None, Some, Result, Ok, Err, IfOk, IfErr, ℕ, [], ◌++◌, is_some, true}
+use Rattle.std.proofs.Common.{◌≡◌, ◌⊎◌, ◌∙◌, inl, inr, ap, refl, subst, sym, List, Option, None, Some, Result, Ok, Err, IfOk, IfErr, ℕ, [], ◌∷◌, ◌++◌, is_some, true}
 use Rattle.std.specs.Option.{option_map_or}
 use Rattle.std.specs.Prelude.{codes, option_map}
 use Rattle.hwdb_spec.specs.Failures.{IsOneLine}
@@ -8,8 +8,9 @@ use Rattle.hwdb_spec.specs.declared.errors.ToolError.TheVariants.{Memory}
 use Rattle.hwdb_spec_commands.specs.Asked.{IsAnswered}
 use Rattle.hwdb_spec_commands.specs.Databases.{IsTextOf}
 use Rattle.hwdb_spec_commands.specs.DeviceAsked.{IsDevicePrinted, device_list, device_meant, missing_text, no_sysfs_text, unread_text}
+use Rattle.hwdb_spec_commands.specs.DeviceFound.{only, places_meant, several_text}
 use Rattle.hwdb_spec_commands.specs.DeviceTexts.{device_text}
-use Rattle.hwdb_spec_commands.specs.DeviceTree.{Sight, device_at, device_for, missing_folder, sysfs_below, unread_for}
+use Rattle.hwdb_spec_commands.specs.DeviceTree.{Sight, device_at, missing_folder, sysfs_below, unread_for}
 use Rattle.hwdb_spec_commands.specs.Refusals.{HasReason}
 use Rattle.hwdb_spec_commands.specs.Runs.{OnOut}
 use Rattle.hwdb_spec_commands.specs.Sysfs.{Device}
@@ -21,7 +22,7 @@ use Rattle.hwdb_spec_commands.specs.declared.refusals.Refusal.{Refusal}
 use Rattle.hwdb_spec_commands.specs.declared.refusals.Refusal.TheVariants as refusal
 use Rattle.hwdb_spec_program.specs.DeviceErrors.{IsDeviceRefused, IsNoSysfs, asked_names}
 use Rattle.hwdb_plan.specs.Asking.{asked}
-use Rattle.hwdb_plan.specs.Device.{OfCause, device_answer, device_plan, devices_plan, folder_of, meant_plan, place_of, says, sysfs_of}
+use Rattle.hwdb_plan.specs.Device.{OfCause, device_answer, device_plan, devices_plan, folder_of, meant_plan, none_there, one_of, place_of, says, sysfs_of}
 use Rattle.hwdb_plan.specs.Dump.{bad_database}
 use Rattle.hwdb_plan.specs.Plans.{End, Ends, Follows, Plan}
 use Rattle.hwdb_plan.specs.Plans.End.{Answers, Stops}
@@ -63,31 +64,40 @@ module _ (w : Reads) (sight : Sight) (cause root : List ℕ) where
   sysfs_leads next e ends = of_sysfs next e (sight.place (root ++ codes "/sys")) refl ends
 
   -- ---- the device
-  module _ (given sys : List ℕ) where
-    -- the plan goes on with its place, or ends with an error: what would tell of it can't be read, or there is none
+  module _ (names : List (List ℕ)) (given sys : List ℕ) where
+    -- the plan goes on with its place, or ends with an error: what would tell of it can't be read, there is none, or there are several
     abbrev There : (next : List ℕ → Plan) (e : End) → Type 0
-    There next e = (place : List ℕ) × (device_for sight root sys given ≡ Some place) × Ends w (next place) e
+    There next e = (place : List ℕ) × (only (places_meant sight names root sys given) ≡ Some place) × Ends w (next place) e
 
     abbrev Unread : (e : End) → Type 0
-    Unread e = (path : List ℕ) × (device_for sight root sys given ≡ None) × (unread_for sight root sys given ≡ Some path) × (e ≡ Stops (Says (unread_text path cause)))
+    Unread e = (path : List ℕ) × (places_meant sight names root sys given ≡ []) × (unread_for sight root sys given ≡ Some path) × (e ≡ Stops (Says (unread_text path cause)))
 
     abbrev Nothing : (e : End) → Type 0
-    Nothing e = (device_for sight root sys given ≡ None) × (unread_for sight root sys given ≡ None) × (e ≡ Stops (Says (missing_text sight root sys given cause)))
+    Nothing e = (places_meant sight names root sys given ≡ []) × (unread_for sight root sys given ≡ None) × (e ≡ Stops (Says (missing_text sight root sys given cause)))
 
-    no_place : (e : End) (u : Option (List ℕ)) → device_for sight root sys given ≡ None → unread_for sight root sys given ≡ u
-        → Ends w (option_map_or (λ path. says (unread_text path cause)) u (says (missing_text sight root sys given cause))) e → Unread e ⊎ Nothing e
+    abbrev Several : (e : End) → Type 0
+    Several e =
+        (one other : List ℕ) × (more : List (List ℕ)) × (places_meant sight names root sys given ≡ one ∷ other ∷ more)
+        × (e ≡ Stops (Says (several_text sight names sys given (one ∷ other ∷ more))))
+
+    abbrev Not : (e : End) → Type 0
+    Not e = Unread e ⊎ (Nothing e ⊎ Several e)
+
+    no_place : (e : End) (u : Option (List ℕ)) → places_meant sight names root sys given ≡ [] → unread_for sight root sys given ≡ u
+        → Ends w (option_map_or (λ path. says (unread_text path cause)) u (says (missing_text sight root sys given cause))) e → Not e
     unfolding Ends
-    no_place e None absent read end = inr (absent, read, end)
+    no_place e None absent read end = inr (inl (absent, read, end))
     no_place e (Some path) absent unread end = inl (path, absent, unread, end)
 
-    of_place : (next : List ℕ → Plan) (e : End) (o : Option (List ℕ)) → device_for sight root sys given ≡ o
-        → Ends w (option_map_or next o (option_map_or (λ path. says (unread_text path cause)) (unread_for sight root sys given) (says (missing_text sight root sys given cause)))) e
-        → There next e ⊎ (Unread e ⊎ Nothing e)
-    of_place next e None absent end = inr (no_place e (unread_for sight root sys given) absent refl end)
-    of_place next e (Some place) is end = inl (place, is, end)
+    of_places : (next : List ℕ → Plan) (e : End) (places : List (List ℕ)) → places_meant sight names root sys given ≡ places
+        → Ends w (one_of next (λ l. says (several_text sight names sys given l)) (none_there sight cause root given sys) places) e → There next e ⊎ Not e
+    unfolding Ends
+    of_places next e [] absent end = inr (no_place e (unread_for sight root sys given) absent refl end)
+    of_places next e (place ∷ []) is end = inl (place, ap only is, end)
+    of_places next e (one ∷ other ∷ more) are end = inr (inr (inr (one, other, more, are, end)))
 
-    pub place_leads : (next : List ℕ → Plan) (e : End) → Ends w (place_of sight cause root given sys next) e → There next e ⊎ (Unread e ⊎ Nothing e)
-    place_leads next e ends = of_place next e (device_for sight root sys given) refl ends
+    pub place_leads : (next : List ℕ → Plan) (e : End) → Ends w (place_of sight cause names root given sys next) e → There next e ⊎ Not e
+    place_leads next e ends = of_places next e (places_meant sight names root sys given) refl ends
 
 module _ (w : Reads) (seen : Contents) (fails : List ℕ → Type 0) (agree : AreReadsOf w seen fails) (sight : Sight) (root : List ℕ) where
   abbrev IsSo : (Is : Refusal → Type 0) → Refusal → Type 0
@@ -157,11 +167,11 @@ module _ (w : Reads) (seen : Contents) (fails : List ℕ → Type 0) (agree : Ar
       At sys place = asked root (device_answer form (device_at sight asked_names sys place))
 
       abbrev In : (sys : List ℕ) → Plan
-      In sys = place_of sight cause root given sys (At sys)
+      In sys = place_of sight cause asked_names root given sys (At sys)
 
-      is_meant : (sys place : List ℕ) → sysfs_below sight root ≡ Some sys → device_for sight root sys given ≡ Some place → device_meant sight asked_names root given ≡ Some (device_at sight asked_names sys place)
+      is_meant : (sys place : List ℕ) → sysfs_below sight root ≡ Some sys → only (places_meant sight asked_names root sys given) ≡ Some place → device_meant sight asked_names root given ≡ Some (device_at sight asked_names sys place)
       is_meant sys place below for =
-          ap (λ (o : Option (List ℕ)). option_map_or (λ s. option_map (device_at sight asked_names s) (device_for sight root s given)) o None) below
+          ap (λ (o : Option (List ℕ)). option_map_or (λ s. option_map (device_at sight asked_names s) (only (places_meant sight asked_names root s given))) o None) below
           ∙ ap (λ (o : Option (List ℕ)). option_map (device_at sight asked_names sys) o) for
 
       abbrev Shown : Answer → Type 0
@@ -170,18 +180,19 @@ module _ (w : Reads) (seen : Contents) (fails : List ℕ → Type 0) (agree : Ar
       shown : (a : Answer) → Ends w (meant_plan sight cause asked_names root given form) (end_of a) → Shown a
       shown a ends = by (sysfs_leads w sight cause root In (end_of a) ends)
         where
-          at : (sys place : List ℕ) → sysfs_below sight root ≡ Some sys → device_for sight root sys given ≡ Some place → IsText form (device_at sight asked_names sys place) a → Shown a
+          at : (sys place : List ℕ) → sysfs_below sight root ≡ Some sys → only (places_meant sight asked_names root sys given) ≡ Some place → IsText form (device_at sight asked_names sys place) a → Shown a
           at sys place below for (zero, (none, is)) = (zero, (none, record { device = device_at sight asked_names sys place; meant = is_meant sys place below for; is = is }))
 
           in_it : (sys : List ℕ) → sysfs_below sight root ≡ Some sys
-              → There w sight cause root given sys (At sys) (end_of a) ⊎ (Unread w sight cause root given sys (end_of a) ⊎ Nothing w sight cause root given sys (end_of a)) → Shown a
+              → There w sight cause root asked_names given sys (At sys) (end_of a) ⊎ Not w sight cause root asked_names given sys (end_of a) → Shown a
           in_it sys below (inl (place, for, end)) =
               at sys place below for (answered form (device_at sight asked_names sys place) a (leads w seen fails agree None root (device_answer form (device_at sight asked_names sys place)) (end_of a) end))
           in_it sys below (inr (inl (path, absent, unread, end))) = cc
-          in_it sys below (inr (inr (absent, read, end))) = cc
+          in_it sys below (inr (inr (inl (absent, read, end)))) = cc
+          in_it sys below (inr (inr (inr (one, other, more, are, end)))) = cc
 
           by : Below w sight cause root In (end_of a) ⊎ Missing w sight cause root (end_of a) → Shown a
-          by (inl (sys, below, end)) = in_it sys below (place_leads w sight cause root given sys (At sys) (end_of a) end)
+          by (inl (sys, below, end)) = in_it sys below (place_leads w sight cause root asked_names given sys (At sys) (end_of a) end)
           by (inr (path, missing, end)) = cc
 
       abbrev Refused : Refusal → Type 0
@@ -191,7 +202,7 @@ module _ (w : Reads) (seen : Contents) (fails : List ℕ → Type 0) (agree : Ar
       unshown r ends = by (sysfs_leads w sight cause root In (Stops (stop_of r)) ends)
         where
           in_it : (sys : List ℕ) → sysfs_below sight root ≡ Some sys
-              → There w sight cause root given sys (At sys) (Stops (stop_of r)) ⊎ (Unread w sight cause root given sys (Stops (stop_of r)) ⊎ Nothing w sight cause root given sys (Stops (stop_of r))) → Refused r
+              → There w sight cause root asked_names given sys (At sys) (Stops (stop_of r)) ⊎ Not w sight cause root asked_names given sys (Stops (stop_of r)) → Refused r
           in_it sys below (inl (place, for, end)) =
               let not = unanswered form (device_at sight asked_names sys place) r (leads w seen fails agree None root (device_answer form (device_at sight asked_names sys place)) (Stops (stop_of r)) end) in
               (inr (ap is_some (is_meant sys place below for), not.0), not.1)
@@ -199,13 +210,17 @@ module _ (w : Reads) (seen : Contents) (fails : List ℕ → Type 0) (agree : Ar
               let says : stop_of r ≡ Says (unread_text path cause) = cc in
               in_words Refused (unread_text path cause)
               (λ t is. (inl (inr (sys, below, inr (inl record { none = absent; path = path; unread = unread; words = cause; one_line = one_line; said = is }))), tt)) r says
-          in_it sys below (inr (inr (absent, read, end))) =
+          in_it sys below (inr (inr (inl (absent, read, end)))) =
               let says : stop_of r ≡ Says (missing_text sight root sys given cause) = cc in
               in_words Refused (missing_text sight root sys given cause)
-              (λ t is. (inl (inr (sys, below, inr (inr record { none = absent; all_read = read; words = cause; one_line = one_line; said = is }))), tt)) r says
+              (λ t is. (inl (inr (sys, below, inr (inr (inl record { none = absent; all_read = read; words = cause; one_line = one_line; said = is })))), tt)) r says
+          in_it sys below (inr (inr (inr (one, other, more, are, end)))) =
+              let says : stop_of r ≡ Says (several_text sight asked_names sys given (one ∷ other ∷ more)) = cc in
+              in_words Refused (several_text sight asked_names sys given (one ∷ other ∷ more))
+              (λ t is. (inl (inr (sys, below, inr (inr (inr record { one = one; other = other; more = more; are = are; said = is })))), tt)) r says
 
           by : Below w sight cause root In (Stops (stop_of r)) ⊎ Missing w sight cause root (Stops (stop_of r)) → Refused r
-          by (inl (sys, below, end)) = in_it sys below (place_leads w sight cause root given sys (At sys) (Stops (stop_of r)) end)
+          by (inl (sys, below, end)) = in_it sys below (place_leads w sight cause root asked_names given sys (At sys) (Stops (stop_of r)) end)
           by (inr none) = let not = no_sysfs r none in (inl (inl not.0), not.1)
 
   -- there was no memory

@@ -1,5 +1,5 @@
 -- `device` ends with one error over one input, or is done.
-use Rattle.std.proofs.Common.{◌≡◌, ◌⊎◌, ◌∙◌, inl, inr, ap, sym, subst, refl, ℕ, Bool, true, false, List, Option, None, Some, is_some, string_bytes}
+use Rattle.std.proofs.Common.{◌≡◌, ◌⊎◌, ◌∙◌, inl, inr, ap, sym, subst, refl, ℕ, Bool, true, false, List, [], ◌∷◌, Option, None, Some, is_some, string_bytes}
 use Rattle.std.specs.Option.{option_map_or}
 use Rattle.std.specs.Prelude.{codes, option_map, ◌++◌}
 use Rattle.clap.specs.Simple.{matches_of, subcommand_of}
@@ -7,8 +7,9 @@ use Rattle.clap.specs.Walk.{Row, Text}
 use Rattle.hwdb_spec_commands.specs.CommandLine.{hwdb_app}
 use Rattle.hwdb_spec_commands.specs.DeviceAsked.{IsDevicePrinted, device_form, device_list, device_meant, leads_nowhere, missing_text, no_sysfs_text, unread_text}
 use Rattle.hwdb_spec_program.specs.DeviceErrors.{IsDeviceRefused, IsNoDevice, IsNoSysfs, asked_names}
+use Rattle.hwdb_spec_commands.specs.DeviceFound.{only, places_meant, several_text}
 use Rattle.hwdb_spec_commands.specs.DeviceTexts.{device_text}
-use Rattle.hwdb_spec_commands.specs.DeviceTree.{Sight, device_at, device_for, last_name, missing_folder, near_name, sysfs_below, unread_for}
+use Rattle.hwdb_spec_commands.specs.DeviceTree.{Sight, device_at, last_name, missing_folder, near_name, sysfs_below, unread_for}
 use Rattle.hwdb_spec_commands.specs.Jobs.{IsJobOf, IsTask}
 use Rattle.hwdb_spec_program.specs.Program.{IsDeviceAnswer, IsTaskDone, root_of}
 use Rattle.hwdb_spec_commands.specs.Refusals.{HasReason}
@@ -55,18 +56,18 @@ module _ (sight : Sight) (root : List ℕ) where
     pub sys : List ℕ
     pub place : List ℕ
     pub below : sysfs_below sight root ≡ Some sys
-    pub there : device_for sight root sys given ≡ Some place
+    pub there : only (places_meant sight asked_names root sys given) ≡ Some place
 
   is_meant : (given : List ℕ) → is_some (device_meant sight asked_names root given) ≡ true → IsMeant given
   is_meant given meant = by (sysfs_below sight root) refl meant
     where
-      at : (s : List ℕ) (p : Option (List ℕ)) → sysfs_below sight root ≡ Some s → device_for sight root s given ≡ p → is_some (option_map (device_at sight asked_names s) p) ≡ true → IsMeant given
+      at : (s : List ℕ) (p : Option (List ℕ)) → sysfs_below sight root ≡ Some s → only (places_meant sight asked_names root s given) ≡ p → is_some (option_map (device_at sight asked_names s) p) ≡ true → IsMeant given
       at s None is for m = absurd cc
       at s (Some place) is for m = record { sys = s; place = place; below = is; there = for }
 
-      by : (o : Option (List ℕ)) → sysfs_below sight root ≡ o → is_some (option_map_or (λ sys. option_map (device_at sight asked_names sys) (device_for sight root sys given)) o None) ≡ true → IsMeant given
+      by : (o : Option (List ℕ)) → sysfs_below sight root ≡ o → is_some (option_map_or (λ sys. option_map (device_at sight asked_names sys) (only (places_meant sight asked_names root sys given))) o None) ≡ true → IsMeant given
       by None is m = absurd cc
-      by (Some s) is m = at s (device_for sight root s given) is refl m
+      by (Some s) is m = at s (only (places_meant sight asked_names root s given)) is refl m
 
 -- ---- why a task isn't done
 -- there is no sysfs
@@ -80,7 +81,7 @@ pub record HasNoSysfs (sight : Sight) (root : List ℕ) (r : Refusal) : Type 0 w
 pub record HasUnread (sight : Sight) (root given : List ℕ) (r : Refusal) : Type 0 where
   pub sys : List ℕ
   pub below : sysfs_below sight root ≡ Some sys
-  pub none : device_for sight root sys given ≡ None
+  pub none : places_meant sight asked_names root sys given ≡ []
   pub path : List ℕ
   pub unread : unread_for sight root sys given ≡ Some path
   pub words : List ℕ
@@ -90,10 +91,20 @@ pub record HasUnread (sight : Sight) (root given : List ℕ) (r : Refusal) : Typ
 pub record HasNoDevice (sight : Sight) (root given : List ℕ) (r : Refusal) : Type 0 where
   pub sys : List ℕ
   pub below : sysfs_below sight root ≡ Some sys
-  pub none : device_for sight root sys given ≡ None
+  pub none : places_meant sight asked_names root sys given ≡ []
   pub all_read : unread_for sight root sys given ≡ None
   pub words : List ℕ
   pub says : SaysSo (missing_text sight root sys given words) r
+
+-- several are
+pub record HasSeveral (sight : Sight) (root given : List ℕ) (r : Refusal) : Type 0 where
+  pub sys : List ℕ
+  pub below : sysfs_below sight root ≡ Some sys
+  pub one : List ℕ
+  pub other : List ℕ
+  pub more : List (List ℕ)
+  pub are : places_meant sight asked_names root sys given ≡ one ∷ other ∷ more
+  pub says : SaysSo (several_text sight asked_names sys given (one ∷ other ∷ more)) r
 
 no_sysfs : (sight : Sight) (root : List ℕ) (r : Refusal) → IsNoSysfs root sight r → IsOfWhatIsRead r → HasNoSysfs sight root r
 no_sysfs sight root r (inl memory) of = absurd (subst IsOfWhatIsRead memory of)
@@ -108,7 +119,7 @@ module _ (header : OneHeader) (sight : Sight) (root : List ℕ) (files : Content
 
   abbrev pub WhyDevice : Option (List ℕ) → Refusal → Type 0
   WhyDevice None r = HasNoSysfs sight root r
-  WhyDevice (Some given) r = HasNoSysfs sight root r ⊎ (HasUnread sight root given r ⊎ (HasNoDevice sight root given r ⊎ IsDatabaseEnd given r))
+  WhyDevice (Some given) r = HasNoSysfs sight root r ⊎ (HasUnread sight root given r ⊎ (HasNoDevice sight root given r ⊎ (HasSeveral sight root given r ⊎ IsDatabaseEnd given r)))
 
   no_device : (given : List ℕ) (r : Refusal) (sys : List ℕ) → sysfs_below sight root ≡ Some sys → IsNoDevice root sys given sight r → IsOfWhatIsRead r → WhyDevice (Some given) r
   no_device given r sys below (inl memory) of = absurd (subst IsOfWhatIsRead memory of)
@@ -121,7 +132,7 @@ module _ (header : OneHeader) (sight : Sight) (root : List ℕ) (files : Content
     words = unread.words;
     says = says_so (unread_text unread.path unread.words) r unread.said of;
   })
-  no_device given r sys below (inr (inr none)) of = inr (inr (inl record {
+  no_device given r sys below (inr (inr (inl none))) of = inr (inr (inl record {
     sys = sys;
     below = below;
     none = none.none;
@@ -129,12 +140,21 @@ module _ (header : OneHeader) (sight : Sight) (root : List ℕ) (files : Content
     words = none.words;
     says = says_so (missing_text sight root sys given none.words) r none.said of;
   }))
+  no_device given r sys below (inr (inr (inr many))) of = inr (inr (inr (inl record {
+    sys = sys;
+    below = below;
+    one = many.one;
+    other = many.other;
+    more = many.more;
+    are = many.are;
+    says = says_so (several_text sight asked_names sys given (many.one ∷ many.other ∷ many.more)) r many.said of;
+  })))
 
   why_device : (fails : List ℕ → Type 0) (U : Type 0) → NeverNamed fails root files None → (given : Option (List ℕ)) (r : Refusal) → IsDeviceRefused root given sight files r → HasReason fails U files r → IsOfWhatIsRead r → WhyDevice given r
   why_device fails U never None r not reason of = no_sysfs sight root r not of
   why_device fails U never (Some given) r (inl (inl none)) reason of = inl (no_sysfs sight root r none of)
   why_device fails U never (Some given) r (inl (inr (sys, below, none))) reason of = no_device given r sys below none of
-  why_device fails U never (Some given) r (inr (meant, not)) reason of = inr (inr (inr (meant, unanswered header fails U root files never r not reason of)))
+  why_device fails U never (Some given) r (inr (meant, not)) reason of = inr (inr (inr (inr (meant, unanswered header fails U root files never r not reason of))))
 
   -- ---- two of them
   sysfs_sysfs : (r r2 : Refusal) → HasNoSysfs sight root r → HasNoSysfs sight root r2 → IsOneError r r2
@@ -143,10 +163,19 @@ module _ (header : OneHeader) (sight : Sight) (root : List ℕ) (files : Content
       said_said (no_sysfs_text one.path one.words) (no_sysfs_text two.path two.words) r r2 one.says two.says
       (inr (inl (one.words, two.words, inl (one.path, refl, ap (λ (p : List ℕ). no_sysfs_text p two.words) same))))
 
-  not_here : (given : List ℕ) (sys place : List ℕ) (meant : IsMeant sight root given) → sysfs_below sight root ≡ Some sys → device_for sight root sys given ≡ None → ⊥
-  not_here given sys place meant below none =
+  abbrev places_in : (given sys : List ℕ) → List (List ℕ)
+  places_in given sys = places_meant sight asked_names root sys given
+
+  not_here : (given : List ℕ) (sys : List ℕ) (meant : IsMeant sight root given) → sysfs_below sight root ≡ Some sys → only (places_in given sys) ≡ None → ⊥
+  not_here given sys meant below none =
       let same : sys ≡ meant.sys = one_held (sysfs_below sight root) sys meant.sys below meant.below in
-      let no : None ≡ Some meant.place = sym none ∙ ap (λ (s : List ℕ). device_for sight root s given) same ∙ meant.there in absurd cc
+      let no : None ≡ Some meant.place = sym none ∙ ap (λ (s : List ℕ). only (places_in given s)) same ∙ meant.there in absurd cc
+
+  not_several : (given one_sys two_sys one other : List ℕ) (more : List (List ℕ)) → sysfs_below sight root ≡ Some one_sys → sysfs_below sight root ≡ Some two_sys
+      → places_in given one_sys ≡ [] → places_in given two_sys ≡ one ∷ other ∷ more → ⊥
+  not_several given one_sys two_sys one other more one_below two_below none are =
+      let same : two_sys ≡ one_sys = one_held (sysfs_below sight root) two_sys one_sys two_below one_below in
+      let no : [] ≡ one ∷ other ∷ more = sym none ∙ ap (places_in given) (sym same) ∙ are in absurd cc
 
   module _ (given : List ℕ) where
     unread_unread : (r r2 : Refusal) → HasUnread sight root given r → HasUnread sight root given r2 → IsOneError r r2
@@ -167,27 +196,48 @@ module _ (header : OneHeader) (sight : Sight) (root : List ℕ) (files : Content
         let sys : two.sys ≡ one.sys = one_held (sysfs_below sight root) two.sys one.sys two.below one.below in
         let no : None ≡ Some one.path = sym two.all_read ∙ ap (λ (s : List ℕ). unread_for sight root s given) sys ∙ one.unread in absurd cc
 
+    several_several : (r r2 : Refusal) → HasSeveral sight root given r → HasSeveral sight root given r2 → IsOneError r r2
+    several_several r r2 one two =
+        let sys : two.sys ≡ one.sys = one_held (sysfs_below sight root) two.sys one.sys two.below one.below in
+        let same : one.one ∷ one.other ∷ one.more ≡ two.one ∷ two.other ∷ two.more = sym one.are ∙ ap (places_in given) (sym sys) ∙ two.are in
+        said_said (several_text sight asked_names one.sys given (one.one ∷ one.other ∷ one.more)) (several_text sight asked_names two.sys given (two.one ∷ two.other ∷ two.more)) r r2 one.says two.says
+        (inl (ap (several_text sight asked_names one.sys given) same ∙ ap (λ (s : List ℕ). several_text sight asked_names s given (two.one ∷ two.other ∷ two.more)) (sym sys)))
+
     sysfs_or_meant : (r : Refusal) → HasNoSysfs sight root r → IsMeant sight root given → ⊥
     sysfs_or_meant r one meant = no_both sight root one.path meant.sys one.missing meant.below
 
     abbrev Rest : Refusal → Type 0
-    Rest r = HasUnread sight root given r ⊎ (HasNoDevice sight root given r ⊎ IsDatabaseEnd given r)
+    Rest r = HasUnread sight root given r ⊎ (HasNoDevice sight root given r ⊎ (HasSeveral sight root given r ⊎ IsDatabaseEnd given r))
 
     sysfs_or_rest : (r r2 : Refusal) → HasNoSysfs sight root r → Rest r2 → ⊥
     sysfs_or_rest r r2 one (inl two) = no_both sight root one.path two.sys one.missing two.below
     sysfs_or_rest r r2 one (inr (inl two)) = no_both sight root one.path two.sys one.missing two.below
-    sysfs_or_rest r r2 one (inr (inr two)) = sysfs_or_meant r one (is_meant sight root given two.0)
+    sysfs_or_rest r r2 one (inr (inr (inl two))) = no_both sight root one.path two.sys one.missing two.below
+    sysfs_or_rest r r2 one (inr (inr (inr two))) = sysfs_or_meant r one (is_meant sight root given two.0)
+
+    -- what isn't meant, or not alone, isn't found
+    not_meant : (r : Refusal) → IsMeant sight root given → HasUnread sight root given r ⊎ (HasNoDevice sight root given r ⊎ HasSeveral sight root given r) → ⊥
+    not_meant r meant (inl one) = not_here given one.sys meant one.below (ap only one.none)
+    not_meant r meant (inr (inl one)) = not_here given one.sys meant one.below (ap only one.none)
+    not_meant r meant (inr (inr one)) = not_here given one.sys meant one.below (ap only one.are)
 
     rest_rest : (r r2 : Refusal) → Rest r → Rest r2 → IsOneError r r2
     rest_rest r r2 (inl one) (inl two) = unread_unread r r2 one two
     rest_rest r r2 (inl one) (inr (inl two)) = absurd (unread_none r r2 one two)
+    rest_rest r r2 (inl one) (inr (inr (inl two))) = absurd (not_several given one.sys two.sys two.one two.other two.more one.below two.below one.none two.are)
+    rest_rest r r2 (inl one) (inr (inr (inr two))) = absurd (not_meant r (is_meant sight root given two.0) (inl one))
     rest_rest r r2 (inr (inl one)) (inl two) = absurd (unread_none r2 r two one)
-    rest_rest r r2 (inl one) (inr (inr two)) = let meant = is_meant sight root given two.0 in absurd (not_here given one.sys meant.place meant one.below one.none)
-    rest_rest r r2 (inr (inr one)) (inl two) = let meant = is_meant sight root given one.0 in absurd (not_here given two.sys meant.place meant two.below two.none)
     rest_rest r r2 (inr (inl one)) (inr (inl two)) = none_none r r2 one two
-    rest_rest r r2 (inr (inl one)) (inr (inr two)) = let meant = is_meant sight root given two.0 in absurd (not_here given one.sys meant.place meant one.below one.none)
-    rest_rest r r2 (inr (inr one)) (inr (inl two)) = let meant = is_meant sight root given one.0 in absurd (not_here given two.sys meant.place meant two.below two.none)
-    rest_rest r r2 (inr (inr one)) (inr (inr two)) = answer_answer header (λ (path : List ℕ). ⊥) ⊥ root files r r2 one.1 two.1
+    rest_rest r r2 (inr (inl one)) (inr (inr (inl two))) = absurd (not_several given one.sys two.sys two.one two.other two.more one.below two.below one.none two.are)
+    rest_rest r r2 (inr (inl one)) (inr (inr (inr two))) = absurd (not_meant r (is_meant sight root given two.0) (inr (inl one)))
+    rest_rest r r2 (inr (inr (inl one))) (inl two) = absurd (not_several given two.sys one.sys one.one one.other one.more two.below one.below two.none one.are)
+    rest_rest r r2 (inr (inr (inl one))) (inr (inl two)) = absurd (not_several given two.sys one.sys one.one one.other one.more two.below one.below two.none one.are)
+    rest_rest r r2 (inr (inr (inl one))) (inr (inr (inl two))) = several_several r r2 one two
+    rest_rest r r2 (inr (inr (inl one))) (inr (inr (inr two))) = absurd (not_meant r (is_meant sight root given two.0) (inr (inr one)))
+    rest_rest r r2 (inr (inr (inr one))) (inl two) = absurd (not_meant r2 (is_meant sight root given one.0) (inl two))
+    rest_rest r r2 (inr (inr (inr one))) (inr (inl two)) = absurd (not_meant r2 (is_meant sight root given one.0) (inr (inl two)))
+    rest_rest r r2 (inr (inr (inr one))) (inr (inr (inl two))) = absurd (not_meant r2 (is_meant sight root given one.0) (inr (inr two)))
+    rest_rest r r2 (inr (inr (inr one))) (inr (inr (inr two))) = answer_answer header (λ (path : List ℕ). ⊥) ⊥ root files r r2 one.1 two.1
 
   device_device : (given : Option (List ℕ)) (r r2 : Refusal) → WhyDevice given r → WhyDevice given r2 → IsOneError r r2
   device_device None r r2 one two = sysfs_sysfs r r2 one two
@@ -211,9 +261,10 @@ module _ (header : OneHeader) (sight : Sight) (root : List ℕ) (files : Content
 
       by : WhyDevice (Some given) r → ⊥
       by (inl one) = sysfs_or_meant given r one meant
-      by (inr (inl one)) = not_here given one.sys meant.place meant one.below one.none
-      by (inr (inr (inl one))) = not_here given one.sys meant.place meant one.below one.none
-      by (inr (inr (inr one))) = answer_done header (λ (path : List ℕ). ⊥) ⊥ root files (device_text form done.device) text r done.is one.1
+      by (inr (inl one)) = not_meant given r meant (inl one)
+      by (inr (inr (inl one))) = not_meant given r meant (inr (inl one))
+      by (inr (inr (inr (inl one)))) = not_meant given r meant (inr (inr one))
+      by (inr (inr (inr (inr one)))) = answer_done header (λ (path : List ℕ). ⊥) ⊥ root files (device_text form done.device) text r done.is one.1
 
 -- ---- tasks
 -- what is given; of another task nothing

@@ -1,9 +1,13 @@
 -- A device, the lines of all of them, and what is said if there is none.
-use Rattle.std.proofs.Common.{◌≡◌, ◌<◌, ◌≤◌, ◌+◌, ◌∙◌, ◌++◌, [], ap, append_assoc, false, flat_map, get_or, if◌then◌else◌, is_some, length, map, not, refl, sym, take, true, Bool, Global, List, Vec, ℕ}
+use Rattle.std.proofs.Common.{◌≡◌, ◌<◌, ◌≤◌, ◌+◌, ◌∙◌, ◌++◌, ◌∷◌, [], ap, arith, append_assoc, false, flat_map, get_or, if◌then◌else◌, is_some, length, map, not, refl, sym, take, true, Bool, Global, List, Vec, ℕ}
 use Rattle.std.proofs.lemmas.List.{flat_map_more, take_all}
 use Rattle.hwdb_spec_commands.specs.DeviceAsked.{leads_nowhere}
+use Rattle.hwdb_spec_commands.specs.DeviceFound.{places_meant, several_text}
 use Rattle.hwdb_spec_commands.specs.DeviceTree.{Sight, absolute}
+use Rattle.hwdb_spec_commands.specs.Refusals.{IsInWords}
+use Rattle.hwdb_spec_commands.specs.declared.refusals.Refusal.{Refusal}
 use Rattle.hwdb_spec.specs.Lines.{byte, has}
+use Rattle.hwdb_spec_program.specs.DeviceErrors.{SaysSeveral, asked_names}
 use Rattle.hwdb_sysfs.specs.Lemmas.Names.{items, one_more}
 
 -- a text, and four pieces after it
@@ -37,6 +41,13 @@ pub rows_all : (f : List ℕ → List ℕ) (xs : List (Vec ℕ Global)) (i : ℕ
     → text ≡ flat_map f (map items (take i xs)) → map items xs ≡ places → text ≡ flat_map f places
 rows_all f xs i text places le whole are =
     whole ∙ ap (λ (l : List (Vec ℕ Global)). flat_map f (map items l)) (take_all i xs le) ∙ ap (λ (l : List (List ℕ)). flat_map f l) are
+
+-- several devices are meant, and the error lists them
+pub says_several : (sight : Sight) (root sys given : List ℕ) (r : Refusal) (xs : List (Vec ℕ Global)) → 1 < length xs → map items xs ≡ places_meant sight asked_names root sys given
+    → IsInWords (several_text sight asked_names sys given (map items xs)) r → SaysSeveral root sys given sight r
+says_several sight root sys given r [] lt are said = absurd (omega (arith, lt))
+says_several sight root sys given r (x ∷ []) lt are said = absurd (omega (arith, lt))
+says_several sight root sys given r (x ∷ y ∷ more) lt are said = record { one = x.items; other = y.items; more = map items more; are = sym are; said = said }
 
 -- a path that leads somewhere, or a name
 pub leads_somewhere : (sight : Sight) (root given : List ℕ) → (has (byte "/") given ≡ true → is_some (sight.place (root ++ absolute given)) ≡ true) → leads_nowhere sight root given ≡ false

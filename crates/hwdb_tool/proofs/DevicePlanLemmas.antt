@@ -1,5 +1,5 @@
 -- Ends of `device`, from what its calls promise.
-use Rattle.std.proofs.Common.{◌≡◌, ◌⊎◌, inl, inr, ap, refl, sym, subst, List, Option, None, Some, Result, Ok, Err, ℕ, [], ◌++◌}
+use Rattle.std.proofs.Common.{◌≡◌, ◌⊎◌, inl, inr, ap, refl, sym, subst, List, Option, None, Some, Result, Ok, Err, ℕ, [], ◌∷◌, ◌++◌}
 use Rattle.std.specs.Option.{option_map_or}
 use Rattle.std.specs.Prelude.{codes, option_map}
 use Rattle.std.specs.Result.{IsErrAnd}
@@ -8,8 +8,9 @@ use Rattle.hwdb_spec.specs.declared.errors.ToolError.TheVariants as error
 use Rattle.hwdb_spec_commands.specs.DatabaseErrors.{IsDatabaseRefusal}
 use Rattle.hwdb_spec_commands.specs.Databases.{IsTextOf}
 use Rattle.hwdb_spec_commands.specs.DeviceAsked.{device_list, device_meant, missing_text, no_sysfs_text, unread_text}
+use Rattle.hwdb_spec_commands.specs.DeviceFound.{only, places_meant, several_text}
 use Rattle.hwdb_spec_commands.specs.DeviceTexts.{device_text}
-use Rattle.hwdb_spec_commands.specs.DeviceTree.{Sight, device_at, device_for, missing_folder, sysfs_below, unread_for}
+use Rattle.hwdb_spec_commands.specs.DeviceTree.{Sight, device_at, missing_folder, sysfs_below, unread_for}
 use Rattle.hwdb_spec_commands.specs.Refusals.{IsInWords}
 use Rattle.hwdb_spec_commands.specs.Sysfs.{Device}
 use Rattle.hwdb_spec_commands.specs.Told.{IsStop, Reads, stop_of}
@@ -17,9 +18,9 @@ use Rattle.hwdb_spec_commands.specs.Told.Stop.{Says}
 use Rattle.hwdb_spec_commands.specs.declared.devices.DeviceForm.{DeviceForm}
 use Rattle.hwdb_spec_commands.specs.declared.refusals.Refusal.{Refusal}
 use Rattle.hwdb_spec_commands.specs.declared.refusals.Refusal.TheVariants as refusal
-use Rattle.hwdb_spec_program.specs.DeviceErrors.{IsNoDevice, IsNoSysfs, IsUnmeant}
+use Rattle.hwdb_spec_program.specs.DeviceErrors.{IsNoDevice, IsNoSysfs, IsUnmeant, asked_names}
 use Rattle.hwdb_plan.specs.Asking.{asked}
-use Rattle.hwdb_plan.specs.Device.{OfCause, device_answer, devices_plan, folder_of, meant_plan, place_of, says, sysfs_of}
+use Rattle.hwdb_plan.specs.Device.{OfCause, device_answer, devices_plan, folder_of, meant_plan, none_there, one_of, place_of, says, sysfs_of}
 use Rattle.hwdb_plan.specs.Dump.{database_stop}
 use Rattle.hwdb_plan.specs.Lemmas.Steps.{plainly}
 use Rattle.hwdb_plan.specs.Plans.{End, Ends, Follows, Plan}
@@ -69,25 +70,46 @@ module _ (w : Reads) (sight : Sight) (cause root : List ℕ) where
     missing_ends path is = missing_at path (sight.place (root ++ codes "/sys")) is
 
   -- ---- the device
-  module _ (given sys : List ℕ) (next : List ℕ → Plan) where
+  module _ (names : List (List ℕ)) (given sys : List ℕ) (next : List ℕ → Plan) where
+    abbrev Several : (places : List (List ℕ)) → Plan
+    Several places = says (several_text sight names sys given places)
+
+    abbrev NoneThere : Plan
+    NoneThere = none_there sight cause root given sys
+
+    abbrev OneOf : (places : List (List ℕ)) (e : End) → Type 0
+    OneOf places e = Ends w (one_of next Several NoneThere places) e
+
+    one_ends : (place : List ℕ) (e : End) (places : List (List ℕ)) → only places ≡ Some place → Ends w (next place) e → OneOf places e
+    one_ends place e [] is ends = absurd cc
+    one_ends place e (x ∷ []) is ends = let same : x ≡ place = cc in subst (λ (p : List ℕ). Ends w (next p) e) (sym same) ends
+    one_ends place e (x ∷ y ∷ more) is ends = absurd cc
+
     -- it is meant
-    there_ends : (place : List ℕ) (e : End) → device_for sight root sys given ≡ Some place → Ends w (next place) e → Ends w (place_of sight cause root given sys next) e
-    there_ends place e is ends =
-        subst (λ (o : Option (List ℕ)). Ends w (option_map_or next o (option_map_or (λ path. says (unread_text path cause)) (unread_for sight root sys given) (says (missing_text sight root sys given cause)))) e) (sym is) ends
+    there_ends : (place : List ℕ) (e : End) → only (places_meant sight names root sys given) ≡ Some place → Ends w (next place) e → Ends w (place_of sight cause names root given sys next) e
+    there_ends place e is ends = one_ends place e (places_meant sight names root sys given) is ends
 
     -- what would tell of it can't be read
-    unread_ends : (path : List ℕ) → device_for sight root sys given ≡ None → unread_for sight root sys given ≡ Some path → Ends w (place_of sight cause root given sys next) (Stops (Says (unread_text path cause)))
+    unread_ends : (path : List ℕ) → places_meant sight names root sys given ≡ [] → unread_for sight root sys given ≡ Some path
+        → Ends w (place_of sight cause names root given sys next) (Stops (Says (unread_text path cause)))
     unfolding Ends
     unread_ends path none is =
-        subst (λ (o : Option (List ℕ)). Ends w (option_map_or next o (option_map_or (λ path. says (unread_text path cause)) (unread_for sight root sys given) (says (missing_text sight root sys given cause)))) (Stops (Says (unread_text path cause)))) (sym none)
+        subst (λ (l : List (List ℕ)). OneOf l (Stops (Says (unread_text path cause)))) (sym none)
         (subst (λ (o : Option (List ℕ)). Ends w (option_map_or (λ path. says (unread_text path cause)) o (says (missing_text sight root sys given cause))) (Stops (Says (unread_text path cause)))) (sym is) refl)
 
     -- there is none
-    none_ends : device_for sight root sys given ≡ None → unread_for sight root sys given ≡ None → Ends w (place_of sight cause root given sys next) (Stops (Says (missing_text sight root sys given cause)))
+    none_ends : places_meant sight names root sys given ≡ [] → unread_for sight root sys given ≡ None
+        → Ends w (place_of sight cause names root given sys next) (Stops (Says (missing_text sight root sys given cause)))
     unfolding Ends
     none_ends none read =
-        subst (λ (o : Option (List ℕ)). Ends w (option_map_or next o (option_map_or (λ path. says (unread_text path cause)) (unread_for sight root sys given) (says (missing_text sight root sys given cause)))) (Stops (Says (missing_text sight root sys given cause)))) (sym none)
+        subst (λ (l : List (List ℕ)). OneOf l (Stops (Says (missing_text sight root sys given cause)))) (sym none)
         (subst (λ (o : Option (List ℕ)). Ends w (option_map_or (λ path. says (unread_text path cause)) o (says (missing_text sight root sys given cause))) (Stops (Says (missing_text sight root sys given cause)))) (sym read) refl)
+
+    -- there are several
+    several_ends : (one other : List ℕ) (more : List (List ℕ)) → places_meant sight names root sys given ≡ one ∷ other ∷ more
+        → Ends w (place_of sight cause names root given sys next) (Stops (Says (several_text sight names sys given (one ∷ other ∷ more))))
+    unfolding Ends
+    several_ends one other more are = subst (λ (l : List (List ℕ)). OneOf l (Stops (Says (several_text sight names sys given (one ∷ other ∷ more))))) (sym are) refl
 
 -- ---- results
 -- an error that says so ends a plan
@@ -116,24 +138,41 @@ module _ {Y : Type 0} (end_of : Y → End) (w : Reads) (sight : Sight) (root : L
     error_ends w (sysfs_of sight none.words root (next none.words)) (no_sysfs_text none.path none.words) r none.said (missing_ends w sight none.words root (next none.words) none.path none.missing),
   )
 
-  -- there is no device
-  no_device : (given sys : List ℕ) (next : List ℕ → List ℕ → List ℕ → Plan) (r : Refusal) → sysfs_below sight root ≡ Some sys → IsNoDevice root sys given sight r
-      → OfCause (λ cause. EndsIn w (sysfs_of sight cause root (λ s. place_of sight cause root given s (next cause s))) r)
-  no_device given sys next r below (inl memory) = whatever (λ cause. EndsIn w (sysfs_of sight cause root (λ s. place_of sight cause root given s (next cause s))) r) (inl memory)
-  no_device given sys next r below (inr (inl unread)) = (
-    unread.words,
-    unread.one_line,
-    error_ends w (sysfs_of sight unread.words root (λ s. place_of sight unread.words root given s (next unread.words s))) (unread_text unread.path unread.words) r unread.said
-        (below_ends w sight unread.words root (λ s. place_of sight unread.words root given s (next unread.words s)) sys (Stops (Says (unread_text unread.path unread.words))) below
-        (unread_ends w sight unread.words root given sys (next unread.words sys) unread.path unread.none unread.unread)),
-  )
-  no_device given sys next r below (inr (inr none)) = (
-    none.words,
-    none.one_line,
-    error_ends w (sysfs_of sight none.words root (λ s. place_of sight none.words root given s (next none.words s))) (missing_text sight root sys given none.words) r none.said
-        (below_ends w sight none.words root (λ s. place_of sight none.words root given s (next none.words s)) sys (Stops (Says (missing_text sight root sys given none.words))) below
-        (none_ends w sight none.words root given sys (next none.words sys) none.none none.all_read)),
-  )
+  -- there is no device, or several are meant
+  module _ (given sys : List ℕ) (next : List ℕ → List ℕ → List ℕ → Plan) (r : Refusal) (below : sysfs_below sight root ≡ Some sys) where
+    abbrev In : (cause s : List ℕ) → Plan
+    In cause s = place_of sight cause asked_names root given s (next cause s)
+
+    -- the plan ends with the error of these words
+    in_words : (cause text : List ℕ) → IsInWords text r → Ends w (In cause sys) (Stops (Says text)) → EndsIn w (sysfs_of sight cause root (In cause)) r
+    in_words cause text said ends = error_ends w (sysfs_of sight cause root (In cause)) text r said (below_ends w sight cause root (In cause) sys (Stops (Says text)) below ends)
+
+    no_device : IsNoDevice root sys given sight r → OfCause (λ cause. EndsIn w (sysfs_of sight cause root (In cause)) r)
+    no_device (inl memory) = whatever (λ cause. EndsIn w (sysfs_of sight cause root (In cause)) r) (inl memory)
+    no_device (inr (inl unread)) = (
+      unread.words,
+      unread.one_line,
+      in_words unread.words (unread_text unread.path unread.words) unread.said
+          (unread_ends w sight unread.words root asked_names given sys (next unread.words sys) unread.path unread.none unread.unread),
+    )
+    no_device (inr (inr (inl none))) = (
+      none.words,
+      none.one_line,
+      in_words none.words (missing_text sight root sys given none.words) none.said (none_ends w sight none.words root asked_names given sys (next none.words sys) none.none none.all_read),
+    )
+    no_device (inr (inr (inr many))) =
+        whatever (λ cause. EndsIn w (sysfs_of sight cause root (In cause)) r)
+        (in_words [] (several_text sight asked_names sys given (many.one ∷ many.other ∷ many.more)) many.said
+        (several_ends w sight [] root asked_names given sys (next [] sys) many.one many.other many.more many.are))
+
+  pub unmeant_follows : (given : List ℕ) (form : DeviceForm) (r : Refusal) (result : Result Y Refusal) → IsUnmeant root given sight r → IsErrAnd result (λ x. x ≡ r)
+      → OfCause (λ cause. Follows end_of w (meant_plan sight cause asked_names root given form) result)
+  unmeant_follows given form r result (inl none) is =
+      handed_on (λ cause. meant_plan sight cause asked_names root given form) r result
+      (no_sysfs (λ cause sys. place_of sight cause asked_names root given sys (λ place. asked root (device_answer form (device_at sight asked_names sys place)))) r none) is
+  unmeant_follows given form r result (inr (sys, below, none)) is =
+      handed_on (λ cause. meant_plan sight cause asked_names root given form) r result
+      (no_device given sys (λ cause s place. asked root (device_answer form (device_at sight asked_names s place))) r below none) is
 
   module _ (names : List (List ℕ)) where
     -- ---- all devices
@@ -155,30 +194,22 @@ module _ {Y : Type 0} (end_of : Y → End) (w : Reads) (sight : Sight) (root : L
       abbrev Meant : Result Y Refusal → Type 0
       Meant result = OfCause (λ cause. Follows end_of w (meant_plan sight cause names root given form) result)
 
-      pub unmeant_follows : (r : Refusal) (result : Result Y Refusal) → IsUnmeant root given sight r → IsErrAnd result (λ x. x ≡ r) → Meant result
-      unmeant_follows r result (inl none) is =
-          handed_on (λ cause. meant_plan sight cause names root given form) r result
-          (no_sysfs (λ cause sys. place_of sight cause root given sys (λ place. asked root (device_answer form (device_at sight names sys place)))) r none) is
-      unmeant_follows r result (inr (sys, below, none)) is =
-          handed_on (λ cause. meant_plan sight cause names root given form) r result
-          (no_device given sys (λ cause s place. asked root (device_answer form (device_at sight names s place))) r below none) is
-
       meant_ends : (device : Device) (e : End) → device_meant sight names root given ≡ Some device → Ends w (asked root (device_answer form device)) e → Ends w (meant_plan sight [] names root given form) e
       meant_ends device e meant ends = at (sysfs_below sight root) refl meant
         where
           next : (sys : List ℕ) (place : List ℕ) → Plan
           next sys place = asked root (device_answer form (device_at sight names sys place))
 
-          in_sysfs : (sys : List ℕ) (p : Option (List ℕ)) → sysfs_below sight root ≡ Some sys → device_for sight root sys given ≡ p → option_map (device_at sight names sys) p ≡ Some device → Ends w (meant_plan sight [] names root given form) e
+          in_sysfs : (sys : List ℕ) (p : Option (List ℕ)) → sysfs_below sight root ≡ Some sys → only (places_meant sight names root sys given) ≡ p → option_map (device_at sight names sys) p ≡ Some device → Ends w (meant_plan sight [] names root given form) e
           in_sysfs sys None below for is = absurd cc
           in_sysfs sys (Some place) below for is =
               let same : device_at sight names sys place ≡ device = cc in
-              below_ends w sight [] root (λ s. place_of sight [] root given s (next s)) sys e below
-              (there_ends w sight [] root given sys (next sys) place e for (subst (λ (d : Device). Ends w (asked root (device_answer form d)) e) (sym same) ends))
+              below_ends w sight [] root (λ s. place_of sight [] names root given s (next s)) sys e below
+              (there_ends w sight [] root names given sys (next sys) place e for (subst (λ (d : Device). Ends w (asked root (device_answer form d)) e) (sym same) ends))
 
-          at : (o : Option (List ℕ)) → sysfs_below sight root ≡ o → option_map_or (λ sys. option_map (device_at sight names sys) (device_for sight root sys given)) o None ≡ Some device → Ends w (meant_plan sight [] names root given form) e
+          at : (o : Option (List ℕ)) → sysfs_below sight root ≡ o → option_map_or (λ sys. option_map (device_at sight names sys) (only (places_meant sight names root sys given))) o None ≡ Some device → Ends w (meant_plan sight [] names root given form) e
           at None below is = absurd cc
-          at (Some sys) below is = in_sysfs sys (device_for sight root sys given) below refl is
+          at (Some sys) below is = in_sysfs sys (only (places_meant sight names root sys given)) below refl is
 
       pub meant_follows : (device : Device) (result : Result Y Refusal) → device_meant sight names root given ≡ Some device → Follows end_of w (asked root (device_answer form device)) result → Meant result
       meant_follows device (Ok y) meant ends = whatever (λ cause. Follows end_of w (meant_plan sight cause names root given form) (Ok y)) (meant_ends device (end_of y) meant ends)

@@ -1,14 +1,18 @@
 //! Sysfs and a device in it, and what is said if there is none.
-ghost use Rattle.std.specs.Prelude.{◌≡◌, ◌++◌, List, Some, ℕ, IfErr, IfOk, OnOk};
+ghost use Rattle.std.specs.Prelude.{◌≡◌, ◌++◌, [], map, List, Some, ℕ, IfErr, IfOk, OnOk};
 ghost use Rattle.hwdb_spec_commands.specs.DeviceAsked as spec;
+ghost use Rattle.hwdb_spec_commands.specs.DeviceFound as found;
+ghost use Rattle.hwdb_spec_commands.specs.DeviceFound.{only, places_meant};
 ghost use Rattle.hwdb_spec_commands.specs.DeviceTree as tree;
 ghost use Rattle.hwdb_spec.specs.Failures.{IsOneLine};
 ghost use Rattle.hwdb_spec_commands.specs.SysfsAnswers.{Answers, seen, sight_by};
 ghost use Rattle.hwdb_sysfs.specs.Finding as finding;
 ghost use Rattle.hwdb_spec_commands.specs.Refusals.{IsInWords};
-ghost use Rattle.hwdb_spec_program.specs.DeviceErrors.{IsNoDevice, IsNoSysfs, IsWorded};
+ghost use Rattle.hwdb_spec_program.specs.DeviceErrors.{IsNoDevice, IsNoSysfs, IsWorded, asked_names};
 
+use hwdb_device::{fitting, several_text};
 use hwdb_io::Cause;
+use hwdb_rules::ATTRIBUTES;
 use hwdb_show::push_name;
 use hwdb_sysfs::{DeviceFiles, Unfound, find_device, last_name, near_name, sysfs_below};
 use hwdb_system::Refusal;
@@ -79,15 +83,84 @@ pub fn place_meant<F: DeviceFiles>(
     given: &[u8],
     files: &F,
 ) -> Result<Vec<u8>, Refusal>
-    ensures found { F.tells → IfOk result (λ place. tree.device_for
-        (sight_by F.answers files.now) root.now sys.now given.now ≡ Some place.items) }
+    ensures found { F.tells → IfOk result (λ place. only (places_meant
+        (sight_by F.answers files.now) asked_names root.now sys.now given.now)
+        ≡ Some place.items) }
     ensures refused { F.tells → IfErr result
         (IsNoDevice root.now sys.now given.now (sight_by F.answers files.now)) }
     ensures worded { IfErr result IsWorded }
 {
     match find_device(alloc, files, root.as_bytes(), sys, given) {
         Ok(place) => Ok(place),
-        Err(why) => Err(unmeant(alloc, sys, given, why, files)),
+        Err(why) => place_else(alloc, sys, given, why, files),
+    }
+}
+
+/// The place of the device that is meant, if no whole name is one's for this reason.
+fn place_else<F: DeviceFiles>(
+    alloc: Global,
+    sys: &[u8],
+    given: &[u8],
+    why: Unfound,
+    files: &F,
+) -> Result<Vec<u8>, Refusal>
+    ensures found { F.tells → (root : List ℕ)
+        → finding.IsUnfound (F.answers files.now) root sys.now given.now why
+        → IfOk result (λ place. only (places_meant (sight_by F.answers files.now) asked_names
+        root sys.now given.now) ≡ Some place.items) }
+    ensures refused { F.tells → (root : List ℕ)
+        → finding.IsUnfound (F.answers files.now) root sys.now given.now why
+        → IfErr result (IsNoDevice root sys.now given.now (sight_by F.answers files.now)) }
+    ensures worded { IfErr result IsWorded }
+{
+    let mut places = places_else(alloc, sys, given, &why, files)?;
+    if places.len() > 1 {
+        return Err(several(alloc, sys, given, &places, files));
+    }
+    match places.pop() {
+        Some(place) => Ok(place),
+        None => Err(unmeant(alloc, sys, given, why, files)),
+    }
+}
+
+/// The places of the devices that are meant, if no whole name is one's for this reason. There are none if what would tell of a whole name
+/// can't be read.
+fn places_else<F: DeviceFiles>(
+    alloc: Global,
+    sys: &[u8],
+    given: &[u8],
+    why: &Unfound,
+    files: &F,
+) -> Result<Vec<Vec<u8>>, AllocError>
+    ensures { F.tells → (root : List ℕ)
+        → finding.IsUnfound (F.answers files.now) root sys.now given.now why.now
+        → IfOk result (λ places. map (λ p. p.items) places.items
+        ≡ places_meant (sight_by F.answers files.now) asked_names root sys.now given.now) }
+{
+    match why {
+        Unfound::Memory => Err(AllocError),
+        Unfound::Untold(..) | Unfound::NoSysfs(..) => Ok(Vec::new(alloc)),
+        Unfound::Unread(_) | Unfound::NoDevice => {
+            fitting(alloc, files, ATTRIBUTES.as_bytes(), sys, given)
+        }
+    }
+}
+
+/// What is said of several devices.
+fn several<F: DeviceFiles>(
+    alloc: Global,
+    sys: &[u8],
+    given: &[u8],
+    places: &[Vec<u8>],
+    files: &F,
+) -> Refusal
+    ensures said { F.tells → IsInWords (found.several_text (sight_by F.answers files.now)
+        asked_names sys.now given.now (map (λ p. p.items) places.now)) result }
+    ensures worded { IsWorded result }
+{
+    match several_text(alloc, files, ATTRIBUTES.as_bytes(), sys, given, places) {
+        Ok(text) => Refusal::InWords(text),
+        Err(refused) => Refusal::from(refused),
     }
 }
 
@@ -101,6 +174,7 @@ fn unmeant<F: DeviceFiles>(
 ) -> Refusal
     ensures said { F.tells → (root : List ℕ)
         → finding.IsUnfound (F.answers files.now) root sys.now given.now why
+        → places_meant (sight_by F.answers files.now) asked_names root sys.now given.now ≡ []
         → IsNoDevice root sys.now given.now (sight_by F.answers files.now) result }
     ensures worded { IsWorded result }
 {
@@ -149,6 +223,7 @@ fn unread_text(alloc: Global, path: &[u8], words: &[u8]) -> Result<Vec<u8>, Allo
 fn not_there<F: DeviceFiles>(alloc: Global, sys: &[u8], given: &[u8], files: &F) -> Refusal
     ensures said { F.tells → (root : List ℕ)
         → finding.IsUnfound (F.answers files.now) root sys.now given.now Unfound.NoDevice
+        → places_meant (sight_by F.answers files.now) asked_names root sys.now given.now ≡ []
         → IsNoDevice root sys.now given.now (sight_by F.answers files.now) result }
     ensures worded { IsWorded result }
 {

@@ -1,4 +1,4 @@
-use Rattle.std.proofs.Common.{inr, refl, subst, sym, Bool, []}
+use Rattle.std.proofs.Common.{inl, inr, refl, subst, sym, Bool, []}
 use Rattle.hwdb_spec_commands.specs.DeviceAsked.{no_device_text}
 use Rattle.hwdb_spec_commands.specs.DeviceTree.{last_name, near_name}
 use Rattle.hwdb_spec_commands.specs.SysfsAnswers.{sight_by}
@@ -7,14 +7,14 @@ use Rattle.hwdb_tool.proofs.DeviceLemmas.{leads_somewhere}
 use Rattle.hwdb_tool.proofs.missing.not_there.Goals as goal
 
 pub returns-clause-said : goal.returns-clause-said
-returns-clause-said g c = λ tells root none.
+returns-clause-said g c = λ tells root unfound none.
     let sight = sight_by g.F.DeviceFiles.answers c.args.files.now in
     let given = c.args.given.now in
-    inr (inr record {
-      none = none.0.0;
-      all_read = none.0.1;
+    inr (inr (inl record {
+      none = none;
+      all_read = unfound.0.1;
       words = [];
       one_line = refl;
       said = subst (λ (b : Bool). IsInWords (no_device_text b given [] (near_name sight c.args.sys.now (last_name given))) c.no_device.result)
-          (sym (leads_somewhere sight root given none.1)) (c.no_device.ensures.said tells);
-    })
+          (sym (leads_somewhere sight root given unfound.1)) (c.no_device.ensures.said tells);
+    }))

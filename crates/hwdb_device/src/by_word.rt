@@ -1,0 +1,296 @@
+//! The devices that ids or a part of a name mean, and what is said if there are several.
+ghost use Rattle.std.specs.Prelude.{◌≡◌, ◌++◌, [], flat_map, map, option_map, take, IfOk, OnOk};
+ghost use Rattle.std.specs.List.{cons_option};
+ghost use Rattle.hwdb_spec.specs.Lines.{is, pieces};
+ghost use Rattle.hwdb_spec_commands.specs.DeviceFound as spec;
+ghost use Rattle.hwdb_spec_commands.specs.SysfsAnswers.{seen};
+ghost use Rattle.hwdb_sysfs.specs.Views.{ancestor_of, device_of};
+
+use crate::asking::is_asked;
+use crate::row::{device_row, title};
+use crate::told::same;
+use hwdb_properties::{has_part, same_letters};
+use hwdb_rules::first_text;
+use hwdb_show::push_name;
+use hwdb_spec_commands::FINDERS;
+use hwdb_sysfs::{Ancestor, Device, DeviceFiles, device_of_path, list_links, read_device};
+use std::alloc::{AllocError, Global};
+
+/// A number as ids are written: without `0x` before it.
+fn bare_number(text: &[u8]) -> &[u8]
+    ensures { result.now ≡ spec.bare_number text.now }
+{
+    if text.starts_with(b"0x") && text.len() >= 2 {
+        &text[2..]
+    } else {
+        text
+    }
+}
+
+/// Whether a text is a vendor and a product, with a colon between them.
+fn is_pair(alloc: Global, given: &[u8], vendor: &[u8], product: &[u8]) -> Result<bool, AllocError>
+    ensures { IfOk result (λ is. is ≡ spec.is_pair given.now vendor.now product.now) }
+{
+    let mut ids = Vec::from_slice(alloc, bare_number(vendor))?;
+    ids.push(b':')?;
+    ids.extend_from_slice(bare_number(product))?;
+    Ok(same_letters(given, &ids))
+}
+
+/// Whether a text is what a device itself tells by two attributes: its vendor and its product.
+fn has_pair(
+    alloc: Global,
+    given: &[u8],
+    vendor: &[u8],
+    product: &[u8],
+    own: &[Ancestor],
+) -> Result<bool, AllocError>
+    ensures { IfOk result (λ has. has
+        ≡ spec.has_pair given.now vendor.now product.now (map ancestor_of own.now)) }
+{
+    let Some(maker) = first_text(own, vendor) else {
+        return Ok(false);
+    };
+    let Some(made) = first_text(own, product) else {
+        return Ok(false);
+    };
+    is_pair(alloc, given, maker, made)
+}
+
+/// Whether a text is the ids of a device: of one on USB, of one on PCI, or of the input device that a node is of.
+fn has_ids(alloc: Global, given: &[u8], own: &[Ancestor]) -> Result<bool, AllocError>
+    ensures { IfOk result (λ has. has ≡ spec.has_ids given.now (map ancestor_of own.now)) }
+{
+    if has_pair(alloc, given, b"idVendor", b"idProduct", own)? {
+        return Ok(true);
+    }
+    if has_pair(alloc, given, b"vendor", b"device", own)? {
+        return Ok(true);
+    }
+    has_pair(alloc, given, b"device/id/vendor", b"device/id/product", own)
+}
+
+/// Whether a text is a part of how a device is called.
+fn is_called(given: &[u8], chain: &[Ancestor]) -> bool
+    ensures { result ≡ spec.is_called given.now (map ancestor_of chain.now) }
+{
+    match title(chain) {
+        Some(name) => has_part(given, name),
+        None => has_part(given, b""),
+    }
+}
+
+/// A device without its parents.
+fn own_of(chain: &[Ancestor]) -> &[Ancestor]
+    ensures { map ancestor_of result.now ≡ take 1 (map ancestor_of chain.now) }
+{
+    if chain.len() > 1 { &chain[..1] } else { chain }
+}
+
+/// Whether a text tells of a device: by its ids, or by a part of how it is called.
+fn tells_of(alloc: Global, given: &[u8], chain: &[Ancestor]) -> Result<bool, AllocError>
+    ensures { IfOk result (λ tells. tells ≡ spec.tells_of given.now (map ancestor_of chain.now)) }
+{
+    if has_ids(alloc, given, own_of(chain))? {
+        return Ok(true);
+    }
+    Ok(is_called(given, chain))
+}
+
+/// Whether a device is a part of an input device, and not the node of its events.
+fn is_other_input(chain: &[Ancestor]) -> bool
+    ensures { result ≡ spec.is_other_input (map ancestor_of chain.now) }
+{
+    let Some((own, _parents)) = chain.split_first() else {
+        return false;
+    };
+    same(&own.subsystem, b"input") && !own.name.starts_with(b"event")
+}
+
+/// Whether a device may be meant: something is asked for it, and of an input device it is the node of events.
+fn is_offered(alloc: Global, device: &Device) -> Result<bool, AllocError>
+    ensures { IfOk result (λ is. is ≡ spec.is_offered (device_of device.now)) }
+{
+    if is_other_input(&device.chain) {
+        return Ok(false);
+    }
+    is_asked(alloc, device)
+}
+
+/// Whether the device at a place is one that a text means.
+fn fits<F: DeviceFiles>(
+    alloc: Global,
+    files: &F,
+    names: &[u8],
+    sys: &[u8],
+    given: &[u8],
+    place: &[u8],
+) -> Result<bool, AllocError>
+    ensures { F.tells → IfOk result (λ fits. fits ≡ spec.fits (seen (F.answers files.now))
+        (pieces (is 10) names.now) sys.now given.now place.now) }
+{
+    let told = read_device(alloc, files, FINDERS.as_bytes(), sys, place)?;
+    if !tells_of(alloc, given, &told.chain)? {
+        return Ok(false);
+    }
+    let device = read_device(alloc, files, names, sys, place)?;
+    is_offered(alloc, &device)
+}
+
+/// A place, if the device there is one that a text means.
+fn place_if<F: DeviceFiles>(
+    alloc: Global,
+    files: &F,
+    names: &[u8],
+    sys: &[u8],
+    given: &[u8],
+    place: Vec<u8>,
+) -> Result<Option<Vec<u8>>, AllocError>
+    ensures { F.tells → IfOk result (λ found. option_map (λ p. p.items) found
+        ≡ spec.place_if (seen (F.answers files.now)) (pieces (is 10) names.now)
+        sys.now given.now place.items) }
+{
+    if fits(alloc, files, names, sys, given, &place)? {
+        Ok(Some(place))
+    } else {
+        Ok(None)
+    }
+}
+
+/// The place that a link leads to, if the device there is one that a text means.
+fn fitting_at<F: DeviceFiles>(
+    alloc: Global,
+    files: &F,
+    names: &[u8],
+    sys: &[u8],
+    given: &[u8],
+    link: &[u8],
+) -> Result<Option<Vec<u8>>, AllocError>
+    ensures { F.tells → IfOk result (λ found. option_map (λ p. p.items) found
+        ≡ spec.fitting_at (seen (F.answers files.now)) (pieces (is 10) names.now)
+        sys.now given.now link.now) }
+{
+    match device_of_path(alloc, files, sys, link)? {
+        Some(place) => place_if(alloc, files, names, sys, given, place),
+        None => Ok(None),
+    }
+}
+
+/// Adds the place that a link leads to, if the device there is one that a text means.
+fn push_fitting<F: DeviceFiles>(
+    alloc: Global,
+    files: &F,
+    names: &[u8],
+    sys: &[u8],
+    given: &[u8],
+    link: &[u8],
+    places: &mut Vec<Vec<u8>>,
+) -> Result<(), AllocError>
+    ensures { F.tells → OnOk result (map (λ p. p.items) places.new.items
+        ≡ map (λ p. p.items) places.old.items
+        ++ cons_option (spec.fitting_at (seen (F.answers files.now)) (pieces (is 10) names.now)
+        sys.now given.now link.now) []) }
+{
+    if let Some(place) = fitting_at(alloc, files, names, sys, given, link)? {
+        places.push(place)?;
+    }
+    Ok(())
+}
+
+/// Whether a text may be ids or a part of a name: there is one, and it isn't an absolute path.
+fn is_word(given: &[u8]) -> bool
+    ensures { result ≡ spec.is_word given.now }
+{
+    !given.is_empty() && !given.starts_with(b"/")
+}
+
+/// The places of the devices that ids or a part of a name mean, in the order of the list. Of their attributes those with the names are
+/// read, which are the lines of `names`: something has to be asked for them.
+///
+/// The only error is want of memory. Reads each device once, and those that the text tells of twice.
+pub fn fitting<F: DeviceFiles>(
+    alloc: Global,
+    files: &F,
+    names: &[u8],
+    sys: &[u8],
+    given: &[u8],
+) -> Result<Vec<Vec<u8>>, AllocError>
+    ensures { F.tells → IfOk result (λ places. map (λ p. p.items) places.items
+        ≡ spec.fitting (seen (F.answers files.now)) (pieces (is 10) names.now)
+        sys.now given.now) }
+{
+    let mut places = Vec::new(alloc);
+    if !is_word(given) {
+        return Ok(places);
+    }
+    let links = list_links(alloc, files, sys)?;
+    let mut left = links.as_slice();
+    'links: while let Some((link, rest)) = left.split_first() {
+        push_fitting(alloc, files, names, sys, given, link, &mut places)?;
+        left = rest;
+    }
+    Ok(places)
+}
+
+/// Adds the line of the device at a place.
+fn push_row<F: DeviceFiles>(
+    alloc: Global,
+    files: &F,
+    names: &[u8],
+    sys: &[u8],
+    place: &[u8],
+    text: &mut Vec<u8>,
+) -> Result<(), AllocError>
+    ensures { F.tells → OnOk result (text.new.items ≡ text.old.items
+        ++ spec.place_row (seen (F.answers files.now)) (pieces (is 10) names.now)
+        sys.now place.now) }
+{
+    let device = read_device(alloc, files, names, sys, place)?;
+    let row = device_row(alloc, &device)?;
+    text.extend_from_slice(&row)?;
+    Ok(())
+}
+
+/// Adds the lines of the devices at some places.
+fn push_rows<F: DeviceFiles>(
+    alloc: Global,
+    files: &F,
+    names: &[u8],
+    sys: &[u8],
+    places: &[Vec<u8>],
+    text: &mut Vec<u8>,
+) -> Result<(), AllocError>
+    ensures { F.tells → OnOk result (text.new.items ≡ text.old.items
+        ++ flat_map (spec.place_row (seen (F.answers files.now)) (pieces (is 10) names.now)
+        sys.now) (map (λ p. p.items) places.now)) }
+{
+    let mut left = places;
+    'places: while let Some((place, rest)) = left.split_first() {
+        push_row(alloc, files, names, sys, place, text)?;
+        left = rest;
+    }
+    Ok(())
+}
+
+/// What is said of several devices that fit: a line for each, as the list has it, and what to do.
+///
+/// The only error is want of memory.
+pub fn several_text<F: DeviceFiles>(
+    alloc: Global,
+    files: &F,
+    names: &[u8],
+    sys: &[u8],
+    given: &[u8],
+    places: &[Vec<u8>],
+) -> Result<Vec<u8>, AllocError>
+    ensures { F.tells → IfOk result (λ text. text.items
+        ≡ spec.several_text (seen (F.answers files.now)) (pieces (is 10) names.now)
+        sys.now given.now (map (λ p. p.items) places.now)) }
+{
+    let mut text = Vec::from_slice(alloc, b"several devices: ")?;
+    push_name(&mut text, given)?;
+    text.push(b'\n')?;
+    push_rows(alloc, files, names, sys, places, &mut text)?;
+    text.extend_from_slice(b"name one of them")?;
+    Ok(text)
+}
