@@ -751,11 +751,14 @@ def checked(files, strict):
         texts = dict(lines_of(text))
         assignments, faults = read_file(path, 1, text)
         warnings = warnings_of(text)
+        told = []
         for number, kind in faults:
             line = texts[number]
-            printed += report(path, number, b"error: " + FAULT_TEXTS[kind], FAULT_NAMES[kind], line, fault_place(kind, line), FAULT_HINTS[kind])
+            told.append((number, report(path, number, b"error: " + FAULT_TEXTS[kind], FAULT_NAMES[kind], line, fault_place(kind, line), FAULT_HINTS[kind])))
         for number, line, what, kind, place, hint in warnings:
-            printed += report(path, number, b"warning: " + what, WARNING_NAMES[kind], line, place, hint)
+            told.append((number, report(path, number, b"warning: " + what, WARNING_NAMES[kind], line, place, hint)))
+        # By line: of one line faults come first, and each of both keeps its order.
+        printed += b"".join(text for _, text in sorted(told, key=lambda it: it[0]))
         counts[1] += len(assignments)
         counts[2] += len(faults)
         counts[3] += len(warnings)

@@ -5,10 +5,10 @@ use Rattle.std.proofs.lemmas.Bool.{eqb-true}
 use Rattle.std.specs.List.{list_any}
 use Rattle.std.proofs.lemmas.List.Folds.{list_any-append}
 use Rattle.hwdb_spec.specs.Lines.{Line, is, is_none, numbered, pieces}
-use Rattle.hwdb_spec_commands.specs.Findings.{line_text, warnings_text}
+use Rattle.hwdb_spec_commands.specs.Findings.{findings_text, line_faults_text, line_findings, line_text}
 use Rattle.hwdb_spec_commands.specs.Warnings.{line_warnings, warnings}
 use Rattle.hwdb_spec_commands.specs.declared.WarningKind.{WarningKind}
-use Rattle.hwdb_spec_commands.specs.AllowedKinds.{Marked, allowed_text, ends_record, is_kind, left_of_line, left_text, left_warnings, marked, marked_from, names_in, names_to_end, told_unknown, unknown_left, unknown_names, warnings_left}
+use Rattle.hwdb_spec_commands.specs.AllowedKinds.{Marked, allowed_text, ends_record, file_text, is_kind, left_of_line, left_warnings, marked, marked_from, names_in, names_to_end, told_of_line, told_unknown, unknown_left, unknown_names, warnings_left}
 use Rattle.hwdb_check.specs.Internal.{line_of}
 use Rattle.hwdb_spec_commands.specs.declared.formats.Format.{Format}
 
@@ -122,9 +122,13 @@ module _ (format : Format) (allowed : List (List ℕ)) (path file : List ℕ) wh
       ap (λ (l : List (List ℕ)). flat_map (told_unknown format path (line_of n text)) l ++ line_text format (flat_map names_in allowed ++ []) path file (line_of n text)) (unknown_none text e)
       ∙ ap (λ (names : List (List ℕ)). line_text format names path file (line_of n text)) (append-nil (flat_map names_in allowed))
 
-  pub bare_text : list_any (λ text. not (is_none (allowed_text text))) (pieces (is 10) file) ≡ false → (w : List ℕ) → w ≡ warnings_text format (flat_map names_in allowed) path file
-      → w ≡ left_text format allowed path file
-  bare_text h w e = e ∙ sym (bare_file (left_of_line format allowed path file) (line_text format (flat_map names_in allowed) path file) file h bare_line)
+  bare_findings : (n : ℕ) (text : List ℕ) → allowed_text text ≡ []
+      → told_of_line format allowed path file (record { line = line_of n text; names = [] }) ≡ line_findings format (flat_map names_in allowed) path file (line_of n text)
+  bare_findings n text e = ap (λ (l : List ℕ). line_faults_text format path file (line_of n text) ++ l) (bare_line n text e)
+
+  pub bare_text : list_any (λ text. not (is_none (allowed_text text))) (pieces (is 10) file) ≡ false → (w : List ℕ) → w ≡ findings_text format (flat_map names_in allowed) path file
+      → w ≡ file_text format allowed path file
+  bare_text h w e = e ∙ sym (bare_file (told_of_line format allowed path file) (line_findings format (flat_map names_in allowed) path file) file h bare_findings)
 
   pub bare_found : list_any (λ text. not (is_none (allowed_text text))) (pieces (is 10) file) ≡ false → (w : List WarningKind) → w ≡ warnings (flat_map names_in allowed) file
       → w ≡ warnings_left allowed file

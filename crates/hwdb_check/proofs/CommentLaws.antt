@@ -3,6 +3,8 @@ use Rattle.std.proofs.Common.{◌≡◌, ℕ, suc, ◌+◌, List, [], ◌∷◌,
 use Rattle.hwdb_spec.specs.Lines.{Line, byte, is, numbered, pieces, trimmed}
 use Rattle.hwdb_spec_commands.specs.AllowedKinds.{Marked, allowed_text, ends_record, marked_from, names_at, names_in, names_to_end, told_unknown}
 use Rattle.hwdb_check.proofs.AllowedLemmas.{bare_text}
+use Rattle.hwdb_check.proofs.FollowLemmas.{all_told}
+use Rattle.hwdb_text.specs.Laws.{FaultsAscend, SectionsAreTheLines}
 use Rattle.hwdb_check.specs.Comments.{BareAreTold, CommentRows, FaultsStay, LeftAreTold, LinesAreMarked, RecordsAreApart}
 use Rattle.std.specs.Prelude.{filter}
 use Rattle.hwdb_spec_commands.specs.Kinds.{is_told}
@@ -93,9 +95,10 @@ left_told allowed file m =
 pub bare_told : BareAreTold
 bare_told format allowed path file h = sym (bare_text format allowed path file h _ refl)
 
-pub faults_stay : FaultsStay
-faults_stay = record {
+pub faults_stay : SectionsAreTheLines → FaultsAscend → FaultsStay
+faults_stay law ascend = record {
   printed = λ format allowed path file. refl;
+  each = all_told law ascend;
   counted = λ allowed file. refl;
 }
 

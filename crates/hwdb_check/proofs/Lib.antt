@@ -20,3 +20,4 @@ pub mod MarkLemmas
 pub mod MendLemmas
 pub mod PieceLemmas
 pub mod KeptLemmas
+pub mod FollowLemmas

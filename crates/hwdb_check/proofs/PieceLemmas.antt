@@ -1,8 +1,10 @@
--- A text that is added in four pieces, and hints, which don't depend on a line's number.
+-- A text that is added in four pieces. And hints and lines as they were meant, which don't depend on a line's number.
 use Rattle.std.proofs.Common.{◌≡◌, ◌∙◌, ◌++◌, ℕ, List, ap, append_assoc, refl}
+use Rattle.hwdb_spec_commands.specs.Fixes.{fix}
 use Rattle.hwdb_spec_commands.specs.Warnings.{warning_hint}
 use Rattle.hwdb_spec_commands.specs.declared.WarningKind.{WarningKind}
 use Rattle.hwdb_spec_commands.specs.declared.WarningKind.TheVariants.{ByteOrderMark, CarriageReturn, CutValue, EmptyRange, LeadingTab, MayBeTooDeep, Misused, OpenBracket, RepeatedMatch, Replaced, SpacedEquals, TooLongForUdev, Unlikely, Unmatched, Unpaired, Unread}
+use Rattle.hwdb_spec_commands.specs.declared.vocabulary.Misuse.TheVariants.{NearName, OldName, ScanCode, SingularMatrix, TwoDefaults, UnfitValue, UnknownKey, ZeroRow}
 use Rattle.hwdb_check.specs.Internal.{line_of}
 
 pub four_pieces : (a b c d one two three four : List ℕ) → b ≡ a ++ one → c ≡ b ++ two → d ≡ c ++ three → d ++ four ≡ a ++ (one ++ (two ++ (three ++ four)))
@@ -27,3 +29,28 @@ same_hint (Unmatched told) n m t = refl
 same_hint (Unlikely told) n m t = refl
 same_hint TooLongForUdev n m t = refl
 same_hint MayBeTooDeep n m t = refl
+
+pub same_fix : (kind : WarningKind) (n m : ℕ) (t source : List ℕ) → fix kind (line_of n t) source ≡ fix kind (line_of m t) source
+same_fix ByteOrderMark n m t source = refl
+same_fix LeadingTab n m t source = refl
+same_fix CarriageReturn n m t source = refl
+same_fix OpenBracket n m t source = refl
+same_fix EmptyRange n m t source = refl
+same_fix SpacedEquals n m t source = refl
+same_fix CutValue n m t source = refl
+same_fix RepeatedMatch n m t source = refl
+same_fix (Replaced by) n m t source = refl
+same_fix (Misused NearName) n m t source = refl
+same_fix (Misused OldName) n m t source = refl
+same_fix (Misused ScanCode) n m t source = refl
+same_fix (Misused UnknownKey) n m t source = refl
+same_fix (Misused UnfitValue) n m t source = refl
+same_fix (Misused ZeroRow) n m t source = refl
+same_fix (Misused SingularMatrix) n m t source = refl
+same_fix (Misused TwoDefaults) n m t source = refl
+same_fix (Unread known) n m t source = refl
+same_fix Unpaired n m t source = refl
+same_fix (Unmatched told) n m t source = refl
+same_fix (Unlikely told) n m t source = refl
+same_fix TooLongForUdev n m t source = refl
+same_fix MayBeTooDeep n m t source = refl

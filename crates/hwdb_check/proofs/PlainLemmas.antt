@@ -305,6 +305,7 @@ plain_file law file all e none free sorted s =
       unpaired = λ n. none_unpaired whole (λ a. is n a.position.line) 0 whole steady;
     } in
     record {
+      faultless = none;
       repeated = flat.repeated;
       replaced = flat.replaced;
       unread = flat.unread;

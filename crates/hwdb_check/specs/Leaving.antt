@@ -5,7 +5,7 @@ use Rattle.hwdb_spec.specs.Lines.{Line}
 use Rattle.hwdb_spec_commands.specs.AllowedKinds.{names_in}
 use Rattle.hwdb_check.specs.Internal.{line_of, texts}
 use Rattle.hwdb_check.specs.declared.kinds.Manner.{Manner}
-use Rattle.hwdb_check.specs.declared.left.FileLine.{FileLine}
+use Rattle.hwdb_check.specs.declared.line_faults.FileLine.{FileLine}
 
 -- a line of a file
 abbrev pub file_line : FileLine → Line

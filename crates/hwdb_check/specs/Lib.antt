@@ -8,3 +8,4 @@ pub mod Comments
 pub mod Leaving
 pub mod Lemmas
 pub mod Kept
+pub mod Following

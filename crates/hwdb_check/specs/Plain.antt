@@ -1,11 +1,14 @@
 -- Files of whose lines only the marks of comments have to be looked at.
-use Rattle.std.specs.Prelude.{true, false, ℕ, List, [], ◌∷◌, ◌-◌, ◌<◌, ◌≡◌, if◌then◌else◌, drop, length, nat_eq, take}
+use Rattle.std.specs.Prelude.{true, false, ℕ, List, [], ◌∷◌, ◌-◌, ◌<◌, ◌≡◌, if◌then◌else◌, drop, flat_map, length, nat_eq, take}
 use Rattle.std.specs.List.{list_any, starts_with}
 use Rattle.hwdb_spec.specs.Assignment.{Assignment}
 use Rattle.hwdb_spec.specs.Lines.{Line, begins_with, byte, clean_line, has, is_blank, is_dropped, is_indent, lines}
+use Rattle.hwdb_spec.specs.Records.{faults}
+use Rattle.hwdb_spec_commands.specs.Findings.{line_text}
 use Rattle.hwdb_spec_commands.specs.Surroundings.{is_unpaired, is_unread}
 use Rattle.hwdb_spec_commands.specs.Unmatched.{is_unmatched, judgement_of, likelihood_of}
 use Rattle.hwdb_spec_commands.specs.Warnings.{all_warnings, greatest, is_cut, is_too_long, may_be_too_deep, repeated_lines, replacing}
+use Rattle.hwdb_spec_commands.specs.declared.formats.Format.{Format}
 use Rattle.hwdb_properties.specs.Internal.{IsCommon}
 
 -- a pattern that gets no warning
@@ -41,8 +44,13 @@ abbrev pub AreQuiet : (file : List ℕ) → List Line → Type 0
 AreQuiet file [] = Unit {0}
 AreQuiet file (l ∷ more) = IsQuiet file l × AreQuiet file more
 
--- a file in which nothing is repeated, replaced, unread or unpaired, and of quiet lines
+-- what is printed of the warnings of a file, by line
+abbrev pub warnings_text : Format → (allowed : List (List ℕ)) → (path file : List ℕ) → List ℕ
+warnings_text format allowed path file = flat_map (line_text format allowed path file) (lines file)
+
+-- a file without faults in which nothing is repeated, replaced, unread or unpaired, and of quiet lines
 pub record IsPlainFile (file : List ℕ) : Type 0 where
+  pub faultless : faults file ≡ []
   pub repeated : repeated_lines file ≡ []
   pub replaced : (n : ℕ) → greatest (replacing file n) ≡ 0
   pub unread : (n : ℕ) → is_unread file n ≡ false

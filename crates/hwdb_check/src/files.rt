@@ -86,15 +86,16 @@ fn look_over(
 {
     let scanned = scan(alloc, bytes)?;
     let left = left_of(alloc, telling, path, bytes, &scanned)?;
-    let mut reports = reports_of(alloc, telling.format, path, bytes, &scanned.faults)?;
-    reports.extend_from_slice(&left.warned.text)?;
     let tally = Tally {
         files: 1,
         assignments: scanned.assignments.len() as u64,
         faults: scanned.faults.len() as u64,
         warnings: both(left.warned.found.len() as u64, left.unknown.len() as u64),
     };
-    Ok(Findings { reports, tally })
+    Ok(Findings {
+        reports: left.warned.text,
+        tally,
+    })
 }
 
 /// What is said of each file, one after another.
@@ -145,7 +146,8 @@ fn ended(
     }
 }
 
-/// What is printed of the faults and warnings of each file, one file after another, in the format that is told. Reports end with a line
+/// What is printed of the faults and warnings of each file, one file after another and line by line, in the format that is told. Of a line
+/// faults come first. Reports end with a line
 /// of how much was found in all. Warnings of kinds that are allowed don't count. The status is 1 if there is a
 /// fault, or `strict` and a warning, else 0.
 ///

@@ -12,6 +12,7 @@ ghost use Rattle.hwdb_spec_commands.specs.Findings;
 ghost use Rattle.hwdb_spec_commands.specs.Json.{json_line};
 ghost use Rattle.hwdb_spec_commands.specs.Logs.{result_line};
 ghost use Rattle.hwdb_spec_commands.specs.Reports.{hint_line};
+ghost use Rattle.hwdb_show.specs.JsonTokens.{tokens_of_members};
 ghost use Rattle.hwdb_check.specs.Found.{finding_of};
 
 use crate::annotations::{Annotation, push_annotation};
@@ -41,6 +42,8 @@ pub struct Finding<'a> {
     pub hint: &'a [u8],
     /// The line.
     pub source: &'a [u8],
+    /// The line as it was likely meant, if that is sure.
+    pub fix: &'a Option<Vec<u8>>,
 }
 
 /// Lines of JSON, or reports.
@@ -176,6 +179,18 @@ fn push_report(alloc: Global, text: &mut Vec<u8>, found: &Finding<'_>) -> Result
     push_hint_line(text, found.hint)
 }
 
+/// Adds the line as it was likely meant, if that is sure.
+fn put_fix(json: &mut Writer, fix: &Option<Vec<u8>>) -> Result<(), AllocError>
+    ensures before { json.new.before ≡ json.old.before }
+    ensures tokens { OnOk result (json.new.tokens ≡ json.old.tokens
+        ++ tokens_of_members (Findings.fix_members (option_map (λ t. t.items) fix.now))) }
+{
+    match fix {
+        Some(line) => put_member(json, "fix", line),
+        None => Ok(()),
+    }
+}
+
 /// Adds its object.
 fn put_finding(json: &mut Writer, found: &Finding<'_>) -> Result<(), AllocError>
     ensures before { json.new.before ≡ json.old.before }
@@ -191,6 +206,7 @@ fn put_finding(json: &mut Writer, found: &Finding<'_>) -> Result<(), AllocError>
     put_member(json, "hint", found.hint)?;
     put_member(json, "severity", severity_name(found.fault).as_bytes())?;
     put_member(json, "source", found.source)?;
+    put_fix(json, found.fix)?;
     json.end_object()
 }
 

@@ -50,7 +50,7 @@ pub fn kinds_are_named()
 {}
 
 /// A comment lets kinds of warnings pass in its own record: what is on one side of a line that ends a record doesn't depend on the other
-/// side. Each line is looked at once. Its other warnings are left, and so are all faults.
+/// side. Each line is looked at once. Its other warnings are left, and so are all faults: each is told with its line, before the warnings.
 pub fn comments_are_told()
     ensures lines { LinesAreMarked }
     ensures apart { RecordsAreApart }
@@ -58,4 +58,7 @@ pub fn comments_are_told()
     ensures bare { BareAreTold }
     ensures faults { FaultsStay }
     ensures rows { CommentRows }
-{}
+{
+    hwdb_text::laws::sections_are_the_lines();
+    hwdb_text::laws::faults_ascend();
+}

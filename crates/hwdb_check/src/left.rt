@@ -7,7 +7,7 @@ ghost use Rattle.hwdb_spec_commands.specs.Properties;
 ghost use Rattle.hwdb_spec_commands.specs.Warnings.{line_warnings};
 ghost use Rattle.hwdb_text.specs.Views.{given_in};
 ghost use Rattle.hwdb_spec_commands.specs.AllowedKinds;
-ghost use Rattle.hwdb_spec_commands.specs.AllowedKinds.{comment_place, is_kind, left_text, told_unknown, unknown_hint, unknown_left, unknown_names, unknown_text, warnings_left};
+ghost use Rattle.hwdb_spec_commands.specs.AllowedKinds.{comment_place, file_text, is_kind, told_unknown, unknown_hint, unknown_left, unknown_names, unknown_text, warnings_left};
 ghost use Rattle.hwdb_check.specs.Internal.{IsKnown, line_of, own, texts};
 ghost use Rattle.hwdb_check.specs.Leaving.{file_line, names_of};
 
@@ -15,23 +15,14 @@ use crate::allowed::{after_line, allowed_text, any_allowed, is_kind, record_kind
 use crate::findings::{Finding, push_finding};
 use crate::kinds::{Manner, Telling};
 use crate::known::{Known, known_of};
+use crate::line_faults::{FileLine, first_next, push_line_faults};
 use crate::warnings::{Warned, warnings_of};
 use hwdb_properties::{Likeness, first_row};
 use hwdb_show::push_shown;
+use hwdb_spec::Fault;
 use hwdb_spec_commands::{Format, KINDS};
 use hwdb_text::{Given, Lines, Pieces, Scanned, end_of};
 use std::alloc::{AllocError, Global};
-
-/// A line of a file.
-#[derive(Clone, Copy)]
-pub struct FileLine<'b> {
-    /// The path that is printed for its file.
-    pub path: &'b [u8],
-    /// Its number, from 1.
-    pub number: u64,
-    /// Its text.
-    pub text: &'b [u8],
-}
 
 /// Adds what is told of a name that is no kind of warning. The only error, here and below, is `AllocError`.
 fn push_unknown_text(text: &mut Vec<u8>, name: &[u8]) -> Result<(), AllocError>
@@ -106,6 +97,7 @@ fn push_unknown(
 {
     let told = text_of(alloc, name)?;
     let hint = hint_of(alloc, name)?;
+    let fix = None;
     let found = Finding {
         path: line.path,
         line: line.number,
@@ -115,6 +107,7 @@ fn push_unknown(
         text: &told,
         hint: &hint,
         source: line.text,
+        fix: &fix,
     };
     push_finding(alloc, format, text, &found)
 }
@@ -122,7 +115,7 @@ fn push_unknown(
 /// What is left of the lines of a file so far.
 #[derive(Drop)]
 pub struct Left<'b> {
-    /// The warnings, and what is printed of the lines.
+    /// The warnings, and what is printed of the lines, of their faults too.
     pub warned: Warned,
     /// The names in comments that are no kinds of warnings.
     pub unknown: Vec<&'b [u8]>,
@@ -198,17 +191,19 @@ impl<'b> Left<'b> {
     }
 }
 
-/// As `left_of`, of a file in which comments let kinds pass.
+/// As `left_of`, of a file in which comments let kinds pass. What is printed of a line begins with its faults.
 fn left_by_line<'b>(
     alloc: Global,
     manner: &Manner<'_>,
     path: &'b [u8],
     bytes: &'b [u8],
     assignments: &[Given<'_>],
+    faults: &[Fault],
 ) -> Result<Left<'b>, AllocError>
-    requires { map (given_in own) assignments.now ≡ Records.assignments own bytes.now }
+    requires assignments { map (given_in own) assignments.now ≡ Records.assignments own bytes.now }
+    requires faults { faults.now ≡ Records.faults bytes.now }
     ensures text { IfOk result (λ l. l.warned.text.items
-        ≡ left_text manner.now.format (texts manner.now.allowed.now) path.now bytes.now) }
+        ≡ file_text manner.now.format (texts manner.now.allowed.now) path.now bytes.now) }
     ensures found { IfOk result (λ l. l.warned.found.items
         ≡ warnings_left (texts manner.now.allowed.now) bytes.now) }
     ensures unknown { IfOk result (λ l. texts l.unknown.items ≡ unknown_left bytes.now) }
@@ -223,6 +218,7 @@ fn left_by_line<'b>(
     };
     let mut lines = Lines::new(bytes);
     let mut kinds = record_kinds(alloc, manner.allowed, lines)?;
+    let mut next = first_next(bytes, faults);
     let mut number = 1;
     'lines: while let Some(text) = lines.next() {
         let line = FileLine { path, number, text };
@@ -230,6 +226,14 @@ fn left_by_line<'b>(
             format: manner.format,
             allowed: &kinds,
         };
+        next = push_line_faults(
+            alloc,
+            manner.format,
+            &mut left.warned.text,
+            &line,
+            faults,
+            next,
+        )?;
         left.put_line(alloc, &here, &known, &line)?;
         kinds = after_line(alloc, manner.allowed, kinds, text, lines)?;
         number += 1;
@@ -260,13 +264,20 @@ fn left_if<'b>(
         ≡ Records.assignments own bytes.now }
     requires faults { scanned.now.faults.items ≡ Records.faults bytes.now }
     ensures text { IfOk result (λ l. l.warned.text.items
-        ≡ left_text manner.now.format (texts manner.now.allowed.now) path.now bytes.now) }
+        ≡ file_text manner.now.format (texts manner.now.allowed.now) path.now bytes.now) }
     ensures found { IfOk result (λ l. l.warned.found.items
         ≡ warnings_left (texts manner.now.allowed.now) bytes.now) }
     ensures unknown { IfOk result (λ l. texts l.unknown.items ≡ unknown_left bytes.now) }
 {
     if any_allowed(bytes) {
-        return left_by_line(alloc, manner, path, bytes, &scanned.assignments);
+        return left_by_line(
+            alloc,
+            manner,
+            path,
+            bytes,
+            &scanned.assignments,
+            &scanned.faults,
+        );
     }
     let warned = warnings_of(
         alloc,
@@ -282,7 +293,7 @@ fn left_if<'b>(
     })
 }
 
-/// What is left of a file of which this was scanned.
+/// What is left of a file of which this was scanned, and what is printed of it.
 pub fn left_of<'b>(
     alloc: Global,
     telling: &Telling<'_>,
@@ -293,7 +304,7 @@ pub fn left_of<'b>(
     requires assignments { map (given_in own) scanned.now.assignments.items
         ≡ Records.assignments own bytes.now }
     requires faults { scanned.now.faults.items ≡ Records.faults bytes.now }
-    ensures text { IfOk result (λ l. l.warned.text.items ≡ left_text telling.now.format
+    ensures text { IfOk result (λ l. l.warned.text.items ≡ file_text telling.now.format
         (map string_bytes telling.now.allowed.now) path.now bytes.now) }
     ensures found { IfOk result (λ l. l.warned.found.items
         ≡ warnings_left (map string_bytes telling.now.allowed.now) bytes.now) }

@@ -10,6 +10,7 @@
 //! | `runs` | bytes as runs, as they are shown |
 //! | `places` | the place of a fault in its line |
 //! | `reports` | what is printed of a fault |
+//! | `line_faults` | the faults of a file, as its lines are read one after another |
 //! | `line_texts` | the text of a line, by its number |
 //! | `line_warnings` | which warnings a line gets, by its clean text |
 //! | `mends` | what a pattern was likely meant to be that goes wrong |
@@ -23,6 +24,7 @@
 //! | `left` | the warnings that comments leave, and names in comments that are no kinds |
 //! | `annotations` | a finding as GitHub shows it beside its line |
 //! | `findings` | what is found in a line, in each format |
+//! | `fixes` | lines as they were likely meant, of which a warning is told |
 //! | `logs` | findings as a log in SARIF |
 //! | `repeats` | match lines that their record has already |
 //! | `replacements` | assignments that a later line of the same file replaces |
@@ -41,11 +43,13 @@ mod companions;
 mod fields;
 mod files;
 mod findings;
+mod fixes;
 mod judgements;
 mod kinds;
 mod known;
 mod laws;
 mod left;
+mod line_faults;
 mod line_texts;
 mod line_warnings;
 mod logs;

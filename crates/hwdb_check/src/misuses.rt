@@ -17,14 +17,14 @@ use hwdb_text::{end_of, trim, unindented};
 use std::alloc::AllocError;
 
 /// The key of a clean property line.
-fn key_of(clean: &[u8]) -> &[u8]
+pub fn key_of(clean: &[u8]) -> &[u8]
     ensures { result.now ≡ Lines.key (line_of 0 clean.now) }
 {
     before(b'=', unindented(clean))
 }
 
 /// The value of a clean property line.
-fn value_of(clean: &[u8]) -> &[u8]
+pub fn value_of(clean: &[u8]) -> &[u8]
     ensures { result.now ≡ Lines.value (line_of 0 clean.now) }
 {
     after(b'=', unindented(clean))

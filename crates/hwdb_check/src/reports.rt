@@ -42,6 +42,7 @@ pub fn push_fault<'a>(
     ensures { OnOk result
         (text.new.items ≡ text.old.items ++ told_fault format path.now line.now fault) }
 {
+    let fix = None;
     let found = Finding {
         path,
         line: fault.line as u64,
@@ -51,6 +52,7 @@ pub fn push_fault<'a>(
         text: fault.kind.text().as_bytes(),
         hint: hint_of(fault.kind).as_bytes(),
         source: line,
+        fix: &fix,
     };
     push_finding(alloc, format, text, &found)
 }

@@ -2,21 +2,23 @@
 ghost use Rattle.std.specs.Prelude.{◌≡◌, ◌++◌, ◌∷◌, [], codes, filter, flat_map, map, take, IfOk, OnOk};
 ghost use Rattle.hwdb_spec.specs.Lines.{Line, clean_line};
 ghost use Rattle.hwdb_spec.specs.Records;
-ghost use Rattle.hwdb_spec_commands.specs.Findings.{line_text, told_warning, warnings_text};
+ghost use Rattle.hwdb_spec_commands.specs.Findings.{findings_text, line_text, told_warning};
 ghost use Rattle.hwdb_spec_commands.specs.Kinds.{warning_name};
 ghost use Rattle.hwdb_spec_commands.specs.Warnings.{all_warnings, gets, line_kinds, line_warnings, warnings, warning_text, warning_place, warning_hint, warning_line};
 ghost use Rattle.hwdb_text.specs.Views.{given_in};
 ghost use Rattle.hwdb_check.specs.Internal.{IsKnown, IsPlain, IsRead, clean_of, line_of, number_text, own, read_line, texts};
 ghost use Rattle.hwdb_check.specs.Leaving.{names_of};
 ghost use Rattle.hwdb_spec_commands.specs.AllowedKinds.{names_in};
-ghost use Rattle.hwdb_check.specs.Plain.{IsPlainFile, IsQuiet, IsTame};
+ghost use Rattle.hwdb_check.specs.Plain.{IsPlainFile, IsQuiet, IsTame, warnings_text};
 
 use crate::findings::{Finding, push_finding};
+use crate::fixes::fix_for;
 use crate::judgements::{
     judgement_place, judgement_text, push_judgement_hint, push_likelihood_hint, said_of,
 };
 use crate::kinds::{Manner, is_told, warning_name};
 use crate::known::{Known, known_of, nothing_known};
+use crate::line_faults::{FileLine, first_next, push_line_faults};
 use crate::line_warnings::{
     LONGEST_LINE, Read, closed, is_warned, is_warned_at_all, kinds_of, wild_place,
 };
@@ -202,6 +204,7 @@ fn push_told<'a>(
     let words = words_of(alloc, kind)?;
     let mut hint = Vec::new(alloc);
     push_hint(alloc, &mut hint, kind, line.clean)?;
+    let fix = fix_for(alloc, format, kind, line.text, line.clean)?;
     let found = Finding {
         path,
         line: line.number,
@@ -211,6 +214,7 @@ fn push_told<'a>(
         text: &words,
         hint: &hint,
         source: line.text,
+        fix: &fix,
     };
     push_finding(alloc, format, text, &found)
 }
@@ -389,10 +393,12 @@ fn warnings_by_line(
     path: &[u8],
     bytes: &[u8],
     assignments: &[Given<'_>],
+    faults: &[Fault],
 ) -> Result<Warned, AllocError>
-    requires { map (given_in own) assignments.now ≡ Records.assignments own bytes.now }
+    requires assignments { map (given_in own) assignments.now ≡ Records.assignments own bytes.now }
+    requires faults { faults.now ≡ Records.faults bytes.now }
     ensures text { IfOk result (λ w. w.text.items
-        ≡ warnings_text telling.now.format (names_of telling.now)
+        ≡ findings_text telling.now.format (names_of telling.now)
         path.now bytes.now) }
     ensures found { IfOk result (λ w. w.found.items
         ≡ warnings (names_of telling.now) bytes.now) }
@@ -402,8 +408,11 @@ fn warnings_by_line(
         text: Vec::new(alloc),
         found: Vec::new(alloc),
     };
+    let mut next = first_next(bytes, faults);
     let mut number = 1;
     for text in Lines::new(bytes) {
+        let line = FileLine { path, number, text };
+        next = push_line_faults(alloc, telling.format, &mut warned.text, &line, faults, next)?;
         warned.put_line(alloc, telling, path, &known, number, text)?;
         number += 1;
     }
@@ -447,7 +456,7 @@ fn cut_warnings(
     Ok(warned)
 }
 
-/// The warnings of a file with these assignments and these faults that are told, and what is printed of them, by line.
+/// The warnings of a file with these assignments and these faults that are told. And what is printed of both, line by line.
 pub fn warnings_of(
     alloc: Global,
     telling: &Manner<'_>,
@@ -459,7 +468,7 @@ pub fn warnings_of(
     requires assignments { map (given_in own) assignments.now ≡ Records.assignments own bytes.now }
     requires faults { faults.now ≡ Records.faults bytes.now }
     ensures text { IfOk result (λ w. w.text.items
-        ≡ warnings_text telling.now.format (names_of telling.now)
+        ≡ findings_text telling.now.format (names_of telling.now)
         path.now bytes.now) }
     ensures found { IfOk result (λ w. w.found.items
         ≡ warnings (names_of telling.now) bytes.now) }
@@ -467,5 +476,5 @@ pub fn warnings_of(
     if is_plain(alloc, bytes, assignments, faults)? {
         return cut_warnings(alloc, telling, path, bytes);
     }
-    warnings_by_line(alloc, telling, path, bytes, assignments)
+    warnings_by_line(alloc, telling, path, bytes, assignments, faults)
 }

@@ -1,6 +1,8 @@
 -- The rows, computed.
 use Rattle.hex.specs.Hex.{encode_with}
-use Rattle.hwdb_laws.specs.CheckRows.{ElsewhereRows, FaultRows, FormatRows, GithubRows, HintRows, JsonRows, RepeatedRows, ReplacedRows, ReportRows, SarifRows, TallyRows, ToldRows, UnpairedRows, UnreadRows, WarnedRows}
+use Rattle.hwdb_laws.specs.CheckRows.{ElsewhereRows, FaultRows, FixRows, FixedRows, FormatRows, GithubRows, HintRows, JsonRows, OrderRows, RepeatedRows, ReplacedRows, ReportRows, SarifRows, TallyRows, ToldRows, UnpairedRows, UnreadRows, WarnedRows}
+use Rattle.hwdb_spec_commands.specs.AllowedKinds.{marked_from, names_to_end, told_unknown}
+use Rattle.hwdb_spec_commands.specs.Unmatched.{judgement_of, likelihood_of}
 use Rattle.hwdb_spec_commands.specs.FormTable.{free_prefixes, known}
 use Rattle.hwdb_spec_commands.specs.Json.{escaped_after, items_of, members_of}
 use Rattle.hwdb_spec.specs.Lines.{numbered, pieces, trimmed}
@@ -75,3 +77,15 @@ sarif_rows = (refl, refl)
 pub format_rows : FormatRows
 unfolding pieces numbered trimmed first_section sections_from behind tokens_from token_at item_at items_from bracket_at classes repeated_from closed_from reversed_from range_from known free_prefixes visible_after is_utf8 chars encode_utf8 digits encode_with items_of members_of escaped_after escape_byte print_from told_fault told_warning
 format_rows = (refl, refl, refl)
+
+pub fixed_rows : FixedRows
+unfolding pieces numbered trimmed first_section sections_from behind tokens_from token_at item_at items_from bracket_at classes repeated_from closed_from reversed_from range_from known free_prefixes visible_after is_utf8 chars encode_utf8 digits encode_with items_of members_of escaped_after escape_byte print_from told_fault told_warning
+fixed_rows = refl
+
+pub fix_rows : FixRows
+unfolding pieces numbered trimmed first_section sections_from behind tokens_from token_at item_at items_from bracket_at classes repeated_from closed_from reversed_from range_from known free_prefixes visible_after is_utf8 chars encode_utf8 digits encode_with items_of members_of escaped_after escape_byte print_from told_fault told_warning
+fix_rows = refl
+
+pub order_rows : OrderRows
+unfolding pieces numbered trimmed first_section sections_from behind tokens_from token_at item_at items_from bracket_at classes repeated_from closed_from reversed_from range_from known free_prefixes visible_after is_utf8 chars encode_utf8 digits encode_with items_of members_of escaped_after escape_byte print_from told_fault told_warning told_unknown marked_from names_to_end judgement_of likelihood_of
+order_rows = refl

@@ -1,9 +1,11 @@
 -- Worked rows of what `check` says: which warnings `--allow` leaves out, where properties are read (the heads of 60-keyboard.hwdb,
 -- 70-mouse.hwdb and 60-sensor.hwdb of systemd), which lines are repeated or replaced, where a warning is, and what is printed.
-use Rattle.std.specs.Prelude.{◌++◌, ◌∷◌, ◌≡◌, Bool, List, None, Option, Some, [], codes, false, map, true, ℕ}
+use Rattle.std.specs.Prelude.{◌++◌, ◌∷◌, ◌≡◌, Bool, List, None, Option, Some, [], codes, false, flat_map, map, true, ℕ}
 use Rattle.hwdb_spec.specs.Assignment.{Assignment}
 use Rattle.hwdb_spec_commands.specs.Checks.{check_status, empty_tally, ended, format_of, tally_line, tally_of_both}
-use Rattle.hwdb_spec_commands.specs.Findings.{faults_text, told_warning}
+use Rattle.hwdb_spec_commands.specs.Findings.{line_faults_text, told_warning}
+use Rattle.hwdb_spec_commands.specs.AllowedKinds.{file_text}
+use Rattle.hwdb_spec_commands.specs.Fixes.{fix}
 use Rattle.hwdb_spec_commands.specs.Kinds.{is_told}
 use Rattle.hwdb_spec.specs.Lines.{Line, clean_line, lines}
 use Rattle.hwdb_spec_commands.specs.Surroundings.{is_elsewhere, is_unpaired, is_unread, unpaired_hint, unread_hint}
@@ -12,7 +14,7 @@ use Rattle.hwdb_spec_commands.specs.declared.Tally.{Tally}
 use Rattle.hwdb_spec_commands.specs.declared.WarningKind.{WarningKind}
 use Rattle.hwdb_spec_commands.specs.declared.WarningKind.TheVariants.{CarriageReturn, CutValue, EmptyRange, LeadingTab, Misused, OpenBracket, Replaced, SpacedEquals, Unpaired, Unread}
 use Rattle.hwdb_spec_commands.specs.declared.formats.Format.TheVariants.{Github, Json as JsonLines, Sarif, Text as Reports}
-use Rattle.hwdb_spec_commands.specs.declared.vocabulary.Misuse.TheVariants.{NearName, UnknownKey}
+use Rattle.hwdb_spec_commands.specs.declared.vocabulary.Misuse.TheVariants.{NearName, ScanCode, UnfitValue, UnknownKey}
 
 -- ---- kinds that are allowed
 
@@ -141,10 +143,47 @@ JsonRows =
     told_warning JsonLines (codes "f") (at_three (codes " A=1#c")) CutValue
     ≡ codes "{\"path\":\"f\",\"line\":3,\"column\":5,\"kind\":\"cut-value\",\"text\":\"a # without a blank before it cuts the value\",\"hint\":\"put a blank before a comment; a value can't hold a #\",\"severity\":\"warning\",\"source\":\" A=1#c\"}\n"
 
+-- A line that was surely meant otherwise is there, too.
+abbrev pub FixedRows : Type 0
+FixedRows =
+    told_warning JsonLines (codes "f") (at_three (codes " A =1 # c")) SpacedEquals
+    ≡ codes "{\"path\":\"f\",\"line\":3,\"column\":4,\"kind\":\"spaced-equals\",\"text\":\"a blank beside the first =\",\"hint\":\"write A=1\",\"severity\":\"warning\",\"source\":\" A =1 # c\",\"fix\":\" A=1 # c\"}\n"
+
+-- the line as it was meant, of a warning of this kind
+abbrev pub fix_of : WarningKind → (text : List ℕ) → Option (List ℕ)
+fix_of kind text = fix kind (clean_line (at_three text)) text
+
+-- Blanks beside the `=` go, and the indent and a comment stay. A code is in lower case and without 0x, and one that evtest shows in decimal is
+-- in hexadecimal. A code with other digits isn't sure. A key loses its quotes, `KEY_` and its capitals, and keeps a `!`; one that is
+-- only nearly known isn't sure. A value is written as people mean it. Of other warnings nothing is sure.
+abbrev pub FixRows : Type 0
+FixRows =
+    map (fix_of SpacedEquals) (codes " A = 1 # c" ∷ codes " \tB\t=\r" ∷ [])
+    ++ map (fix_of (Misused ScanCode))
+    (codes "  KEYBOARD_KEY_7003A=a\r" ∷ codes " KEYBOARD_KEY_0x3a=a" ∷ codes " EVDEV_ABS_53=1:2" ∷ codes " KEYBOARD_KEY_=a" ∷ codes " KEYBOARD_KEY_x=a" ∷ [])
+    ++ map (fix_of (Misused UnknownKey))
+    (codes " KEYBOARD_KEY_7=\"KEY_ESC\" # c" ∷ codes " KEYBOARD_KEY_7=!'Esc'" ∷ codes " KEYBOARD_KEY_7=leftctr" ∷ [])
+    ++ map (fix_of (Misused UnfitValue)) (codes " ID_INPUT_MOUSE=yes" ∷ codes " ID_INPUT_MOUSE=perhaps" ∷ [])
+    ++ (fix_of (Misused NearName) (codes " ID_INPUT_MOUS=1") ∷ fix_of CutValue (codes " A=1#c") ∷ [])
+    ≡ Some (codes " A=1 # c") ∷ Some (codes " \tB=\r")
+    ∷ Some (codes "  KEYBOARD_KEY_7003a=a\r") ∷ Some (codes " KEYBOARD_KEY_3a=a") ∷ Some (codes " EVDEV_ABS_35=1:2") ∷ None ∷ None
+    ∷ Some (codes " KEYBOARD_KEY_7=esc # c") ∷ Some (codes " KEYBOARD_KEY_7=!esc") ∷ None
+    ∷ Some (codes " ID_INPUT_MOUSE=1") ∷ None
+    ∷ None ∷ None ∷ []
+
+-- Findings come by line. Of one line its fault comes first, then the name in its comment, and then its warning.
+abbrev pub OrderRows : Type 0
+OrderRows =
+    file_text Github [] (codes "f") (codes "#hwdb:allow x\n B=1#hwdb:allow y\n")
+    ≡ codes "::warning file=f,line=1,col=1,title=unknown-kind::no kind of warning that a comment may allow: x; hwdb-format(7) has all kinds; a fault can't be allowed\n"
+    ++ codes "::error file=f,line=2,col=2,title=stray-property::property where a match is expected, ignored; put a match line above it, with no empty line between them\n"
+    ++ codes "::warning file=f,line=2,col=5,title=unknown-kind::no kind of warning that a comment may allow: y; hwdb-format(7) has all kinds; a fault can't be allowed\n"
+    ++ codes "::warning file=f,line=2,col=5,title=cut-value::a # without a blank before it cuts the value; put a blank before a comment; a value can't hold a #\n"
+
 -- GitHub's escapes: a comma and a colon of a path, a percent sign of a text; as an error and as a warning (command.ts).
 abbrev pub GithubRows : Type 0
 GithubRows =
-    faults_text Github (codes "a,b:c%.hwdb") (codes " A=1\n")
+    flat_map (line_faults_text Github (codes "a,b:c%.hwdb") (codes " A=1\n")) (lines (codes " A=1\n"))
     ++ told_warning Github (codes "f") (at_three (codes " A=1#c")) CutValue
     ≡ codes "::error file=a%2Cb%3Ac%25.hwdb,line=1,col=2,title=stray-property::property where a match is expected, ignored; put a match line above it, with no empty line between them\n"
     ++ codes "::warning file=f,line=3,col=5,title=cut-value::a # without a blank before it cuts the value; put a blank before a comment; a value can't hold a #\n"
@@ -170,7 +209,7 @@ FormatRows =
 -- Faults come by line, with the words that `update` has for them.
 abbrev pub FaultRows : Type 0
 FaultRows =
-    faults_text Reports (codes "f") (codes " A=1\nb\n")
+    flat_map (line_faults_text Reports (codes "f") (codes " A=1\nb\n")) (lines (codes " A=1\nb\n"))
     ≡ codes "f:1:2: error: property where a match is expected, ignored [stray-property]\n     A=1\n     ^\n    hint: put a match line above it, with no empty line between them\n"
     ++ codes "f:2:1: error: record without properties, ignored [no-property]\n    b\n    ^\n    hint: put a property below it, on a line that begins with a space, or take the match line away\n"
 

@@ -88,6 +88,9 @@ pub fn check_rows()
     ensures for_github { CheckRows.GithubRows }
     ensures as_sarif { CheckRows.SarifRows }
     ensures formats { CheckRows.FormatRows }
+    ensures order { CheckRows.OrderRows }
+    ensures fixes { CheckRows.FixRows }
+    ensures fixed { CheckRows.FixedRows }
     ensures faults { CheckRows.FaultRows }
     ensures tally { CheckRows.TallyRows }
 {}

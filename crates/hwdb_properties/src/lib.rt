@@ -4,6 +4,7 @@
 //! |---|---|
 //! | `common` | properties that most lines of large files have |
 //! | `cuts` | the parts of a text before and after a byte |
+//! | `fixes` | names and values as they were likely meant, if that is sure |
 //! | `names` | names that are nearly alike |
 //! | `words` | names that lost words, and names with odd bytes |
 //! | `rows` | the row of a table for a name |
@@ -19,6 +20,7 @@
 
 mod common;
 mod cuts;
+mod fixes;
 mod keys;
 mod laws;
 mod matrices;
@@ -33,6 +35,7 @@ mod words;
 
 pub use common::is_common;
 pub use cuts::{after, before, same};
+pub use fixes::{meant_value, push_meant_key, push_meant_name};
 pub use keys::{has_part, keys_text};
 pub use laws::{
     axes_are_told, codes_are_told, keys_are_told, matrices_are_told, meant_values_are_told,

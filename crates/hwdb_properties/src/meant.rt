@@ -65,7 +65,7 @@ fn push_meant(text: &mut Vec<u8>, name: &[u8], value: &[u8]) -> Result<(), Alloc
 }
 
 /// The value of a row that was likely meant by a text; an empty text if that isn't known.
-fn value_meant<'t>(row: &'t [u8], text: &'t [u8]) -> &'t [u8]
+pub fn value_meant<'t>(row: &'t [u8], text: &'t [u8]) -> &'t [u8]
     ensures { result.now ≡ Properties.value_meant row.now text.now }
 {
     let bare = bare_value(text);

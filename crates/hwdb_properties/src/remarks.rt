@@ -55,7 +55,7 @@ fn lost_row(name: &[u8]) -> &'static [u8]
 }
 
 /// The key with this name but for the case of letters.
-fn key_in_letters(name: &[u8]) -> &'static [u8]
+pub fn key_in_letters(name: &[u8]) -> &'static [u8]
     ensures { result.now ≡ Properties.letters_row KEY_NAMES.now name.now }
 {
     first_row(KEY_NAMES.as_bytes(), name, Likeness::Letters)
@@ -83,7 +83,7 @@ fn has_code(form: ValueForm) -> bool
 }
 
 /// Whether a row's name is that of all axes.
-fn is_axis_name(own: &[u8]) -> bool
+pub fn is_axis_name(own: &[u8]) -> bool
     ensures { result ≡ Properties.is_axis_name own.now }
 {
     same(own, b"EVDEV_ABS_")
@@ -265,7 +265,7 @@ fn push_value_hint(text: &mut Vec<u8>, name: &[u8], value: &[u8]) -> Result<(), 
 }
 
 /// The code that ends a name, after its row's own, without a `0x`.
-fn bare_code<'a>(own: &[u8], name: &'a [u8]) -> &'a [u8]
+pub fn bare_code<'a>(own: &[u8], name: &'a [u8]) -> &'a [u8]
     ensures { result.now ≡ Properties.bare_code own.now name.now }
 {
     let code = past(name, own.len());
@@ -277,7 +277,7 @@ fn bare_code<'a>(own: &[u8], name: &'a [u8]) -> &'a [u8]
 }
 
 /// Adds a text in lower case.
-fn push_lower(text: &mut Vec<u8>, letters: &[u8]) -> Result<(), AllocError>
+pub fn push_lower(text: &mut Vec<u8>, letters: &[u8]) -> Result<(), AllocError>
     ensures { OnOk result
         (text.new.items ≡ text.old.items ++ map Properties.lower letters.now) }
 {
@@ -288,7 +288,7 @@ fn push_lower(text: &mut Vec<u8>, letters: &[u8]) -> Result<(), AllocError>
 }
 
 /// The row of a code that evtest shows in decimal.
-fn axis_row(code: &[u8]) -> &'static [u8]
+pub fn axis_row(code: &[u8]) -> &'static [u8]
     ensures { result.now ≡ Properties.row_for AXIS_CODES.now code.now }
 {
     first_row(AXIS_CODES.as_bytes(), code, Likeness::Same)

@@ -1,9 +1,9 @@
 -- Comments that let kinds of warnings pass in their record: `# hwdb: allow KIND[,KIND]`. Faults are never let pass. Our choice.
-use Rattle.std.specs.Prelude.{Bool, true, false, ℕ, List, [], ◌∷◌, ◌++◌, ◌+◌, if◌then◌else◌, codes, drop, filter, flat_map, length, map, nat_eq, not}
+use Rattle.std.specs.Prelude.{Bool, true, false, ℕ, List, None, [], ◌∷◌, ◌++◌, ◌+◌, if◌then◌else◌, codes, drop, filter, flat_map, length, map, nat_eq, not}
 use Rattle.std.specs.List.{after_first, before_first, list_any, position_or_len, prefix_len, starts_with}
 use Rattle.hwdb_spec.specs.Folders.{same}
 use Rattle.hwdb_spec.specs.Lines.{Line, byte, clean_line, is, is_dropped, is_empty, is_indent, is_none, lines, pieces, trimmed}
-use Rattle.hwdb_spec_commands.specs.Findings.{Finding, faults_text, line_text, told}
+use Rattle.hwdb_spec_commands.specs.Findings.{Finding, line_faults_text, line_text, told}
 use Rattle.hwdb_spec_commands.specs.Properties.{did_you_mean, near_row}
 use Rattle.hwdb_spec_commands.specs.Reports.{shown}
 use Rattle.hwdb_spec_commands.specs.Warnings.{line_warnings}
@@ -101,6 +101,7 @@ unknown_found path l name = record {
   text = unknown_text name;
   hint = unknown_hint name;
   source = l.text;
+  fix = None;
 }
 
 -- what is printed of it
@@ -117,14 +118,14 @@ names_at allowed m = flat_map names_in allowed ++ m.names
 abbrev pub left_warnings : (allowed : List (List ℕ)) → (file : List ℕ) → Marked → List WarningKind
 left_warnings allowed file m = line_warnings (names_at allowed m) file m.line
 
--- what is printed of a line: of names that are no kinds, and of the warnings that are left
+-- what is printed of a line beside its faults: of names that are no kinds, and of the warnings that are left
 abbrev pub left_of_line : Format → (allowed : List (List ℕ)) → (path file : List ℕ) → Marked → List ℕ
 left_of_line format allowed path file m =
     flat_map (told_unknown format path m.line) (unknown_names m.line.text) ++ line_text format (names_at allowed m) path file m.line
 
--- what is printed of the lines of a file beside its faults
-abbrev pub left_text : Format → (allowed : List (List ℕ)) → (path file : List ℕ) → List ℕ
-left_text format allowed path file = flat_map (left_of_line format allowed path file) (marked file)
+-- what is printed of a line: its faults come first
+abbrev pub told_of_line : Format → (allowed : List (List ℕ)) → (path file : List ℕ) → Marked → List ℕ
+told_of_line format allowed path file m = line_faults_text format path file m.line ++ left_of_line format allowed path file m
 
 -- the warnings of a file that are left
 abbrev pub warnings_left : (allowed : List (List ℕ)) → (file : List ℕ) → List WarningKind
@@ -134,6 +135,6 @@ warnings_left allowed file = flat_map (left_warnings allowed file) (marked file)
 abbrev pub unknown_left : (file : List ℕ) → List (List ℕ)
 unknown_left file = flat_map (λ m. unknown_names m.line.text) (marked file)
 
--- what is printed of a file: its faults, then what is left of its lines
+-- what is printed of a file, line by line
 abbrev pub file_text : Format → (allowed : List (List ℕ)) → (path file : List ℕ) → List ℕ
-file_text format allowed path file = faults_text format path file ++ left_text format allowed path file
+file_text format allowed path file = flat_map (told_of_line format allowed path file) (marked file)

@@ -1,17 +1,18 @@
 -- What `check` prints of the faults and warnings of one file: of each a report, a line of JSON, a workflow command of GitHub, or a result in
 -- SARIF. Our choice.
-use Rattle.std.specs.Prelude.{Bool, true, false, ℕ, List, [], ◌∷◌, ◌++◌, ◌+◌, ◌-◌, ◌^◌, if◌then◌else◌, codes, flat_map, nat_lt}
+use Rattle.std.specs.Prelude.{Bool, true, false, ℕ, List, Option, None, Some, [], ◌∷◌, ◌++◌, ◌+◌, ◌-◌, ◌^◌, if◌then◌else◌, codes, filter, flat_map, nat_lt}
 use Rattle.std.specs.Fmt.{decimal}
 use Rattle.json.specs.Json.{Json}
 use Rattle.hwdb_spec_commands.specs.Annotations.{annotation}
+use Rattle.hwdb_spec_commands.specs.Fixes.{fix}
 use Rattle.hwdb_spec_commands.specs.Json.{json_line, number_json, object_of, text_json}
 use Rattle.hwdb_spec_commands.specs.Kinds.{fault_name, warning_name}
 use Rattle.hwdb_spec_commands.specs.Logs.{result_line}
-use Rattle.hwdb_spec.specs.Lines.{Line, byte, clean_line, lines}
+use Rattle.hwdb_spec.specs.Lines.{Line, byte, clean_line, is, lines}
 use Rattle.hwdb_spec.specs.Records.{fault_text, faults}
 use Rattle.hwdb_spec.specs.Texts.{place_text}
 use Rattle.hwdb_spec.specs.Visible.{shown_name}
-use Rattle.hwdb_spec_commands.specs.Reports.{fault_hint, fault_place, hint_line, mark_line, shown_line, text_of_line}
+use Rattle.hwdb_spec_commands.specs.Reports.{fault_hint, fault_place, hint_line, mark_line, shown_line}
 use Rattle.hwdb_spec_commands.specs.Warnings.{line_warnings, warning_hint, warning_place, warning_text}
 use Rattle.hwdb_spec.specs.declared.Fault.{Fault}
 use Rattle.hwdb_spec_commands.specs.declared.WarningKind.{WarningKind}
@@ -34,6 +35,8 @@ pub record Finding : Type 0 where
   pub hint : List ℕ
   -- the line itself
   pub source : List ℕ
+  -- the line as it was likely meant, if that is sure
+  pub fix : Option (List ℕ)
 
 -- the column after so many bytes of a line, from 1; it stops at the greatest number of 64 bits
 abbrev pub column : ℕ → ℕ
@@ -61,12 +64,17 @@ finding_line f =
 abbrev pub report : Finding → List ℕ
 report f = finding_line f ++ (shown_line f.source f.place ++ (mark_line f.source f.place ++ hint_line f.hint))
 
+-- the line as it was likely meant, as a member, if that is sure
+abbrev pub fix_members : Option (List ℕ) → List (List ℕ × Json)
+fix_members None = []
+fix_members (Some line) = (codes "fix", text_json line) ∷ []
+
 -- What is found, as an object. The column is that of the mark, and the source is the line itself.
 abbrev pub finding_json : Finding → Json
 finding_json f =
     object_of ((codes "path", text_json f.path) ∷ (codes "line", number_json f.line) ∷ (codes "column", number_json (column f.place))
     ∷ (codes "kind", text_json f.kind) ∷ (codes "text", text_json f.text) ∷ (codes "hint", text_json f.hint)
-    ∷ (codes "severity", text_json (severity_name f.fault)) ∷ (codes "source", text_json f.source) ∷ [])
+    ∷ (codes "severity", text_json (severity_name f.fault)) ∷ (codes "source", text_json f.source) ∷ fix_members f.fix)
 
 -- what is printed of a finding
 abbrev pub told : Format → Finding → List ℕ
@@ -88,25 +96,22 @@ fault_found path text f = record {
   text = fault_text f.kind;
   hint = fault_hint f.kind;
   source = text;
-}
-
--- a warning at a place of a line, with what is found and what to do
-abbrev pub warning_of : (path : List ℕ) (line place : ℕ) → WarningKind → (text hint source : List ℕ) → Finding
-warning_of path line place kind text hint source = record {
-  path = path;
-  line = line;
-  place = place;
-  fault = false;
-  kind = warning_name kind;
-  text = text;
-  hint = hint;
-  source = source;
+  fix = None;
 }
 
 -- a warning of a line
 abbrev pub warning_found : (path : List ℕ) → Line → WarningKind → Finding
-warning_found path l kind =
-    warning_of path l.number (warning_place kind l.text (clean_line l).text) kind (warning_text kind) (warning_hint kind (clean_line l)) l.text
+warning_found path l kind = record {
+  path = path;
+  line = l.number;
+  place = warning_place kind l.text (clean_line l).text;
+  fault = false;
+  kind = warning_name kind;
+  text = warning_text kind;
+  hint = warning_hint kind (clean_line l);
+  source = l.text;
+  fix = fix kind (clean_line l) l.text;
+}
 
 -- lines of JSON, or reports
 abbrev pub format_if : (json : Bool) → Format
@@ -121,14 +126,22 @@ told_fault format path text f = told format (fault_found path text f)
 unfoldable pub told_warning : Format → (path : List ℕ) → Line → WarningKind → List ℕ
 told_warning format path l kind = told format (warning_found path l kind)
 
--- what is printed of all faults of a file, by line and number
-abbrev pub faults_text : Format → (path file : List ℕ) → List ℕ
-faults_text format path file = flat_map (λ f. told_fault format path (text_of_line (lines file) f.line) f) (faults file)
+-- the faults of the line of a file with this number, in their order
+abbrev pub faults_at : (file : List ℕ) (number : ℕ) → List Fault
+faults_at file number = filter (λ f. is number f.line) (faults file)
+
+-- what is printed of the faults of a line of a file
+abbrev pub line_faults_text : Format → (path file : List ℕ) → Line → List ℕ
+line_faults_text format path file l = flat_map (told_fault format path l.text) (faults_at file l.number)
 
 -- what is printed of the warnings of a line of a file, of a kind that isn't allowed
 abbrev pub line_text : Format → (allowed : List (List ℕ)) → (path file : List ℕ) → Line → List ℕ
 line_text format allowed path file l = flat_map (told_warning format path l) (line_warnings allowed file l)
 
--- what is printed of the warnings of a file, by line
-abbrev pub warnings_text : Format → (allowed : List (List ℕ)) → (path file : List ℕ) → List ℕ
-warnings_text format allowed path file = flat_map (line_text format allowed path file) (lines file)
+-- what is printed of a line of a file: its faults, and then its warnings
+abbrev pub line_findings : Format → (allowed : List (List ℕ)) → (path file : List ℕ) → Line → List ℕ
+line_findings format allowed path file l = line_faults_text format path file l ++ line_text format allowed path file l
+
+-- what is printed of a file whose comments let nothing pass, line by line
+abbrev pub findings_text : Format → (allowed : List (List ℕ)) → (path file : List ℕ) → List ℕ
+findings_text format allowed path file = flat_map (line_findings format allowed path file) (lines file)

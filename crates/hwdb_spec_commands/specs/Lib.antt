@@ -16,6 +16,7 @@ pub mod Kinds
 pub mod Warnings
 pub mod Annotations
 pub mod Logs
+pub mod Fixes
 pub mod Findings
 pub mod AllowedKinds
 pub mod Checks

@@ -22,6 +22,7 @@
 //! | `Warnings` | the warnings of a file, and their reports |
 //! | `Annotations` | a finding as GitHub shows it beside its line |
 //! | `Logs` | findings as a log in SARIF |
+//! | `Fixes` | lines as they were likely meant, of which a warning is told |
 //! | `Findings` | what `check` prints of a finding, in each format |
 //! | `AllowedKinds` | comments that let kinds of warnings pass in their record, and what they leave |
 //! | `Checks` | what `check` prints, how much it finds, and its status |

@@ -1,11 +1,12 @@
 use Rattle.std.proofs.Common.{List, ℕ, ◌++◌, ◌∷◌, [], codes, refl, ◌∙◌, ap}
 use Rattle.std.proofs.lemmas.Result.{on_ok_weaker}
+use Rattle.std.specs.Option.{option_map}
 use Rattle.json.specs.Json.{Json}
 use Rattle.json.specs.Token.{begin_object}
-use Rattle.hwdb_spec_commands.specs.Findings.{column, severity_name}
+use Rattle.hwdb_spec_commands.specs.Findings.{column, fix_members, severity_name}
 use Rattle.hwdb_spec_commands.specs.Json.{number_json, text_json}
 use Rattle.hwdb_show.specs.JsonTokens.{tokens_of_member}
-use Rattle.hwdb_show.specs.Lemmas.Json.{member_behind, no_members_yet, object_closed}
+use Rattle.hwdb_show.specs.Lemmas.Json.{member_behind, members_behind, no_members_yet, object_closed}
 use Rattle.hwdb_check.proofs.findings.put_finding.Goals as goal
 
 pub returns-clause-tokens : goal.returns-clause-tokens
@@ -33,5 +34,7 @@ returns-clause-tokens c =
     (c.in_ok-put_member-5.ensures.tokens ∙ ap (λ k. c.put_member-4.new.json.tokens ++ tokens_of_member (codes "severity", text_json k)) (c.as_bytes-2.ensures.value ∙ c.severity_name.ensures)) in
     let eight = member_behind front c.put_member-5.new.json.tokens c.put_member-6.new.json.tokens (a ∷ b ∷ d ∷ e ∷ h ∷ i ∷ s ∷ []) o seven
     c.in_ok-put_member-6.ensures.tokens in
-    let all : List (List ℕ × Json) = a ∷ b ∷ d ∷ e ∷ h ∷ i ∷ s ∷ o ∷ [] in
-    on_ok_weaker c.end_object.result (object_closed c.args.json.now.tokens c.put_member-6.new.json.tokens c.end_object.new.self.tokens all all eight refl) c.end_object.ensures.ok
+    let more = fix_members (option_map (λ t. t.items) found.fix.now) in
+    let nine = members_behind front c.put_member-6.new.json.tokens c.put_fix.new.json.tokens (a ∷ b ∷ d ∷ e ∷ h ∷ i ∷ s ∷ o ∷ []) more eight c.in_ok-put_fix.ensures.tokens in
+    let all : List (List ℕ × Json) = a ∷ b ∷ d ∷ e ∷ h ∷ i ∷ s ∷ o ∷ more in
+    on_ok_weaker c.end_object.result (object_closed c.args.json.now.tokens c.put_fix.new.json.tokens c.end_object.new.self.tokens all all nine refl) c.end_object.ensures.ok

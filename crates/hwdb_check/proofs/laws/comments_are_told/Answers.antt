@@ -14,7 +14,7 @@ pub returns-clause-bare : goal.returns-clause-bare
 returns-clause-bare c = bare_told
 
 pub returns-clause-faults : goal.returns-clause-faults
-returns-clause-faults c = faults_stay
+returns-clause-faults c = faults_stay c.sections_are_the_lines.ensures c.faults_ascend.ensures
 
 pub returns-clause-rows : goal.returns-clause-rows
 returns-clause-rows c = comment_rows

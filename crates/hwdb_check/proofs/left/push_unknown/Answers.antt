@@ -1,4 +1,5 @@
 use Rattle.std.proofs.Common.{◌≡◌, ◌∙◌, ◌++◌, ℕ, List, OnOk, codes, false, subst}
+use Rattle.std.specs.Prelude.{None}
 use Rattle.hwdb_spec_commands.specs.AllowedKinds.{comment_place, told_unknown, unknown_hint, unknown_text}
 use Rattle.hwdb_spec_commands.specs.Findings as spec
 use Rattle.hwdb_spec_commands.specs.Findings.{told}
@@ -18,6 +19,7 @@ returns c =
       text = text;
       hint = hint;
       source = line.text.now;
+      fix = None;
     } in
     let Is : spec.Finding → Type 0 = λ f. OnOk c.push_finding.result (c.push_finding.new.text.items ≡ c.args.text.now.items ++ told c.args.format f) in
     subst (λ (p : ℕ). Is (at p (unknown_text name) (unknown_hint name))) c.place_of.ensures

@@ -1,10 +1,10 @@
 use Rattle.std.proofs.Common.{length, ◌+◌, ◌-◌, ◌≡◌, ◌≤◌, ◌++◌, drop, take}
 use Rattle.std.specs.Prelude.{flat_map}
-use Rattle.hwdb_spec_commands.specs.Findings.{line_text, warnings_text}
+use Rattle.hwdb_spec_commands.specs.Findings.{line_text}
 use Rattle.hwdb_spec.specs.Lines.{is, numbered, pieces}
 use Rattle.hwdb_spec_commands.specs.Warnings.{line_warnings, warnings}
 use Rattle.hwdb_check.specs.Leaving.{names_of}
-use Rattle.hwdb_check.specs.Plain.{AreQuiet, IsTame}
+use Rattle.hwdb_check.specs.Plain.{AreQuiet, IsTame, warnings_text}
 use Rattle.hwdb_check.proofs.warnings.cut_warnings.Given as goal
 
 abbrev pub invariant-loop-at : goal.invariant-loop-at

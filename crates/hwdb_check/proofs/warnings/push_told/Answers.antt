@@ -1,42 +1,49 @@
-use Rattle.std.proofs.Common.{◌≡◌, ◌∙◌, ◌++◌, ℕ, List, OnOk, ap, false, subst}
+use Rattle.std.proofs.Common.{◌≡◌, ◌∙◌, ◌++◌, ℕ, List, Option, None, OnOk, ap, false, subst}
 use Rattle.hwdb_spec_commands.specs.Findings as spec
 use Rattle.hwdb_spec_commands.specs.Findings.{told, told_warning}
+use Rattle.hwdb_spec_commands.specs.Fixes.{fix}
 use Rattle.hwdb_spec_commands.specs.Kinds.{warning_name}
 use Rattle.hwdb_spec_commands.specs.Warnings.{warning_hint, warning_place, warning_text}
 use Rattle.hwdb_check.specs.Internal.{clean_of, line_of}
-use Rattle.hwdb_check.proofs.PieceLemmas.{same_hint}
+use Rattle.hwdb_check.proofs.PieceLemmas.{same_fix, same_hint}
 use Rattle.hwdb_check.proofs.warnings.push_told.Goals as goal
 
 pub returns : goal.returns
 unfolding told_warning
 returns c =
     let old : List ℕ = c.args.text.now.items in
+    let kind = c.args.kind in
     let number : ℕ = c.args.line.now.number in
     let text : List ℕ = c.args.line.now.text.now in
     let clean : List ℕ = c.args.line.now.clean.now in
     let read : List ℕ = (clean_of c.args.line.now).text in
     let last : List ℕ = c.push_finding.new.text.items in
-    let at : (place : ℕ) (kind words hint : List ℕ) → spec.Finding = λ place kind words hint. record {
+    let at : (place : ℕ) (name words hint : List ℕ) (line : Option (List ℕ)) → spec.Finding = λ place name words hint line. record {
       path = c.args.path.now;
       line = number;
       place = place;
       fault = false;
-      kind = kind;
+      kind = name;
       text = words;
       hint = hint;
       source = text;
+      fix = line;
     } in
     let Is : spec.Finding → Type 0 = λ f. OnOk c.push_finding.result (last ≡ old ++ told c.args.format f) in
-    subst (λ (h : List ℕ). Is (at (warning_place c.args.kind text read) (warning_name c.args.kind) (warning_text c.args.kind) h))
-    (same_hint c.args.kind 0 number read)
-    (subst (λ (t : List ℕ). Is (at (warning_place c.args.kind text t) (warning_name c.args.kind) (warning_text c.args.kind) (warning_hint c.args.kind (line_of 0 t))))
+    subst (λ (l : Option (List ℕ)). Is (at (warning_place kind text read) (warning_name kind) (warning_text kind) (warning_hint kind (line_of number read)) l))
+    (same_fix kind 0 number read text)
+    (subst (λ (h : List ℕ). Is (at (warning_place kind text read) (warning_name kind) (warning_text kind) h (fix kind (line_of 0 read) text)))
+    (same_hint kind 0 number read)
+    (subst (λ (t : List ℕ). Is (at (warning_place kind text t) (warning_name kind) (warning_text kind) (warning_hint kind (line_of 0 t)) (fix kind (line_of 0 t) text)))
     c.requires.clean
-    (subst (λ (p : ℕ). Is (at p (warning_name c.args.kind) (warning_text c.args.kind) (warning_hint c.args.kind (line_of 0 clean))))
+    (subst (λ (p : ℕ). Is (at p (warning_name kind) (warning_text kind) (warning_hint kind (line_of 0 clean)) (fix kind (line_of 0 clean) text)))
     c.warning_place.ensures
-    (subst (λ (k : List ℕ). Is (at c.warning_place.result k (warning_text c.args.kind) (warning_hint c.args.kind (line_of 0 clean))))
+    (subst (λ (k : List ℕ). Is (at c.warning_place.result k (warning_text kind) (warning_hint kind (line_of 0 clean)) (fix kind (line_of 0 clean) text)))
     c.warning_name.ensures
-    (subst (λ (w : List ℕ). Is (at c.warning_place.result c.warning_name.result.now w (warning_hint c.args.kind (line_of 0 clean))))
+    (subst (λ (w : List ℕ). Is (at c.warning_place.result c.warning_name.result.now w (warning_hint kind (line_of 0 clean)) (fix kind (line_of 0 clean) text)))
     (c.deref.ensures.value ∙ c.in_ok-words.ensures)
-    (subst (λ (h : List ℕ). Is (at c.warning_place.result c.warning_name.result.now c.deref.result.now h))
-    (c.deref-2.ensures.value ∙ c.in_ok-push_hint.ensures ∙ ap (λ (f : List ℕ). f ++ warning_hint c.args.kind (line_of 0 clean)) c.new-hint.ensures.items)
-    c.push_finding.ensures)))))
+    (subst (λ (h : List ℕ). Is (at c.warning_place.result c.warning_name.result.now c.deref.result.now h (fix kind (line_of 0 clean) text)))
+    (c.deref-2.ensures.value ∙ c.in_ok-push_hint.ensures ∙ ap (λ (f : List ℕ). f ++ warning_hint kind (line_of 0 clean)) c.new-hint.ensures.items)
+    (subst (λ (t : List ℕ). OnOk c.push_finding.result (last ≡ old ++ t))
+    (c.in_ok-fix.ensures (at c.warning_place.result c.warning_name.result.now c.deref.result.now c.deref-2.result.now None))
+    c.push_finding.ensures)))))))
