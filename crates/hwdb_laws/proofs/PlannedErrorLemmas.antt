@@ -2,10 +2,19 @@
 use Rattle.std.proofs.Common.{◌≡◌, ◌∙◌, ◌++◌, ◌⊎◌, ◌∷◌, ⊎_elim, inl, inr, ap, refl, subst, sym, drop, length, Bool, IfSome, List, Option, None, Result, Some, Ok, Err, ℕ, [], true, false, ◌≤◌, ◌<◌}
 use Rattle.std.specs.Io.KnownBytes.{Appends}
 use Rattle.std.specs.Option.{option_map_or}
-use Rattle.std.specs.Prelude.{codes, find, if◌then◌else◌, option_map}
+use Rattle.std.specs.Prelude.{codes, find, if◌then◌else◌, nat_le, option_map}
 use Rattle.std.specs.Str.{bytes_eq}
 use Rattle.clap.specs.Simple.{matches_of, subcommand_of}
 use Rattle.clap.specs.Walk.{Row, Text, first_of}
+use Rattle.hwdb_spec.specs.Folders.{Choice, Source, choice, max_files, names}
+use Rattle.hwdb_spec.specs.System.{etc_files, usr_files}
+use Rattle.hwdb_spec.specs.Errors.{refusal_of_compile}
+use Rattle.hwdb_spec_commands.specs.DeviceFound.{places_meant, several_text}
+use Rattle.hwdb_plan.specs.Asking.{if_read}
+use Rattle.hwdb_plan.specs.Folders.{Texts, choose, if_listed, names_of, paths_of, read_texts, texts_of_folders, texts_of_names, with_texts}
+use Rattle.hwdb_plan.specs.Lemmas.OverText.{said_is_no_more}
+use Rattle.hwdb_plan.specs.OverText.{Basis, basis, basis_of, from_basis, if_fit, is_first, text_plan, with_after}
+use Rattle.hwdb_plan.specs.Sides.{made_of, taken_from}
 use Rattle.hwdb_spec.specs.Texts.{devices_of, max_file}
 use Rattle.hwdb_spec.specs.declared.errors.ToolError.{ToolError}
 use Rattle.hwdb_spec.specs.declared.errors.ToolError.TheVariants.{BadDatabase, BadPosition, Memory as OutOfMemory, Read, Replace, TooLarge, TooLong, TooManyFiles, TooManyLines, Write}
@@ -13,10 +22,10 @@ use Rattle.hwdb_spec.specs.declared.causes.Cause.{Cause}
 use Rattle.hwdb_spec_commands.specs.AnsweredLines.{answered_lines, line_error}
 use Rattle.hwdb_spec_commands.specs.CommandLine.{hwdb_app}
 use Rattle.hwdb_spec_commands.specs.DeviceAsked.{device_form, device_list, missing_text, no_sysfs_text, unread_text}
-use Rattle.hwdb_spec_commands.specs.DeviceTree.{Sight, device_at, device_for, unread_for}
+use Rattle.hwdb_spec_commands.specs.DeviceTree.{Sight, device_at, unread_for}
 use Rattle.hwdb_spec_commands.specs.Jobs.{has_flag}
 use Rattle.hwdb_spec_commands.specs.Runs.{Told}
-use Rattle.hwdb_spec_commands.specs.Told.{Reads, Stop, stop_of}
+use Rattle.hwdb_spec_commands.specs.Told.{Reads, Stop, Unlisted, stop_of, unlisted_stop, unread_stop}
 use Rattle.hwdb_spec_commands.specs.Told.Stop.{Over, Plain, Says}
 use Rattle.hwdb_spec_commands.specs.declared.devices.DeviceForm.{DeviceForm}
 use Rattle.hwdb_spec_commands.specs.declared.refusals.Refusal.{Refusal}
@@ -24,16 +33,16 @@ use Rattle.hwdb_spec_commands.specs.declared.refusals.Refusal.TheVariants as ref
 use Rattle.hwdb_spec_commands.specs.declared.unread.Unread.{Unread}
 use Rattle.hwdb_spec_commands.specs.declared.unread.Unread.TheVariants as unread
 use Rattle.hwdb_plan.specs.Asking.{asked}
-use Rattle.hwdb_plan.specs.Device.{device_answer, device_plan, folder_of, place_of, says, sysfs_of}
+use Rattle.hwdb_plan.specs.Device.{device_answer, device_plan, folder_of, none_there, one_of, place_of, says, sysfs_of}
 use Rattle.hwdb_plan.specs.Ended.{OnLines, Outs, Shows, ShowsEnd, StreamStops}
 use Rattle.hwdb_plan.specs.Input.{IsInputTold}
-use Rattle.hwdb_plan.specs.Laws.{PlansEndAlike}
-use Rattle.hwdb_plan.specs.Plans.{End, Ends, Plan}
+use Rattle.hwdb_plan.specs.Laws.{AreAlike, OverIsNoMore, OverIsOver, PlansEndAlike}
+use Rattle.hwdb_plan.specs.Plans.{AreMadeOf, End, Ends, Plan, over, reads_over}
 use Rattle.hwdb_plan.specs.Plans.End.{Answers, Lines, Replaces, Stops, Streams}
 use Rattle.hwdb_plan.specs.Plans.Plan.{Done}
 use Rattle.hwdb_spec_program.specs.DeviceErrors.{asked_names}
-use Rattle.hwdb_spec_program.specs.ProgramPlan.{Around, ShowsPlan, files_plan, found_plan, has_text, plans, program_plan, root_given, strict_given}
-use Rattle.hwdb_laws.proofs.PlannedLemmas.{Serves, no_memory, one_told, plan_moves, too_long}
+use Rattle.hwdb_spec_program.specs.ProgramPlan.{Around, ShowsPlan, Taker, as_given, files_plan, found_plan, over_texts, plans, program_plan, root_given, strict_given, takers}
+use Rattle.hwdb_laws.proofs.PlannedLemmas.{OverLaws, Serves, mapped, no_memory, one_told, plan_moves, too_long}
 use Rattle.hwdb_laws.specs.PlannedErrors.{AreButForCause, AreOneEnd, AreOneError, IsOfReading, PlannedErrorsAreOne}
 use Rattle.hwdb_laws.specs.PlannedRuns.{HavePlan, Tells}
 
@@ -64,20 +73,176 @@ module _ (alike : PlansEndAlike) where
         folder_alike (root ++ codes "/sys") (λ sys. folder_of sight cause (sys ++ codes "/devices") (λ devices. one sys)) (λ sys. folder_of sight cause2 (sys ++ codes "/devices") (λ devices. two sys))
         (λ sys. folder_alike (sys ++ codes "/devices") (λ devices. one sys) (λ devices. two sys) (λ devices. step sys))
 
-    place_alike : (root given sys : List ℕ) (next : List ℕ → Plan) → Alike (place_of sight cause root given sys next) (place_of sight cause2 root given sys next)
-    place_alike root given sys next = by (device_for sight root sys given) (unread_for sight root sys given)
+    place_alike : (root given sys : List ℕ) (next : List ℕ → Plan) → Alike (place_of sight cause asked_names root given sys next) (place_of sight cause2 asked_names root given sys next)
+    place_alike root given sys next = by (places_meant sight asked_names root sys given)
       where
-        by : (o u : Option (List ℕ)) → Alike (option_map_or next o (option_map_or (λ path. says (unread_text path cause)) u (says (missing_text sight root sys given cause))))
-            (option_map_or next o (option_map_or (λ path. says (unread_text path cause2)) u (says (missing_text sight root sys given cause2))))
-        by None None = says_alike (missing_text sight root sys given cause) (missing_text sight root sys given cause2) (cause, cause2, inr (inr (sight, root, sys, given, refl, refl)))
-        by None (Some path) = says_alike (unread_text path cause) (unread_text path cause2) (cause, cause2, inr (inl (path, refl, refl)))
-        by (Some place) u = same_alike (next place)
+        none : (u : Option (List ℕ)) → Alike (option_map_or (λ path. says (unread_text path cause)) u (says (missing_text sight root sys given cause)))
+            (option_map_or (λ path. says (unread_text path cause2)) u (says (missing_text sight root sys given cause2)))
+        none None = says_alike (missing_text sight root sys given cause) (missing_text sight root sys given cause2) (cause, cause2, inr (inr (sight, root, sys, given, refl, refl)))
+        none (Some path) = says_alike (unread_text path cause) (unread_text path cause2) (cause, cause2, inr (inl (path, refl, refl)))
+
+        by : (places : List (List ℕ)) → Alike (one_of next (λ l. says (several_text sight asked_names sys given l)) (none_there sight cause root given sys) places)
+            (one_of next (λ l. says (several_text sight asked_names sys given l)) (none_there sight cause2 root given sys) places)
+        by [] = none (unread_for sight root sys given)
+        by (place ∷ []) = same_alike (next place)
+        by (place ∷ two ∷ more) = same_alike (says (several_text sight asked_names sys given (place ∷ two ∷ more)))
 
     device_alike : (root : List ℕ) (form : DeviceForm) (given : Option (List ℕ)) → Alike (device_plan sight cause asked_names root form given) (device_plan sight cause2 asked_names root form given)
     device_alike root form None = let all = λ (sys : List ℕ). Done (Answers 0 [] (device_list sight asked_names sys)) in sysfs_alike root all all (λ sys. same_alike (all sys))
     device_alike root form (Some given) =
         let meant = λ (sys place : List ℕ). asked root (device_answer form (device_at sight asked_names sys place)) in
-        sysfs_alike root (λ sys. place_of sight cause root given sys (meant sys)) (λ sys. place_of sight cause2 root given sys (meant sys)) (λ sys. place_alike root given sys (meant sys))
+        sysfs_alike root (λ sys. place_of sight cause asked_names root given sys (meant sys)) (λ sys. place_of sight cause2 asked_names root given sys (meant sys)) (λ sys. place_alike root given sys (meant sys))
+
+  -- ---- `--text`
+  -- two runs read the same up to a place, from which each goes on; or they end alike before
+  abbrev BothReach : {X : Type 0} (w : Reads) (e f : End) (one two : X → Plan) → Type 0
+  BothReach {X} w e f one two = AreOneEnd e f ⊎ ((x : X) × Ends w (one x) e × Ends w (two x) f)
+
+  stop_both : {X : Type 0} (w : Reads) (e f : End) (one two : X → Plan) (s : Stop) → Ends w (Done (Stops s)) e → Ends w (Done (Stops s)) f → BothReach w e f one two
+  unfolding Ends
+  stop_both w e f one two s ends ends2 = inl (inl (inl (ends ∙ sym ends2)))
+
+  module _ (w : Reads) (e f : End) where
+    names_both : (folder : List ℕ) (one two : List (List ℕ) → Plan) → Ends w (names_of folder one) e → Ends w (names_of folder two) f → BothReach w e f one two
+    unfolding Ends
+    names_both folder one two = by (w.names folder)
+      where
+        by : (told : Result (List (List ℕ)) Unlisted) → Ends w (if_listed folder one told) e → Ends w (if_listed folder two told) f → BothReach w e f one two
+        by (Ok found) ends ends2 = inr (found, ends, ends2)
+        by (Err why) ends ends2 = stop_both w e f one two (unlisted_stop folder why) ends ends2
+
+    choice_both : (etc usr : List (List ℕ)) (one two : List Choice → Plan) → Ends w (choose etc usr one) e → Ends w (choose etc usr two) f → BothReach w e f one two
+    choice_both etc usr one two = by (nat_le (length (names etc usr)) max_files)
+      where
+        by : (b : Bool) → Ends w (if b then one (choice etc usr) else Done (Stops (Plain TooManyFiles))) e → Ends w (if b then two (choice etc usr) else Done (Stops (Plain TooManyFiles))) f → BothReach w e f one two
+        by true ends ends2 = inr (choice etc usr, ends, ends2)
+        by false ends ends2 = stop_both w e f one two (Plain TooManyFiles) ends ends2
+
+    read_both : (path : List ℕ) (one two : List ℕ → Plan) (told : Result (List ℕ) Unread) → Ends w (if_read path (λ at bytes. one bytes) told) e → Ends w (if_read path (λ at bytes. two bytes) told) f → BothReach w e f one two
+    read_both path one two (Ok bytes) ends ends2 = inr (bytes, ends, ends2)
+    read_both path one two (Err why) ends ends2 = stop_both w e f one two (unread_stop path why) ends ends2
+
+    texts_both : (paths texts : List (List ℕ)) (one two : List (List ℕ) → Plan) → Ends w (read_texts paths texts one) e → Ends w (read_texts paths texts two) f → BothReach w e f one two
+    unfolding read_texts Ends
+    texts_both [] texts one two ends ends2 = inr (texts, ends, ends2)
+    texts_both (path ∷ more) texts one two ends ends2 =
+        ⊎_elim (λ same. inl same) (λ read. texts_both more (texts ++ read.0 ∷ []) one two read.1 read.2)
+        (read_both path (λ bytes. read_texts more (texts ++ bytes ∷ []) one) (λ bytes. read_texts more (texts ++ bytes ∷ []) two) (w.text path) ends ends2)
+
+    folders_both : (root : List ℕ) (one two : Texts → Plan) → Ends w (texts_of_folders root one) e → Ends w (texts_of_folders root two) f → BothReach w e f one two
+    folders_both root one two ends ends2 =
+        ⊎_elim (λ same. inl same)
+        (λ etc. ⊎_elim (λ same. inl same)
+        (λ usr. ⊎_elim (λ same. inl same)
+        (λ chosen. ⊎_elim (λ same. inl same)
+        (λ texts. inr (with_texts usr.0 chosen.0 texts.0, texts.1, texts.2))
+        (texts_both (paths_of root chosen.0) [] (λ texts. one (with_texts usr.0 chosen.0 texts)) (λ texts. two (with_texts usr.0 chosen.0 texts)) chosen.1 chosen.2))
+        (choice_both etc.0 usr.0 (λ chosen. read_texts (paths_of root chosen) [] (λ texts. one (with_texts usr.0 chosen texts))) (λ chosen. read_texts (paths_of root chosen) [] (λ texts. two (with_texts usr.0 chosen texts))) usr.1 usr.2))
+        (names_both (usr_files root) (λ usr. texts_of_names root etc.0 usr one) (λ usr. texts_of_names root etc.0 usr two) etc.1 etc.2))
+        (names_both (etc_files root) (λ etc. names_of (usr_files root) (λ usr. texts_of_names root etc usr one)) (λ etc. names_of (usr_files root) (λ usr. texts_of_names root etc usr two)) ends ends2)
+
+    made_both : (etc usr : List Source) (one two : List ℕ → Plan) → Ends w (made_of etc usr one) e → Ends w (made_of etc usr two) f → BothReach w e f one two
+    unfolding Ends
+    made_both etc usr one two (inl (bytes, made, ends)) (inl (bytes2, made2, ends2)) =
+        inr (bytes, ends, subst (λ (b : List ℕ). Ends w (two b) f) (one_made bytes bytes2 made made2) ends2)
+      where
+        marked : Plan
+        marked = made_of etc usr (λ b. Done (Answers 0 [] b))
+
+        same_bytes : (a b : List ℕ) → AreAlike (Answers 0 [] a) (Answers 0 [] b) → b ≡ a
+        same_bytes a b (inl is) = cc
+        same_bytes a b (inr (inl faults)) = absurd (no_answer (faults.bad faults.one) faults.is_one)
+          where
+            no_answer : (s : Stop) → Answers 0 [] a ≡ Stops s → ⊥
+            no_answer s is = cc
+        same_bytes a b (inr (inr reasons)) = absurd (no_answer (reasons.bad reasons.one) reasons.is_one)
+          where
+            no_answer : (s : Stop) → Answers 0 [] a ≡ Stops s → ⊥
+            no_answer s is = cc
+
+        one_made : (a b : List ℕ) → AreMadeOf etc usr max_file a → AreMadeOf etc usr max_file b → b ≡ a
+        one_made a b is is2 = same_bytes a b (alike w marked (Answers 0 [] a) (Answers 0 [] b) (inl (a, is, refl)) (inl (b, is2, refl)))
+    made_both etc usr one two (inl (bytes, made, ends)) (inr (why, much, is)) =
+        absurd (made_or_not (alike w (made_of etc usr (λ b. Done (Answers 0 [] b))) (Answers 0 [] bytes) (Stops (Plain (refusal_of_compile why))) (inl (bytes, made, refl)) (inr (why, much, refl))))
+      where
+        made_or_not : AreAlike (Answers 0 [] bytes) (Stops (Plain (refusal_of_compile why))) → ⊥
+        made_or_not (inl is) = cc
+        made_or_not (inr (inl faults)) = let is : Answers 0 [] bytes ≡ Stops (faults.bad faults.one) = faults.is_one in cc
+        made_or_not (inr (inr reasons)) = let is : Answers 0 [] bytes ≡ Stops (reasons.bad reasons.one) = reasons.is_one in cc
+    made_both etc usr one two (inr (why, much, is)) (inl (bytes, made, ends)) =
+        absurd (made_or_not (alike w (made_of etc usr (λ b. Done (Answers 0 [] b))) (Answers 0 [] bytes) (Stops (Plain (refusal_of_compile why))) (inl (bytes, made, refl)) (inr (why, much, refl))))
+      where
+        made_or_not : AreAlike (Answers 0 [] bytes) (Stops (Plain (refusal_of_compile why))) → ⊥
+        made_or_not (inl is) = cc
+        made_or_not (inr (inl faults)) = let is : Answers 0 [] bytes ≡ Stops (faults.bad faults.one) = faults.is_one in cc
+        made_or_not (inr (inr reasons)) = let is : Answers 0 [] bytes ≡ Stops (reasons.bad reasons.one) = reasons.is_one in cc
+    made_both etc usr one two (inr (why, much, is)) (inr (why2, much2, is2)) =
+        inl (inl (inr (inr record { etc = etc; usr = usr; most = max_file; bad = λ r. Plain (refusal_of_compile r); one = why; two = why2; has_one = much; has_two = much2; is_one = is; is_two = is2 })))
+
+  -- a text after what both print
+  after_alike : (text : List ℕ) (e f : End) → AreOneEnd e f → AreOneEnd (with_after text e) (with_after text f)
+  after_alike text e f (inl (inl is)) = inl (inl (ap (with_after text) is))
+  after_alike text e f (inl (inr (inl faults))) = inl (inr (inl record {
+    bytes = faults.bytes;
+    bad = faults.bad;
+    one = faults.one;
+    two = faults.two;
+    has_one = faults.has_one;
+    has_two = faults.has_two;
+    is_one = ap (with_after text) faults.is_one;
+    is_two = ap (with_after text) faults.is_two;
+  }))
+  after_alike text e f (inl (inr (inr reasons))) = inl (inr (inr record {
+    etc = reasons.etc;
+    usr = reasons.usr;
+    most = reasons.most;
+    bad = reasons.bad;
+    one = reasons.one;
+    two = reasons.two;
+    has_one = reasons.has_one;
+    has_two = reasons.has_two;
+    is_one = ap (with_after text) reasons.is_one;
+    is_two = ap (with_after text) reasons.is_two;
+  }))
+  after_alike text e f (inr (inl (said, said2, is, is2, but))) = inr (inl (said, said2, ap (with_after text) is, ap (with_after text) is2, but))
+  after_alike text e f (inr (inr (error, path, cause, cause2, is, is2))) = inr (inr (error, path, cause, cause2, ap (with_after text) is, ap (with_after text) is2))
+
+  module _ (laws : OverLaws) (p q : Plan) (both : Alike p q) where
+    basis_alike : (root : List ℕ) (b : Basis) → Alike (from_basis root p b) (from_basis root q b)
+    basis_alike root b w e f ends ends2 =
+        let is = is_first root in
+        let one = said_is_no_more b.besides w (over is b.database p) e ends in
+        let two = said_is_no_more b.besides w (over is b.database q) f ends2 in
+        let found = both (reads_over is b.database w) one.0 two.0 (laws.1 is b.database w p one.0 one.1) (laws.1 is b.database w q two.0 two.1) in
+        subst (λ (x : End). AreOneEnd x f) (sym one.2) (subst (λ (x : End). AreOneEnd (with_after b.besides one.0) x) (sym two.2) (after_alike b.besides one.0 two.0 found))
+
+    text_alike : (root : List ℕ) (besides : Texts → List ℕ) → Alike (text_plan root besides p) (text_plan root besides q)
+    text_alike root besides w e f ends ends2 =
+        ⊎_elim (λ same. same)
+        (λ texts. ⊎_elim (λ same. same)
+        (λ made. basis_alike root (basis (besides texts.0) made.0) w e f made.1 made.2)
+        (made_both w e f (taken_from true texts.0.chosen texts.0.texts) (taken_from false texts.0.chosen texts.0.texts)
+        (λ d. from_basis root p (basis (besides texts.0) d)) (λ d. from_basis root q (basis (besides texts.0) d)) texts.1 texts.2))
+        (folders_both w e f root (λ texts. basis_of besides texts (from_basis root p)) (λ texts. basis_of besides texts (from_basis root q)) ends ends2)
+
+    fit_alike : (root : List ℕ) (misuse : Option Text) (besides : Texts → List ℕ) → Alike (if_fit misuse (text_plan root besides p)) (if_fit misuse (text_plan root besides q))
+    fit_alike root None besides = text_alike root besides
+    fit_alike root (Some text) besides = same_alike (if_fit (Some text) (text_plan root besides p))
+
+    taker_alike : (root : List ℕ) (t : Option (Text × Taker)) → Alike (over_texts root t p) (over_texts root t q)
+    taker_alike root None = both
+    taker_alike root (Some t) = fit_alike root t.1.misuse t.1.besides
+
+    given_alike : (top : List Row) (found : Option (Text × List Row)) → Alike (as_given top found p) (as_given top found q)
+    given_alike top None = both
+    given_alike top (Some found) = by (has_flag (codes "text") found.1)
+      where
+        taken : Option (Text × Taker)
+        taken = find (λ t. bytes_eq t.0 found.0) (takers found.1)
+
+        by : (b : Bool) → Alike (if b then over_texts (root_given top found.1) taken p else p) (if b then over_texts (root_given top found.1) taken q else q)
+        by true = taker_alike (root_given top found.1) taken
+        by false = both
 
   -- ---- tables of plans
   abbrev AllAlike : (rows others : List (Text × Plan)) → Type 0
@@ -142,12 +307,13 @@ module _ (alike : PlansEndAlike) where
     found_alike top (Some f) p q is is2 =
         row_alike f.0 (plans first (root_given top f.1) (strict_given top f.1) f.1) (plans second (root_given top f.1) (strict_given top f.1) f.1) p q (rows_alike (root_given top f.1) (strict_given top f.1) f.1) is is2
 
-    plan_alike : (words : List Text) (p q : Plan) → program_plan first words ≡ Some p → program_plan second words ≡ Some q → Alike p q
-    plan_alike words p q = by (has_text (subcommand_of hwdb_app words))
-      where
-        by : (b : Bool) → (if b then None else files_plan first words) ≡ Some p → (if b then None else files_plan second words) ≡ Some q → Alike p q
-        by true is is2 = absurd cc
-        by false is is2 = found_alike (matches_of hwdb_app words) (subcommand_of hwdb_app words) p q is is2
+    plan_alike : OverLaws → (words : List Text) (p q : Plan) → program_plan first words ≡ Some p → program_plan second words ≡ Some q → Alike p q
+    plan_alike laws words p q is is2 w e f ends ends2 =
+        let top = matches_of hwdb_app words in
+        let found = subcommand_of hwdb_app words in
+        let x = mapped (as_given top found) (files_plan first words) p is in
+        let y = mapped (as_given top found) (files_plan second words) q is2 in
+        given_alike laws x.0 y.0 (found_alike top found x.0 y.0 x.1 y.1) top found w e f (subst (λ (z : Plan). Ends w z e) (sym x.2) ends) (subst (λ (z : Plan). Ends w z f) (sym y.2) ends2)
 
 -- ---- ends of streams
 one_grown : (had : List ℕ) (now now2 : Option (List ℕ)) (text : List ℕ) → Appends (Some had) now text → Appends (Some had) now2 text → now ≡ now2
@@ -249,7 +415,7 @@ shown_error input input_now before now r bytes tells reading (Streams text) (sto
 shown_error input input_now before now r bytes tells reading (Replaces folder made said status) shows = absurd shows
 
 -- ---- two runs
-module _ (alike : PlansEndAlike) (words : List Text) (w : Reads) (sight : Sight) (input input_now input_now2 : Told) (before now now2 : Outs) (r r2 : Refusal) (have : HavePlan words)
+module _ (alike : PlansEndAlike) (laws : OverLaws) (words : List Text) (w : Reads) (sight : Sight) (input input_now input_now2 : Told) (before now now2 : Outs) (r r2 : Refusal) (have : HavePlan words)
     (of_input : Tells input) (of_out : Tells before.out) (reading : IsOfReading input input_now r) (reading2 : IsOfReading input input_now2 r2) where
   abbrev plan_of : (told : Result (List ℕ) Unread) (cause : List ℕ) → Plan
   plan_of told cause = have.plan (record { input = told; sight = sight; cause = cause })
@@ -284,7 +450,7 @@ module _ (alike : PlansEndAlike) (words : List Text) (w : Reads) (sight : Sight)
 
   moved : (e : End) (told t : Result (List ℕ) Unread) (cause : List ℕ) → ServesBut e told t → Ends w (plan_of told cause) e → Ends w (plan_of t cause) e ⊎ IsForgone e
   moved e told t cause serves ends =
-      plan_moves w e (IsForgone e) sight cause cause told t serves (inl refl) words (plan_of told cause) (plan_of t cause)
+      plan_moves laws w e (IsForgone e) sight cause cause told t serves (inl refl) words (plan_of told cause) (plan_of t cause)
       (have.is (record { input = told; sight = sight; cause = cause })) (have.is (record { input = t; sight = sight; cause = cause })) ends
 
   one_end : (e f : End) (told told2 : Result (List ℕ) Unread) (cause cause2 : List ℕ) → IsInputTold input.bytes input.failures input_now.failures told
@@ -293,7 +459,7 @@ module _ (alike : PlansEndAlike) (words : List Text) (w : Reads) (sight : Sight)
       let (t, serves, serves2) = shared e f told told2 is is2 in
       ⊎_elim
       (λ one. ⊎_elim
-      (λ two. inl (plan_alike alike sight cause cause2 t words (plan_of t cause) (plan_of t cause2)
+      (λ two. inl (plan_alike alike sight cause cause2 t laws words (plan_of t cause) (plan_of t cause2)
       (have.is (record { input = t; sight = sight; cause = cause })) (have.is (record { input = t; sight = sight; cause = cause2 })) w e f one two))
       (λ gone. inr (inr gone)) (moved f told2 t cause2 serves2 ends2))
       (λ gone. inr (inl gone)) (moved e told t cause serves ends)
@@ -348,6 +514,6 @@ module _ (alike : PlansEndAlike) (words : List Text) (w : Reads) (sight : Sight)
           both e f (one_end e f told told2 cause cause2 so so2 ends ends2)
           (shown_error input input_now before now r of_input.0 of_input.1 reading e shows) (shown_error input input_now2 before now2 r2 of_input.0 of_input.1 reading2 f shows2)
 
-pub planned_errors : PlansEndAlike → PlannedErrorsAreOne
-planned_errors alike words w sight input input_now input_now2 before now now2 r r2 have of_input of_out reading reading2 =
-    errors_one alike words w sight input input_now input_now2 before now now2 r r2 have of_input of_out reading reading2
+pub planned_errors : PlansEndAlike → OverIsOver → OverIsNoMore → PlannedErrorsAreOne
+planned_errors alike is_over no_more words w sight input input_now input_now2 before now now2 r r2 have of_input of_out reading reading2 =
+    errors_one alike (is_over, no_more) words w sight input input_now input_now2 before now now2 r r2 have of_input of_out reading reading2
