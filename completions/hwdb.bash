@@ -29,6 +29,8 @@ _hwdb_value() {
             _hwdb_reply < <(find "$_hwdb_sys" -name uevent -type f 2>/dev/null | sed 's|/uevent$||; s|.*/||' | LC_ALL=C sort -u)
             __ltrim_colon_completions "$cur"
             ;;
+        # The keys that the program knows.
+        WORD) _hwdb_reply < <(command "${words[0]}" keys 2>/dev/null | sed 's/ .*//') ;;
         *) mapfile -t COMPREPLY < <(compgen -W "${kinds_of[$1]-}" -- "$cur") ;;
     esac
 }

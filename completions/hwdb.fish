@@ -49,6 +49,11 @@ function __hwdb_device
     find $_hwdb_sys -name uevent -type f 2>/dev/null | sed 's|/uevent$||; s|.*/||' | sort -u
 end
 
+# The keys that the program knows.
+function __hwdb_key
+    command hwdb keys 2>/dev/null | string replace -r ' .*' ''
+end
+
 function __hwdb_file
     __fish_complete_suffix .hwdb
 end
@@ -160,6 +165,6 @@ complete -c hwdb -n '__hwdb_at diff 1' -k -a '(__hwdb_side)' -d OLD
 complete -c hwdb -n '__hwdb_at diff 2' -k -a '(__hwdb_side)' -d NEW
 complete -c hwdb -n '__hwdb_at verify 1' -k -a '(__hwdb_database)' -d DATABASE
 complete -c hwdb -n '__hwdb_at dump 1' -k -a '(__hwdb_database)' -d DATABASE
-complete -c hwdb -n '__hwdb_at keys' -a '' -d WORD
+complete -c hwdb -n '__hwdb_at keys' -a '(__hwdb_key)' -d WORD
 complete -c hwdb -n '__hwdb_at help 1' -a '(__hwdb_command)' -d COMMAND
 # Until here.
