@@ -5,7 +5,7 @@ use Rattle.hex.specs.Hex.{encode_with}
 use Rattle.hwdb_spec.specs.Lines.{pieces}
 use Rattle.hwdb_spec.specs.Visible.{visible_after}
 use Rattle.hwdb_spec_commands.specs.DeviceTree.{last_after}
-use Rattle.hwdb_laws.specs.PlanRows.{CheckRows, DeviceRows, DiffRows, FreshRows, InputRows, KeysRows, ListRows, NamedRows, NearRows, NoneRows, QueryRows, StatusRows, SysfsRows}
+use Rattle.hwdb_laws.specs.PlanRows.{CheckRows, DeviceRows, DiffRows, FreshRows, InputRows, KeysRows, ListRows, NamedRows, NearRows, NoUpdateRows, NoneRows, QueryRows, StatusRows, SysfsRows, UpdateRows}
 use Rattle.std.specs.Char.{encode_utf8}
 use Rattle.std.specs.Fmt.{digits}
 use Rattle.std.specs.Str.{chars, is_utf8}
@@ -50,6 +50,14 @@ keys_rows = λ a. refl
 pub none_rows : NoneRows
 unfolding pieces visible_after is_utf8 chars encode_utf8 encode_with digits bundle_met walked flags_fault walk_fault defaults_fault last_after
 none_rows = λ a. refl
+
+pub update_rows : UpdateRows
+unfolding pieces visible_after is_utf8 chars encode_utf8 encode_with digits bundle_met walked flags_fault walk_fault defaults_fault last_after
+update_rows = refl
+
+pub no_update_rows : NoUpdateRows
+unfolding pieces visible_after is_utf8 chars encode_utf8 encode_with digits bundle_met walked flags_fault walk_fault defaults_fault last_after
+no_update_rows = refl
 
 pub status_rows : StatusRows
 unfolding pieces visible_after is_utf8 chars encode_utf8 encode_with digits bundle_met walked flags_fault walk_fault defaults_fault last_after

@@ -19,3 +19,5 @@ pub mod ComputedTaskRows
 pub mod ComputedPlanRows
 pub mod ComputedKeyRows
 pub mod PlannedLemmas
+pub mod PlannedJobLemmas
+pub mod PlannedUpdateLemmas

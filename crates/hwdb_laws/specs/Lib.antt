@@ -18,3 +18,5 @@ pub mod TaskRows
 pub mod PlanRows
 pub mod KeyRows
 pub mod PlannedRuns
+pub mod PlannedJobs
+pub mod PlannedUpdates

@@ -25,13 +25,18 @@
 //! | `PlanRows` | which plans words ask for |
 //! | `KeyRows` | keys with their codes, and which of them words ask for |
 //!
-//! `rows` shows them. `planned` shows `PlannedRuns`: two runs with the same words are one, if the words have a plan.
+//! `rows` shows them. `planned` shows `PlannedRuns`: two runs with the same words are one, if the words have a plan. `planned_jobs` shows that
+//! all words that ask for a job have one, or ask for an update. `planned_updates` shows that two updates are one.
 #![tactic(auto)]
 
 mod planned;
+mod planned_jobs;
+mod planned_updates;
 mod rows;
 
 pub use planned::planned_runs_are_one;
+pub use planned_jobs::jobs_are_planned;
+pub use planned_updates::{planned_runs_keep_files, planned_updates_are_one};
 pub use rows::{
     answer_rows, change_rows, check_rows, colour_rows, compare_rows, device_rows, error_rows,
     explain_rows, form_rows, key_rows, likely_rows, near_rows, over_text_rows, place_rows,

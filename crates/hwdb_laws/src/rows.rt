@@ -308,6 +308,8 @@ pub fn plan_rows()
     ensures fresh { PlanRows.FreshRows }
     ensures keys { PlanRows.KeysRows }
     ensures none { PlanRows.NoneRows }
+    ensures update { PlanRows.UpdateRows }
+    ensures no_update { PlanRows.NoUpdateRows }
     ensures status { PlanRows.StatusRows }
     ensures input { PlanRows.InputRows }
     ensures sysfs { PlanRows.SysfsRows }

@@ -91,7 +91,7 @@ same_default : (o : Option (List ℕ)) → option_map_or (λ (x : List ℕ). x) 
 same_default None = refl
 same_default (Some x) = refl
 
-root_is : (top : List Row) (word : Text) (rows : List Row) (job : Job) → IsJob top word rows job → root_of job ≡ root_given top rows
+pub root_is : (top : List Row) (word : Text) (rows : List Row) (job : Job) → IsJob top word rows job → root_of job ≡ root_given top rows
 root_is top word rows job is = one_root job ∙ same_default (option_map string_bytes job.root) ∙ ap (λ (o : Option (List ℕ)). unwrap_or o []) is.root
 
 pub has_both : (b c : Bool) → (b && c) ≡ true → b ≡ true

@@ -11,3 +11,4 @@ pub mod Failures
 pub mod OneOutcome
 pub mod OneRefusal
 pub mod AsBefore
+pub mod Updating

@@ -1,4 +1,4 @@
-use Rattle.hwdb_laws.proofs.ComputedPlanRows.{check_rows, device_rows, diff_rows, fresh_rows, input_rows, keys_rows, list_rows, named_rows, near_rows, none_rows, query_rows, status_rows, sysfs_rows}
+use Rattle.hwdb_laws.proofs.ComputedPlanRows.{check_rows, device_rows, diff_rows, fresh_rows, input_rows, keys_rows, list_rows, named_rows, near_rows, no_update_rows, none_rows, query_rows, status_rows, sysfs_rows, update_rows}
 use Rattle.hwdb_laws.proofs.rows.plan_rows.Goals as goal
 
 pub returns : goal.returns
@@ -13,6 +13,8 @@ returns c = record {
   fresh = fresh_rows;
   keys = keys_rows;
   none = none_rows;
+  update = update_rows;
+  no_update = no_update_rows;
   status = status_rows;
   input = input_rows;
   sysfs = sysfs_rows;
