@@ -35,10 +35,6 @@ of_task job Is root verbose skip at is holds v s also =
     let two : skip ≡ s = cc in
     subst (λ (b : Bool). Is (root_of job) b s) one (subst (λ (b : Bool). Is (root_of job) verbose b) two (subst (λ (r : List ℕ). Is r verbose skip) at holds))
 
--- or none
-pub of_none : {X : Type 0} (task : Task) → (IsUpdate task → ⊥) → (v s : Bool) → task ≡ Update v s → X
-of_none task none v s is = absurd (none (v, s, is))
-
 -- what is left of one
 pub task_updates : (w : Reads) (before now : Files) (err_before err_now : Told) (result : Result ℕ Refusal) (job : Job) (root : List ℕ) (verbose skip : Bool) → root ≡ root_of job → job.task ≡ Update verbose skip
     → UpdatesTelling w root job.usr job.strict verbose skip before now err_before err_now result → UpdatesAsAsked job w before now err_before err_now result

@@ -8,7 +8,6 @@ use Rattle.hwdb_tool.proofs.MomentLemmas.{leaves_old}
 use Rattle.hwdb_tool.proofs.OverTextLemmas.{no_update}
 use Rattle.hwdb_plan.specs.Ended.{outs}
 use Rattle.hwdb_tool.proofs.ProgramPlanLemmas.{has_both, plainly_planned, text_unplanned}
-use Rattle.hwdb_tool.proofs.UpdatingLemmas.{of_none}
 use Rattle.hwdb_tool.proofs.dispatch.run_job.Goals as goal
 
 pub returns-then-asks_text-clause-any_moment : goal.returns-then-asks_text-clause-any_moment
@@ -87,7 +86,7 @@ returns-clause-follows g c = λ tells words asked.
     plainly_planned (g.D.System.reads c.args.system.now) (sight_by g.D.DeviceFiles.answers c.args.system.now) (I c.args.input.now) (I c.run.new.input) before now c.run.result words (c.run.ensures.follows tells words asked)
 
 pub returns-then-asks_text-clause-updates : goal.returns-then-asks_text-clause-updates
-returns-then-asks_text-clause-updates g c = λ tells. of_none c.args.job.now.task (no_update c.args.job.now.text c.args.job.now.task (sym c.asks_text.ensures ∙ c.if-asks_text.true))
+returns-then-asks_text-clause-updates g c = λ tells v s is. absurd (no_update c.args.job.now.text c.args.job.now.task (sym c.asks_text.ensures ∙ c.if-asks_text.true) (v, s, is))
 
 pub returns-then-asks_text-clause-any_crash : goal.returns-then-asks_text-clause-any_crash
-returns-then-asks_text-clause-any_crash g c = λ tells. of_none c.args.job.now.task (no_update c.args.job.now.text c.args.job.now.task (sym c.asks_text.ensures ∙ c.if-asks_text.true))
+returns-then-asks_text-clause-any_crash g c = λ tells v s is. absurd (no_update c.args.job.now.text c.args.job.now.task (sym c.asks_text.ensures ∙ c.if-asks_text.true) (v, s, is))
