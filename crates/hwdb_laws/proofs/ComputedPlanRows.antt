@@ -5,7 +5,7 @@ use Rattle.hex.specs.Hex.{encode_with}
 use Rattle.hwdb_spec.specs.Lines.{pieces}
 use Rattle.hwdb_spec.specs.Visible.{visible_after}
 use Rattle.hwdb_spec_commands.specs.DeviceTree.{last_after}
-use Rattle.hwdb_laws.specs.PlanRows.{AfterRows, BesidesRows, CheckRows, DeviceRows, DiffRows, FreshRows, InputRows, KeysRows, ListRows, MisuseRows, NamedRows, NearRows, NoneRows, QueryRows, StatusRows, SysfsRows, TextRows}
+use Rattle.hwdb_laws.specs.PlanRows.{AfterRows, BesidesRows, CheckRows, DeviceRows, DiffRows, FreshRows, InputRows, KeysRows, ListRows, MisuseRows, NamedRows, NearRows, NoneRows, QueryRows, StatusRows, SysfsRows, TextRows, NoUpdateRows, UpdateRows}
 use Rattle.hwdb_plan.specs.OverText.{said_after}
 use Rattle.std.specs.Char.{encode_utf8}
 use Rattle.std.specs.Fmt.{digits}
@@ -67,6 +67,14 @@ besides_rows = λ a. refl
 pub after_rows : AfterRows
 unfolding pieces visible_after is_utf8 chars encode_utf8 said_after
 after_rows = refl
+
+pub update_rows : UpdateRows
+unfolding pieces visible_after is_utf8 chars encode_utf8 encode_with digits bundle_met walked flags_fault walk_fault defaults_fault last_after
+update_rows = refl
+
+pub no_update_rows : NoUpdateRows
+unfolding pieces visible_after is_utf8 chars encode_utf8 encode_with digits bundle_met walked flags_fault walk_fault defaults_fault last_after
+no_update_rows = refl
 
 pub status_rows : StatusRows
 unfolding pieces visible_after is_utf8 chars encode_utf8 encode_with digits bundle_met walked flags_fault walk_fault defaults_fault last_after

@@ -21,3 +21,5 @@ pub mod ComputedKeyRows
 pub mod PlannedLemmas
 pub mod PlannedErrorLemmas
 pub mod ProgramRunLemmas
+pub mod PlannedJobLemmas
+pub mod PlannedUpdateLemmas

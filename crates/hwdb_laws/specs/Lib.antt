@@ -20,3 +20,5 @@ pub mod KeyRows
 pub mod PlannedRuns
 pub mod PlannedErrors
 pub mod ProgramRuns
+pub mod PlannedJobs
+pub mod PlannedUpdates

@@ -1,6 +1,6 @@
--- Worked rows of plans: which plan words ask for, as SYNOPSIS of hwdb(8) has the words; the status of an error, by EXIT STATUS; and what `device`
--- ends in without sysfs, by DIAGNOSTICS.
-use Rattle.std.specs.Prelude.{◌∷◌, ◌≡◌, Err, List, None, Option, Some, [], codes, false, if◌then◌else◌, true, ℕ}
+-- Worked rows of plans: which plan or update words ask for, as SYNOPSIS of hwdb(8) has the words; the status of an error, by EXIT STATUS;
+-- and what `device` ends in without sysfs, by DIAGNOSTICS.
+use Rattle.std.specs.Prelude.{◌∷◌, ◌≡◌, Bool, Err, List, None, Option, Some, [], codes, false, if◌then◌else◌, true, ℕ}
 use Rattle.std.specs.Str.{bytes_eq}
 use Rattle.clap.specs.Simple.{subcommand_of}
 use Rattle.clap.specs.Walk.{Text}
@@ -14,7 +14,7 @@ use Rattle.hwdb_spec_commands.specs.declared.devices.DeviceForm.TheVariants.{Jso
 use Rattle.hwdb_spec_commands.specs.declared.unread.Unread.TheVariants as unread
 use Rattle.hwdb_spec_program.specs.DeviceErrors.{asked_names}
 use Rattle.hwdb_spec_program.specs.GivenDatabases.{twice_text}
-use Rattle.hwdb_spec_program.specs.ProgramPlan.{Around, error_status, program_plan}
+use Rattle.hwdb_spec_program.specs.ProgramPlan.{Around, AskedUpdate, error_status, program_plan, update_of}
 use Rattle.hwdb_plan.specs.Answers.{explain_plan, query_plan}
 use Rattle.hwdb_plan.specs.Ask.{ask_plan}
 use Rattle.hwdb_plan.specs.Check.{check_plan, said_of}
@@ -158,6 +158,30 @@ abbrev pub AfterRows : Type 0
 AfterRows =
     said_after (codes "b") (Done (Answers 1 (codes "e") (codes "a"))) ∷ said_after (codes "b") (Done (Stops NoDatabase)) ∷ said_after (codes "b") (Database (codes "d") (λ found. Done (Answers 0 [] []))) ∷ []
     ≡ Done (Answers 1 (codes "e") (codes "ab")) ∷ Done (Stops NoDatabase) ∷ Database (codes "d") (λ found. Done (Answers 0 [] (codes "b"))) ∷ []
+
+-- the update that these words ask for, after the program's name
+abbrev pub asks : (words : List Text) → Option AskedUpdate
+asks words = update_of (codes "hwdb" ∷ words)
+
+-- one of these
+abbrev pub an_update : (root : List ℕ) (usr strict verbose skip : Bool) → Option AskedUpdate
+an_update root usr strict verbose skip = Some (record { root = root; usr = usr; strict = strict; verbose = verbose; skip = skip })
+
+-- What an update is asked for. The root, `--usr` and `--strict` are given after its word, before it, or not. The root after it counts if
+-- there are two.
+abbrev pub UpdateRows : Type 0
+UpdateRows =
+    asks (codes "update" ∷ []) ∷ asks (codes "update" ∷ codes "--usr" ∷ []) ∷ asks (codes "--usr" ∷ codes "update" ∷ []) ∷ asks (codes "update" ∷ codes "--strict" ∷ []) ∷ asks (codes "--strict" ∷ codes "update" ∷ [])
+    ∷ asks (codes "update" ∷ codes "--root" ∷ codes "/r" ∷ codes "--skip-unreadable" ∷ []) ∷ asks (codes "-r/r" ∷ codes "update" ∷ codes "--verbose" ∷ [])
+    ∷ asks (codes "--root=/r" ∷ codes "--usr" ∷ codes "update" ∷ codes "--strict" ∷ codes "--root=/s" ∷ codes "--verbose" ∷ []) ∷ []
+    ≡ an_update [] false false false false ∷ an_update [] true false false false ∷ an_update [] true false false false ∷ an_update [] false true false false ∷ an_update [] false true false false
+    ∷ an_update (codes "/r") false false false true ∷ an_update (codes "/r") false false true false ∷ an_update (codes "/s") true true true false ∷ []
+
+-- Words that ask for none: with `--check`, of another command, of which it is the argument, or of no command.
+abbrev pub NoUpdateRows : Type 0
+NoUpdateRows =
+    asks (codes "update" ∷ codes "--check" ∷ []) ∷ asks (codes "-r/r" ∷ codes "update" ∷ codes "--check" ∷ []) ∷ asks (codes "status" ∷ []) ∷ asks (codes "query" ∷ codes "update" ∷ [])
+    ∷ asks (codes "keys" ∷ codes "update" ∷ []) ∷ asks [] ∷ [] ≡ None ∷ None ∷ None ∷ None ∷ None ∷ None ∷ []
 
 -- ---- statuses
 -- The status of an error, as EXIT STATUS of hwdb(8) has it: 2 of `diff`, whose 1 says that something changed.

@@ -26,14 +26,19 @@
 //! | `KeyRows` | keys with their codes, and which of them words ask for |
 //!
 //! `rows` shows them. `planned` shows `PlannedRuns` and `PlannedErrors`: two runs with the same words are one, if the words have a plan.
-//! `program_runs` shows the same of runs of the program.
+//! `planned_jobs` shows that all words that ask for a job have one, or ask for an update, and `planned_updates` that two updates are one.
+//! `program_runs` shows of runs of the program that they are one.
 #![tactic(auto)]
 
 mod planned;
+mod planned_jobs;
+mod planned_updates;
 mod program_runs;
 mod rows;
 
 pub use planned::{planned_errors_are_one, planned_runs_are_one};
+pub use planned_jobs::jobs_are_planned;
+pub use planned_updates::{planned_runs_keep_files, planned_updates_are_one};
 pub use program_runs::{program_errors_are_one, program_input_is_told, program_runs_are_one};
 pub use rows::{
     answer_rows, change_rows, check_rows, colour_rows, compare_rows, device_rows, error_rows,

@@ -320,6 +320,8 @@ pub fn plan_rows()
     ensures misuse { PlanRows.MisuseRows }
     ensures besides { PlanRows.BesidesRows }
     ensures after { PlanRows.AfterRows }
+    ensures update { PlanRows.UpdateRows }
+    ensures no_update { PlanRows.NoUpdateRows }
     ensures status { PlanRows.StatusRows }
     ensures input { PlanRows.InputRows }
     ensures sysfs { PlanRows.SysfsRows }

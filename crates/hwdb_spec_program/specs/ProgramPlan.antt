@@ -1,10 +1,10 @@
--- The plan of a run, as its words compute it. Which words each command has is in `Jobs`. `update` has a plan here with `--check` alone.
--- `query` is systemd-hwdb(8)'s; the rest is our choice.
+-- The plan of a run, as its words compute it. Which words each command has is in `Jobs`. `update` has a plan here with `--check` alone:
+-- else it changes files, and what it is asked for is computed. `query` and `update` are systemd-hwdb(8)'s; the rest is our choice.
 use Rattle.clap.specs.Faults.{fault_of}
 use Rattle.clap.specs.Simple.{matches_of, subcommand_of}
 use Rattle.clap.specs.Walk.{Row, Text, all_of, first_of, one_of}
 use Rattle.std.specs.Option.{option_or, unwrap_or}
-use Rattle.std.specs.Prelude.{◌-◌, ◌==◌, ◌≡◌, ◌⊎◌, ◌||◌, ◌∷◌, ℕ, Bool, false, List, [], None, Option, Some, Result, Ok, Err, IfSome, codes, find, if◌then◌else◌, is_some, length, not, option_map, take, true}
+use Rattle.std.specs.Prelude.{◌-◌, ◌==◌, ◌≡◌, ◌⊎◌, ◌||◌, ◌∷◌, ℕ, Bool, false, List, [], None, Option, Some, Result, Ok, Err, IfSome, codes, find, if◌then◌else◌, is_some, length, not, option_map, take, true, ◌&&◌}
 use Rattle.std.specs.Str.{bytes_eq}
 use Rattle.std.specs.Str.Parse.{digits_value, without_leading_plus}
 use Rattle.hwdb_spec_commands.specs.Checks.{format_of}
@@ -15,14 +15,16 @@ use Rattle.hwdb_spec_commands.specs.Given.{is_dash}
 use Rattle.hwdb_spec_commands.specs.Jobs.{has_flag}
 use Rattle.hwdb_spec_commands.specs.NearAsked.{near_form, near_limit}
 use Rattle.hwdb_spec_commands.specs.OverText.{said_besides, text_if}
+use Rattle.hwdb_spec.specs.Store.{Contents, Outcomes}
 use Rattle.hwdb_spec.specs.declared.errors.ToolError.TheVariants.{Memory, Write}
-use Rattle.hwdb_spec_commands.specs.Runs.{Told, World}
+use Rattle.hwdb_spec_commands.specs.Runs.{AreKept, Files, Told, World}
 use Rattle.hwdb_spec_commands.specs.Told.{Reads}
 use Rattle.hwdb_spec_commands.specs.declared.refusals.Refusal.{Refusal}
 use Rattle.hwdb_spec_commands.specs.declared.refusals.Refusal.TheVariants.{Plain}
 use Rattle.hwdb_spec_commands.specs.declared.unread.Unread.{Unread}
 use Rattle.hwdb_spec_program.specs.DeviceErrors.{asked_names}
 use Rattle.hwdb_spec_program.specs.GivenDatabases.{names_twice, twice_text}
+use Rattle.hwdb_spec_program.specs.HidingPlan.{UpdatesTelling}
 use Rattle.hwdb_spec_program.specs.TaskRefusals.{IsRootRefused, IsSaid}
 use Rattle.hwdb_plan.specs.Answers.{explain_plan, query_plan}
 use Rattle.hwdb_plan.specs.Ask.{lone_answer}
@@ -39,8 +41,10 @@ use Rattle.hwdb_plan.specs.List.{list_plan}
 use Rattle.hwdb_plan.specs.Near.{near_plan}
 use Rattle.hwdb_plan.specs.OverText.{if_fit, replaced_of, text_plan}
 use Rattle.hwdb_plan.specs.Plans.{Plan}
+use Rattle.hwdb_plan.specs.Putting.{OldOrPut}
 use Rattle.hwdb_plan.specs.Status.{status_plan}
 use Rattle.hwdb_plan.specs.Test.{test_plan}
+use Rattle.hwdb_plan.specs.Update.{update_plan}
 use Rattle.hwdb_plan.specs.Verify.{summary}
 
 -- What a run is told beside its files: of standard input, if a command reads that as a file; what sysfs shows; and the words of the cause
@@ -188,6 +192,35 @@ as_given top (Some found) p =
 abbrev pub program_plan : Around → (words : List Text) → Option Plan
 program_plan a words = option_map (as_given (matches_of hwdb_app words) (subcommand_of hwdb_app words)) (files_plan a words)
 
+-- ---- updates
+-- what an update is asked for: the root, `--usr`, `--strict`, `--verbose`, and `--skip-unreadable`
+pub record AskedUpdate : Type 0 where
+  pub root : List ℕ
+  pub usr : Bool
+  pub strict : Bool
+  pub verbose : Bool
+  pub skip : Bool
+
+-- by what is matched before its word, and after it
+abbrev pub asked_update : (top rows : List Row) → AskedUpdate
+asked_update top rows = record {
+  root = root_given top rows;
+  usr = has_flag (codes "usr") rows || has_flag (codes "usr") top;
+  strict = strict_given top rows;
+  verbose = has_flag (codes "verbose") rows;
+  skip = has_flag (codes "skip-unreadable") rows;
+}
+
+-- a command is an update by its word, if it hasn't `--check`
+abbrev pub found_update : (top : List Row) → Option (Text × List Row) → Option AskedUpdate
+found_update top None = None
+found_update top (Some found) =
+    if bytes_eq found.0 (codes "update") && not (has_flag (codes "check") found.1) then Some (asked_update top found.1) else None
+
+-- the update that words ask for, if they ask for one
+abbrev pub update_of : (words : List Text) → Option AskedUpdate
+update_of words = found_update (matches_of hwdb_app words) (subcommand_of hwdb_app words)
+
 -- ---- runs
 -- so of what a run is told beside its files
 abbrev pub OfAround : Sight → (input : Option (List ℕ)) (failures_before failures_now : ℕ) → (Is : Around → Type 0) → Type 0
@@ -197,6 +230,21 @@ OfAround sight input before now Is = OfInput input before now (λ told. OfCause 
 abbrev pub ShowsPlan : (plan : Around → Option Plan) → Reads → Sight → (input_before input_now : Told) (before now : Outs) → Result ℕ Refusal → Type 0
 ShowsPlan plan w sight input_before input_now before now result =
     OfAround sight input_before.bytes input_before.failures input_now.failures (λ a. IfSome (plan a) (λ p. ShowsEnd w p input_before input_now before now result))
+
+-- a run does what the plans of this update end in, and standard output isn't used
+abbrev pub DoesUpdate : AskedUpdate → Reads → (before now : Files) (outs_before outs_now : Outs) → Result ℕ Refusal → Type 0
+DoesUpdate u w before now outs_before outs_now result =
+    UpdatesTelling w u.root u.usr u.strict u.verbose u.skip before now outs_before.err outs_now.err result × (outs_now.out ≡ outs_before.out)
+
+-- a run that is asked for an update does that, and any other run keeps all files
+abbrev pub UpdatesIfAsked : Option AskedUpdate → Reads → (before now : Files) (outs_before outs_now : Outs) → Result ℕ Refusal → Type 0
+UpdatesIfAsked None w before now outs_before outs_now result = AreKept before now
+UpdatesIfAsked (Some u) w before now outs_before outs_now result = DoesUpdate u w before now outs_before outs_now result
+
+-- A crash leaves what there was, or what the update that is asked for puts in place. The causes of files that it leaves out have these words.
+abbrev pub OldOrAsked : Option AskedUpdate → Reads → (causes : List (List ℕ)) (old : Contents) (outcomes : Outcomes) → Outcomes
+OldOrAsked None w causes old outcomes = outcomes
+OldOrAsked (Some u) w causes old outcomes = OldOrPut w (update_plan u.root u.usr u.strict u.verbose u.skip causes) old outcomes
 
 -- ---- the program
 -- the status of an error, by the word of its command: 2 of `diff`, whose 1 says that something changed, else 1
@@ -211,17 +259,19 @@ IsReported gone failed (Ok n) status err_then err_now = (status ≡ n) × (err_n
 IsReported gone failed (Err r) status err_then err_now =
     ((status ≡ failed) × IsSaid r err_then err_now) ⊎ ((status ≡ 0) × (r ≡ Plain Write) × gone × (err_now ≡ err_then))
 
--- a run shows what the plan of its words ends in, if they have one, and reports it
+-- a run shows what the plan of its words ends in, if they have one, or does the update that they ask for; and reports it
 pub record ReportsPlan (gone : Type 0) (words : List Text) (w : Reads) (before now : World) (status : ℕ) : Type 0 where
   pub result : Result ℕ Refusal
   pub err_then : Told
   pub shows : ShowsPlan (λ a. program_plan a words) w before.devices before.input now.input (outs_of before) (outs err_then now.out) result
+  pub updates : UpdatesIfAsked (update_of words) w before.files now.files (outs_of before) (outs err_then now.out) result
   pub reported : IsReported gone (error_status (subcommand_of hwdb_app words)) result status err_then now.err
 
--- there was no memory to read the words: the status is 1, and standard error took that line
+-- there was no memory to read the words: the status is 1, standard error took that line, and nothing else changed
 pub record AreWordsUnread (before now : World) (status : ℕ) : Type 0 where
   pub said : IsSaid (Plain Memory) before.err now.err
   pub out : now.out ≡ before.out
+  pub kept : AreKept before.files now.files
   pub says : status ≡ 1
 
 -- If the words have no fault, the program follows their plan. Before that there may be no memory to read them, or their root can't be read.

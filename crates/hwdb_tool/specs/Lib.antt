@@ -12,3 +12,4 @@ pub mod Failures
 pub mod OneOutcome
 pub mod OneRefusal
 pub mod AsBefore
+pub mod Updating

@@ -1,6 +1,8 @@
 //! The program: its words, its files, its status and its error lines.
-ghost use Rattle.std.specs.Prelude.{◌≡◌, ◌<◌, ◌≤◌, ◌⊎◌, false, map, option_map, string_bytes, IfOk, IfErr, List, OnOk, ℕ};
+ghost use Rattle.std.specs.Prelude.{◌≡◌, ◌<◌, ◌≤◌, ◌⊎◌, Bool, false, map, option_map, string_bytes, IfOk, IfErr, List, OnOk, ℕ};
 ghost use Rattle.hwdb_plan.specs.Ended.{outs};
+ghost use Rattle.hwdb_plan.specs.Putting.{OldOrPut};
+ghost use Rattle.hwdb_plan.specs.Update.{update_plan};
 ghost use Rattle.hwdb_spec.specs.Flushing.{HandsOn, HasHandedOn};
 ghost use Rattle.hwdb_spec.specs.Store as spec;
 ghost use Rattle.hwdb_spec_commands.specs.SysfsAnswers.{sight_by};
@@ -8,11 +10,13 @@ ghost use Rattle.hwdb_spec_commands.specs.Runs.{files_by, told_by, world_by};
 ghost use Rattle.hwdb_spec_commands.specs.WordFaults.{AreWrong};
 ghost use Rattle.hwdb_spec_program.specs.Words.{AskFor};
 ghost use Rattle.hwdb_spec_commands.specs.declared.job.Job.{Job};
+ghost use Rattle.hwdb_spec_commands.specs.declared.job.Task.TheVariants.{Update};
 ghost use Rattle.hwdb_spec_program.specs.Program.{IsDone, IsTaskDone, IsUpdate, OldOrAskedFor, OldOrDone, looks_below_root, reads_input, root_of};
-ghost use Rattle.hwdb_spec_program.specs.ProgramPlan.{RunsPlan, ShowsPlan, files_plan, program_plan};
+ghost use Rattle.hwdb_spec_program.specs.ProgramPlan.{OldOrAsked, RunsPlan, ShowsPlan, files_plan, program_plan, update_of};
 ghost use Rattle.hwdb_spec_program.specs.TaskRefusals.{HasFailedWith, HasSucceeded, IsJobNotDone, IsNotDone, IsRootUnread, IsSaid, refused_status};
 ghost use Rattle.hwdb_spec_commands.specs.Refusals.{HasReason};
 ghost use Rattle.hwdb_spec_commands.specs.declared.refusals.Refusal.TheVariants.{Plain};
+ghost use Rattle.hwdb_tool.specs.Updating.{UpdatesAsAsked};
 
 use crate::answers::{ask_file, explain, list};
 use crate::check_command::check;
@@ -59,6 +63,10 @@ pub fn program<D: Machine, I: Source, O: Outlet, E: Sink>(
         E.failures) in RunsPlan (O.reader_gone out.new) (map string_bytes words.now)
         (D.System.reads system.old) (world system.old input.old out.old err.old)
         (world system.new input.new out.new err.new) result }
+    ensures any_crash { D.Store.tells → (causes : List (List ℕ))
+        × spec.LeavesOnly D.Store.moment D.Store.left_since system.old system.new
+        (OldOrAsked (update_of (map string_bytes words.now)) (D.System.reads system.old) causes
+        (D.Store.seen system.old) (D.Store.may_leave system.old)) }
     ensures any_moment { D.Store.tells
         → spec.LeavesOnly D.Store.moment D.Store.left_since system.old system.new
         (OldOrAskedFor (D.System.may_fail system.old) (map string_bytes words.now)
@@ -195,11 +203,22 @@ fn run_job<D: Machine, I: Source, O: Sink, E: Sink>(
         (told_by I.left I.failures input.old) (told_by I.left I.failures input.new)
         (outs (told_by E.taken E.failures err.old) (told_by O.taken O.failures out.old))
         (outs (told_by E.taken E.failures err.new) (told_by O.taken O.failures out.new)) result }
+    ensures updates { let files = files_by D.Store.seen D.System.may_fail D.Store.may_leave
+        D.Store.failures in D.Store.tells → UpdatesAsAsked job.now (D.System.reads system.old)
+        (files system.old) (files system.new) (told_by E.taken E.failures err.old)
+        (told_by E.taken E.failures err.new) result }
+    ensures any_crash { D.Store.tells → (verbose skip : Bool)
+        → job.now.task ≡ Update verbose skip → (causes : List (List ℕ))
+        × spec.LeavesOnly D.Store.moment D.Store.left_since system.old system.new
+        (OldOrPut (D.System.reads system.old)
+        (update_plan (root_of job.now) job.now.usr job.now.strict verbose skip causes)
+        (D.Store.seen system.old) (D.Store.may_leave system.old)) }
     ensures any_moment { D.Store.tells
         → spec.LeavesOnly D.Store.moment D.Store.left_since system.old system.new
         (OldOrDone (D.System.may_fail system.old) job.now
         (D.Store.seen system.old) (D.Store.may_leave system.old)) }
     ensures unread { reads_input job.now.task ≡ false → input.new ≡ input.old }
+    ensures kept { (IsUpdate job.now.task → ⊥) → system.new ≡ system.old }
     ensures update { IsUpdate job.now.task → out.new ≡ out.old }
     ensures done { D.Store.tells → let world = world_by (sight_by D.answers)
         (files_by D.Store.seen D.System.may_fail D.Store.may_leave D.Store.failures)
@@ -241,6 +260,16 @@ pub fn run<D: Machine, I: Source, O: Sink, E: Sink>(
         (told_by I.left I.failures input.old) (told_by I.left I.failures input.new)
         (outs (told_by E.taken E.failures err.old) (told_by O.taken O.failures out.old))
         (outs (told_by E.taken E.failures err.new) (told_by O.taken O.failures out.new)) result }
+    ensures updates { let files = files_by D.Store.seen D.System.may_fail D.Store.may_leave
+        D.Store.failures in D.Store.tells → UpdatesAsAsked job.now (D.System.reads system.old)
+        (files system.old) (files system.new) (told_by E.taken E.failures err.old)
+        (told_by E.taken E.failures err.new) result }
+    ensures any_crash { D.Store.tells → (verbose skip : Bool)
+        → job.now.task ≡ Update verbose skip → (causes : List (List ℕ))
+        × spec.LeavesOnly D.Store.moment D.Store.left_since system.old system.new
+        (OldOrPut (D.System.reads system.old)
+        (update_plan (root_of job.now) job.now.usr job.now.strict verbose skip causes)
+        (D.Store.seen system.old) (D.Store.may_leave system.old)) }
     ensures any_moment { D.Store.tells
         → spec.LeavesOnly D.Store.moment D.Store.left_since system.old system.new
         (OldOrDone (D.System.may_fail system.old) job.now

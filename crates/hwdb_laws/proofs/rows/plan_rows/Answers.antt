@@ -1,4 +1,4 @@
-use Rattle.hwdb_laws.proofs.ComputedPlanRows.{after_rows, besides_rows, check_rows, device_rows, diff_rows, fresh_rows, input_rows, keys_rows, list_rows, misuse_rows, named_rows, near_rows, none_rows, query_rows, status_rows, sysfs_rows, text_rows}
+use Rattle.hwdb_laws.proofs.ComputedPlanRows.{after_rows, besides_rows, check_rows, device_rows, diff_rows, fresh_rows, input_rows, keys_rows, list_rows, misuse_rows, named_rows, near_rows, none_rows, query_rows, status_rows, sysfs_rows, text_rows, no_update_rows, update_rows}
 use Rattle.hwdb_laws.proofs.rows.plan_rows.Goals as goal
 
 pub returns : goal.returns
@@ -17,6 +17,8 @@ returns c = record {
   misuse = misuse_rows;
   besides = besides_rows;
   after = after_rows;
+  update = update_rows;
+  no_update = no_update_rows;
   status = status_rows;
   input = input_rows;
   sysfs = sysfs_rows;

@@ -1,4 +1,4 @@
-use Rattle.std.proofs.Common.{inl, inr, ⊎_elim, ◌∙◌, ap, arith, refl, Err, Ok, [], subst, sym, map, string_bytes}
+use Rattle.std.proofs.Common.{List, ℕ, inl, inr, ⊎_elim, ◌∙◌, ap, arith, refl, Err, Ok, [], subst, sym, map, string_bytes}
 use Rattle.hwdb_spec_commands.specs.declared.job.WordsFault.TheVariants as words_fault
 use Rattle.hwdb_spec_commands.specs.Runs.{AreKept, World, files_by, told_by}
 use Rattle.hwdb_spec.specs.Store.{LeavesOnly}
@@ -7,7 +7,7 @@ use Rattle.hwdb_spec.specs.declared.errors.ToolError.TheVariants.{Memory, Write}
 use Rattle.hwdb_spec_commands.specs.Refusals.{Refused}
 use Rattle.hwdb_spec_commands.specs.declared.refusals.Refusal.TheVariants.{Plain}
 use Rattle.hwdb_spec_commands.specs.declared.refusals.Refusal.{Refusal}
-use Rattle.hwdb_spec_program.specs.Program.{OldOrAskedFor, OldOrDone, asks_text, root_of}
+use Rattle.hwdb_spec_program.specs.Program.{IsDone, OldOrAskedFor, OldOrDone, asks_text, root_of}
 use Rattle.hwdb_spec_program.specs.TaskRefusals.{IsJobNotDone}
 use Rattle.hwdb_tool.proofs.MomentLemmas.{leaves_more, leaves_old}
 use Rattle.hwdb_tool.proofs.CutLemmas.{cut_keeps_from}
@@ -15,9 +15,10 @@ use Rattle.hwdb_tool.proofs.FlushLemmas.{handed_on, handed_on_twice}
 use Rattle.hwdb_tool.proofs.UsageLemmas.{usage_line}
 use Rattle.hwdb_tool.proofs.ReportLemmas.{help_is_told, refused_reported, status_is, usage_is_told}
 use Rattle.hwdb_plan.specs.Ended.{outs}
-use Rattle.hwdb_spec_program.specs.ProgramPlan.{ShowsPlan, error_status, program_plan}
+use Rattle.hwdb_spec_program.specs.ProgramPlan.{OldOrAsked, ShowsPlan, UpdatesIfAsked, error_status, program_plan, update_of}
 use Rattle.clap.specs.Simple.{subcommand_of}
 use Rattle.hwdb_spec_commands.specs.CommandLine.{hwdb_app}
+use Rattle.hwdb_tool.proofs.UpdatingLemmas.{crash_asked, crash_before, kept_so, leaves_kept, updates_asked}
 use Rattle.hwdb_tool.proofs.dispatch.program.Goals as goal
 
 pub returns-in-Ok-enter_root-clause-refused : goal.returns-in-Ok-enter_root-clause-refused
@@ -151,6 +152,7 @@ returns-clause-err_handed_on g c = handed_on _ _ _ _ c.refuse_memory.ensures.han
 pub returns-in-Ok-run_job-clause-follows : goal.returns-in-Ok-run_job-clause-follows
 returns-in-Ok-run_job-clause-follows g c = λ tells faultless.
     let words = map string_bytes c.args.words.now in
+    let F = files_by g.D.Store.seen g.D.System.may_fail g.D.Store.may_leave g.D.Store.failures in
     let I = told_by g.I.Source.left g.I.Source.failures in
     let O = told_by g.O.Sink.taken g.O.Sink.failures in
     let E = told_by g.E.Sink.taken g.E.Sink.failures in
@@ -161,12 +163,16 @@ returns-in-Ok-run_job-clause-follows g c = λ tells faultless.
       err_then = E c.run_job.new.err;
       shows = subst (λ (s : g.row.D.Denot). ShowsPlan (λ a. program_plan a words) (g.D.System.reads s) (sight_by g.D.DeviceFiles.answers s) (I c.args.input.now) (I c.run_job.new.input) before now (Ok c.in-Ok-run_job.status))
           (c.enter_root.ensures.same tells) (c.in-Ok-run_job.ensures.follows tells words c.in-Ok.ensures.job);
+      updates = subst (λ (s : g.row.D.Denot). UpdatesIfAsked (update_of words) (g.D.System.reads s) (F s) (F c.run_job.new.system) before now (Ok c.in-Ok-run_job.status)) (c.enter_root.ensures.same tells)
+          (updates_asked words c.in-Ok.job c.in-Ok.ensures.job (g.D.System.reads c.enter_root.new.system) (F c.enter_root.new.system) (F c.run_job.new.system) before now (Ok c.in-Ok-run_job.status) (c.in-Ok-run_job.ensures.updates tells)
+          (λ update. ap O (c.run_job.ensures.update update)) (λ none. kept_so F c.enter_root.new.system c.run_job.new.system (c.run_job.ensures.kept none)));
       reported = (refl, refl);
     }
 
 pub returns-in-Ok-enter_root-clause-follows : goal.returns-in-Ok-enter_root-clause-follows
 returns-in-Ok-enter_root-clause-follows g c = λ tells faultless.
     let words = map string_bytes c.args.words.now in
+    let F = files_by g.D.Store.seen g.D.System.may_fail g.D.Store.may_leave g.D.Store.failures in
     let I = told_by g.I.Source.left g.I.Source.failures in
     let O = told_by g.O.Sink.taken g.O.Sink.failures in
     let E = told_by g.E.Sink.taken g.E.Sink.failures in
@@ -178,6 +184,9 @@ returns-in-Ok-enter_root-clause-follows g c = λ tells faultless.
       err_then = E c.run_job.new.err;
       shows = subst (λ (s : g.row.D.Denot). ShowsPlan (λ a. program_plan a words) (g.D.System.reads s) (sight_by g.D.DeviceFiles.answers s) (I c.args.input.now) (I c.run_job.new.input) before now (Err r))
           (c.enter_root.ensures.same tells) (c.in-Err-run_job.ensures.follows tells words c.in-Ok.ensures.job);
+      updates = subst (λ (s : g.row.D.Denot). UpdatesIfAsked (update_of words) (g.D.System.reads s) (F s) (F c.run_job.new.system) before now (Err r)) (c.enter_root.ensures.same tells)
+          (updates_asked words c.in-Ok.job c.in-Ok.ensures.job (g.D.System.reads c.enter_root.new.system) (F c.enter_root.new.system) (F c.run_job.new.system) before now (Err r) (c.in-Err-run_job.ensures.updates tells)
+          (λ update. ap O (c.run_job.ensures.update update)) (λ none. kept_so F c.enter_root.new.system c.run_job.new.system (c.run_job.ensures.kept none)));
       reported = refused_reported (g.O.Outlet.reader_gone c.run_job.new.out) (error_status (subcommand_of hwdb_app words)) c.refused_status.result r c.refuse_job.result (E c.run_job.new.err) (E c.refuse_job.new.err)
           (c.refused_status.ensures.is ∙ status_is words c.in-Ok.job c.in-Ok.ensures.job) c.refused_status.ensures.some c.refuse_job.ensures.status c.refuse_job.ensures.said c.refuse_job.ensures.gone
           (λ none. ap E (c.refuse_job.ensures.quiet none)) c.refuse_job.ensures.line;
@@ -203,6 +212,7 @@ pub returns-clause-follows : goal.returns-clause-follows
 returns-clause-follows g c = λ tells faultless. inr (inl record {
   said = record { said = Plain Memory; of = inl refl; words = []; one_line = refl; line = c.refuse_memory.ensures.line };
   out = refl;
+  kept = record { same = λ p. refl; no_more = λ p v l. l };
   says = refl;
 })
 
@@ -217,3 +227,80 @@ returns-in-Err-Help-clause-follows g c = λ tells faultless.
 pub returns-in-Ok-write_text-clause-follows : goal.returns-in-Ok-write_text-clause-follows
 returns-in-Ok-write_text-clause-follows g c = λ tells faultless.
     absurd (help_is_told (map string_bytes c.args.words.now) c.in-Err-Help.text faultless (rw c.in-Err-Help.field-0-is at c.in-Err-Help.ensures.told))
+
+pub returns-in-Ok-run_job-clause-any_crash : goal.returns-in-Ok-run_job-clause-any_crash
+returns-in-Ok-run_job-clause-any_crash g c = λ tells.
+    let words = map string_bytes c.args.words.now in
+    let old = c.enter_root.new.system in
+    let new = c.run_job.new.system in
+    subst (λ (s : g.row.D.Denot). (causes : List (List ℕ)) × LeavesOnly g.D.Store.moment g.D.Store.left_since s new (OldOrAsked (update_of words) (g.D.System.reads s) causes (g.D.Store.seen s) (g.D.Store.may_leave s)))
+    (c.enter_root.ensures.same tells)
+    (crash_asked words c.in-Ok.job c.in-Ok.ensures.job g.D.Store.moment g.D.Store.left_since old new (g.D.System.reads old) (g.D.Store.seen old) (g.D.Store.may_leave old) (c.run_job.ensures.any_crash tells)
+    (λ none. leaves_kept g.D.Store.moment g.D.Store.left_since old new (g.D.Store.may_leave old) (g.met.D.Store.only_now old) (c.run_job.ensures.kept none)))
+
+pub returns-in-Ok-enter_root-clause-any_crash : goal.returns-in-Ok-enter_root-clause-any_crash
+returns-in-Ok-enter_root-clause-any_crash g c = λ tells.
+    let words = map string_bytes c.args.words.now in
+    let old = c.enter_root.new.system in
+    let new = c.run_job.new.system in
+    subst (λ (s : g.row.D.Denot). (causes : List (List ℕ)) × LeavesOnly g.D.Store.moment g.D.Store.left_since s new (OldOrAsked (update_of words) (g.D.System.reads s) causes (g.D.Store.seen s) (g.D.Store.may_leave s)))
+    (c.enter_root.ensures.same tells)
+    (crash_asked words c.in-Ok.job c.in-Ok.ensures.job g.D.Store.moment g.D.Store.left_since old new (g.D.System.reads old) (g.D.Store.seen old) (g.D.Store.may_leave old) (c.run_job.ensures.any_crash tells)
+    (λ none. leaves_kept g.D.Store.moment g.D.Store.left_since old new (g.D.Store.may_leave old) (g.met.D.Store.only_now old) (c.run_job.ensures.kept none)))
+
+pub returns-in-Ok-clause-any_crash : goal.returns-in-Ok-clause-any_crash
+returns-in-Ok-clause-any_crash g c = λ tells.
+    let words = map string_bytes c.args.words.now in
+    let old = c.args.system.now in
+    subst (λ (s : g.row.D.Denot). (causes : List (List ℕ)) × LeavesOnly g.D.Store.moment g.D.Store.left_since old s (OldOrAsked (update_of words) (g.D.System.reads old) causes (g.D.Store.seen old) (g.D.Store.may_leave old)))
+    (sym (c.enter_root.ensures.same tells))
+    (crash_before (update_of words) g.D.Store.moment g.D.Store.left_since old (g.D.System.reads old) (g.D.Store.seen old) (g.D.Store.may_leave old) (g.met.D.Store.only_now old))
+
+pub returns-in-Err-Help-clause-any_crash : goal.returns-in-Err-Help-clause-any_crash
+returns-in-Err-Help-clause-any_crash g c = λ tells.
+    let old = c.args.system.now in
+    crash_before (update_of (map string_bytes c.args.words.now)) g.D.Store.moment g.D.Store.left_since old (g.D.System.reads old) (g.D.Store.seen old) (g.D.Store.may_leave old) (g.met.D.Store.only_now old)
+
+pub returns-in-Ok-write_text-clause-any_crash : goal.returns-in-Ok-write_text-clause-any_crash
+returns-in-Ok-write_text-clause-any_crash g c = λ tells.
+    let old = c.args.system.now in
+    crash_before (update_of (map string_bytes c.args.words.now)) g.D.Store.moment g.D.Store.left_since old (g.D.System.reads old) (g.D.Store.seen old) (g.D.Store.may_leave old) (g.met.D.Store.only_now old)
+
+pub returns-in-Err-Usage-clause-any_crash : goal.returns-in-Err-Usage-clause-any_crash
+returns-in-Err-Usage-clause-any_crash g c = λ tells.
+    let old = c.args.system.now in
+    crash_before (update_of (map string_bytes c.args.words.now)) g.D.Store.moment g.D.Store.left_since old (g.D.System.reads old) (g.D.Store.seen old) (g.D.Store.may_leave old) (g.met.D.Store.only_now old)
+
+pub returns-clause-any_crash : goal.returns-clause-any_crash
+returns-clause-any_crash g c = λ tells.
+    let old = c.args.system.now in
+    crash_before (update_of (map string_bytes c.args.words.now)) g.D.Store.moment g.D.Store.left_since old (g.D.System.reads old) (g.D.Store.seen old) (g.D.Store.may_leave old) (g.met.D.Store.only_now old)
+
+pub returns-in-Ok-run_job-clause-done : goal.returns-in-Ok-run_job-clause-done
+returns-in-Ok-run_job-clause-done g c = λ tells zero.
+    let F = files_by g.D.Store.seen g.D.System.may_fail g.D.Store.may_leave g.D.Store.failures in
+    let V = sight_by g.D.DeviceFiles.answers in
+    let I = told_by g.I.Source.left g.I.Source.failures in
+    let O = told_by g.O.Sink.taken g.O.Sink.failures in
+    let E = told_by g.E.Sink.taken g.E.Sink.failures in
+    let at : g.row.D.Denot → World = λ s. record { files = F s; input = I c.args.input.now; out = O c.args.out.now; err = E c.args.err.now; devices = V s } in
+    let left : World = record { files = F c.run_job.new.system; input = I c.run_job.new.input; out = O c.run_job.new.out; err = E c.run_job.new.err; devices = V c.run_job.new.system } in
+    let done = subst (λ (s : g.row.D.Denot). IsDone c.in-Ok.job c.in-Ok-run_job.status (at s) left) (c.enter_root.ensures.same tells) (c.in-Ok-run_job.ensures.done tells) in
+    inl record {
+      job = c.in-Ok.job;
+      asked = c.in-Ok.ensures.job;
+      faultless = c.in-Ok.ensures.whole;
+      done = subst (λ (n : ℕ). IsDone c.in-Ok.job n (at c.args.system.now) left) zero done;
+    }
+
+pub returns-in-Ok-run_job-clause-refused : goal.returns-in-Ok-run_job-clause-refused
+returns-in-Ok-run_job-clause-refused g c = λ tells some.
+    let F = files_by g.D.Store.seen g.D.System.may_fail g.D.Store.may_leave g.D.Store.failures in
+    let V = sight_by g.D.DeviceFiles.answers in
+    let I = told_by g.I.Source.left g.I.Source.failures in
+    let O = told_by g.O.Sink.taken g.O.Sink.failures in
+    let E = told_by g.E.Sink.taken g.E.Sink.failures in
+    let at : g.row.D.Denot → World = λ s. record { files = F s; input = I c.args.input.now; out = O c.args.out.now; err = E c.args.err.now; devices = V s } in
+    let left : World = record { files = F c.run_job.new.system; input = I c.run_job.new.input; out = O c.run_job.new.out; err = E c.run_job.new.err; devices = V c.run_job.new.system } in
+    let done = subst (λ (s : g.row.D.Denot). IsDone c.in-Ok.job c.in-Ok-run_job.status (at s) left) (c.enter_root.ensures.same tells) (c.in-Ok-run_job.ensures.done tells) in
+    inl record { job = c.in-Ok.job; asked = c.in-Ok.ensures.job; faultless = c.in-Ok.ensures.whole; done = done }

@@ -1,4 +1,4 @@
-use Rattle.std.proofs.Common.{◌∷◌, ◌≡◌, ◌⊎◌, false, ap, inl, inr, ⊎_elim, refl, string_bytes, subst, sym, ◌==◌, length, map, not, Global, IfOk, IfErr, List, Option, String, ℕ}
+use Rattle.std.proofs.Common.{◌∷◌, ◌≡◌, false, ap, inl, refl, string_bytes, subst, sym, ◌==◌, length, map, not, Global, IfOk, IfErr, List, Option, String, ℕ}
 use Rattle.std.specs.Prelude.{option_map}
 use Rattle.hwdb_spec_commands.specs.declared.job.Task.TheVariants.{Ask, Check, Device, Diff, Dump, Near, Status, Test, Update, Verify}
 use Rattle.hwdb_spec_commands.specs.Asked.{IsAnswered, IsDumped, IsListFrom, IsPrinted}
@@ -6,7 +6,7 @@ use Rattle.hwdb_spec_commands.specs.Databases.{IsSummary}
 use Rattle.hwdb_spec_program.specs.GivenDatabases.{HasDatabaseReason, OfNamed, names_input}
 use Rattle.hwdb_spec_program.specs.NamedDatabases.{IsDumpRefused, IsVerifyRefused}
 use Rattle.hwdb_spec_commands.specs.CheckedFiles.{AreCheckedFiles, IsChecked}
-use Rattle.hwdb_spec_commands.specs.Done.{IsAsked, IsLeftByUpdateLess, OldOrUpdatedLess}
+use Rattle.hwdb_spec_commands.specs.Done.{IsAsked}
 use Rattle.hwdb_spec_commands.specs.Given.{any_dash, is_dash}
 use Rattle.hwdb_spec.specs.Outputs.{TookOne}
 use Rattle.hwdb_spec_commands.specs.Status.{IsStatus}
@@ -20,14 +20,13 @@ use Rattle.hwdb_spec_program.specs.Tested.{IsTested}
 use Rattle.hwdb_spec_program.specs.TestErrors.{HasTestReason, IsTestRefused}
 use Rattle.hwdb_spec_commands.specs.DeviceAsked.{IsDevicePrinted, device_form}
 use Rattle.hwdb_spec_program.specs.DeviceErrors.{IsDeviceRefused, asked_names}
-use Rattle.hwdb_spec_program.specs.Program.{IsAnswerOf, IsDeviceAnswer, IsTaskDone, OldOrDone, reads_input, root_of, skips}
+use Rattle.hwdb_spec_program.specs.Program.{IsAnswerOf, IsDeviceAnswer, IsTaskDone, reads_input, root_of}
 use Rattle.hwdb_spec_program.specs.CheckedReasons.{HasCheckedReason}
 use Rattle.hwdb_spec_commands.specs.Reasons.{HasFilesReason, HasGivenReason}
 use Rattle.hwdb_spec_commands.specs.Undone.{AreUncheckable, IsAskRefused, IsCheckRefused}
 use Rattle.hwdb_spec_program.specs.TaskRefusals.{IsNotDone, IsTaskReason, Refuses}
 use Rattle.hwdb_tool.specs.Views.{end_of, texts_in}
 use Rattle.hwdb_tool.proofs.KeyLemmas.{keys_done, keys_follow, keys_refused}
-use Rattle.hwdb_tool.proofs.MomentLemmas.{leaves_more}
 use Rattle.hwdb_tool.proofs.ErrorLemmas.{both_errors, both_values}
 use Rattle.hwdb_tool.proofs.GivenLemmas.{checked_write, write_reason}
 use Rattle.hwdb_tool.proofs.NamedInputLemmas.{write_named}
@@ -49,25 +48,26 @@ use Rattle.hwdb_plan.specs.Verify.{verify_plan}
 use Rattle.hwdb_spec_commands.specs.Jobs.{IsTask}
 use Rattle.hwdb_spec_commands.specs.declared.devices.DeviceForm.{DeviceForm}
 use Rattle.hwdb_tool.proofs.ProgramPlanLemmas.{ask_planned, check_planned, device_planned, diff_planned, dump_planned, explain_planned, list_planned, near_planned, of_words, query_planned, status_planned, test_planned, update_unplanned, verify_planned}
+use Rattle.hwdb_tool.proofs.UpdatingLemmas.{task_crash, task_moment, task_updates}
 use Rattle.hwdb_tool.proofs.dispatch.run.Goals as goal
 use Rattle.hwdb_spec.specs.Lemmas.Calls.{each_error, each_value}
 use Rattle.hwdb_spec_commands.specs.declared.formats.Format.{Format}
 
 pub returns-in-Update-clause-any_moment : goal.returns-in-Update-clause-any_moment
 returns-in-Update-clause-any_moment g c = λ tells.
-    let seen = g.D.Store.seen c.args.system.now in
-    let left = g.D.Store.may_leave c.args.system.now in
-    let fails = g.D.System.may_fail c.args.system.now in
-    let job = c.args.job.now in
-    let skip = c.in-Update.skip_unreadable in
-    leaves_more g.D.Store.moment g.D.Store.left_since c.args.system.now c.update_telling.new.system
-    (OldOrUpdatedLess fails c.root_of-root.result.now job.usr skip seen left) (OldOrDone fails job seen left)
-    (λ p v now. ⊎_elim (λ was. inl was) (λ l. inr (
-      (c.in-Update.verbose, skip, c.in-Update.is),
-      subst (λ b. IsLeftByUpdateLess fails (root_of job) job.usr b seen p v) (sym (ap skips c.in-Update.is))
-          (subst (λ r. IsLeftByUpdateLess fails r job.usr skip seen p v) c.root_of-root.ensures l),
-    )) now)
-    (c.update_telling.ensures.any_moment tells)
+    task_moment g.D.Store.moment g.D.Store.left_since c.args.system.now c.update_telling.new.system (g.D.Store.seen c.args.system.now) (g.D.Store.may_leave c.args.system.now)
+    c.args.job.now c.root_of-root.result.now c.in-Update.verbose c.in-Update.skip_unreadable c.root_of-root.ensures c.in-Update.is (g.D.System.may_fail c.args.system.now) (c.update_telling.ensures.any_moment tells)
+
+pub returns-in-Update-clause-any_crash : goal.returns-in-Update-clause-any_crash
+returns-in-Update-clause-any_crash g c = λ tells.
+    task_crash g.D.Store.moment g.D.Store.left_since c.args.system.now c.update_telling.new.system (g.D.Store.seen c.args.system.now) (g.D.Store.may_leave c.args.system.now)
+    c.args.job.now c.root_of-root.result.now c.in-Update.verbose c.in-Update.skip_unreadable c.root_of-root.ensures c.in-Update.is (g.D.System.reads c.args.system.now) (c.update_telling.ensures.any_crash tells)
+
+pub returns-in-Update-clause-updates : goal.returns-in-Update-clause-updates
+returns-in-Update-clause-updates g c = λ tells.
+    let F = files_by g.D.Store.seen g.D.System.may_fail g.D.Store.may_leave g.D.Store.failures in
+    task_updates (g.D.System.reads c.args.system.now) (F c.args.system.now) (F c.update_telling.new.system) (told_by g.E.Sink.taken g.E.Sink.failures c.args.err.now) (told_by g.E.Sink.taken g.E.Sink.failures c.update_telling.new.err) c.update_telling.result
+    c.args.job.now c.root_of-root.result.now c.in-Update.verbose c.in-Update.skip_unreadable c.root_of-root.ensures c.in-Update.is (c.update_telling.ensures.follows tells)
 
 pub returns-in-Update-clause-kept : goal.returns-in-Update-clause-kept
 returns-in-Update-clause-kept g c = λ other. absurd (other (c.in-Update.verbose, c.in-Update.skip_unreadable, c.in-Update.is))

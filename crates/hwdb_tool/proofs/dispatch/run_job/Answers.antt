@@ -78,3 +78,9 @@ returns-clause-follows g c = λ tells words asked.
     let now = outs (E c.run.new.err) (O c.run.new.out) in
     plainly_planned (g.D.System.reads c.args.system.now) (sight_by g.D.DeviceFiles.answers c.args.system.now) (I c.args.input.now) (I c.run.new.input) before words c.args.job.now asked now c.run.result
     (sym c.asks_text.ensures ∙ c.if-asks_text.false) (c.run.ensures.follows tells words asked)
+
+pub returns-then-asks_text-clause-updates : goal.returns-then-asks_text-clause-updates
+returns-then-asks_text-clause-updates g c = λ tells v s is. absurd (no_update c.args.job.now.text c.args.job.now.task (sym c.asks_text.ensures ∙ c.if-asks_text.true) (v, s, is))
+
+pub returns-then-asks_text-clause-any_crash : goal.returns-then-asks_text-clause-any_crash
+returns-then-asks_text-clause-any_crash g c = λ tells v s is. absurd (no_update c.args.job.now.text c.args.job.now.task (sym c.asks_text.ensures ∙ c.if-asks_text.true) (v, s, is))
