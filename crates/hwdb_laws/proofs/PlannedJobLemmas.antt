@@ -1,5 +1,5 @@
 -- Words that ask for a job have a plan, or ask for an update. No words do both.
-use Rattle.std.proofs.Common.{◌≡◌, ◌∙◌, ◌⊎◌, ap, inl, inr, refl, subst, sym, Bool, List, Option, None, Some, Err, [], ◌∷◌, true, false}
+use Rattle.std.proofs.Common.{◌≡◌, ◌⊎◌, ap, inl, inr, refl, subst, sym, Bool, List, Option, None, Some, Err, [], ◌∷◌, true, false}
 use Rattle.std.specs.Prelude.{◌&&◌, codes, find, if◌then◌else◌, not, option_map}
 use Rattle.std.specs.Str.{bytes_eq}
 use Rattle.std.proofs.lemmas.Slice.Eq.{bytes_eq-Decides}

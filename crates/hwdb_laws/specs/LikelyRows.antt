@@ -1,6 +1,6 @@
 -- Worked rows of the forms of strings that udev likely asks: texts of each, patterns that match one, and others that are near and match
 -- none.
-use Rattle.std.specs.Prelude.{◌∷◌, ◌≡◌, List, [], codes, false, true}
+use Rattle.std.specs.Prelude.{◌∷◌, ◌≡◌, [], codes, false, true}
 use Rattle.hwdb_spec_commands.specs.LikelyForms
 use Rattle.hwdb_laws.specs.FormRows.{have}
 
