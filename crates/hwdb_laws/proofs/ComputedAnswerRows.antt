@@ -1,10 +1,11 @@
 -- The rows, computed.
-use Rattle.hwdb_laws.specs.AnswerRows.{DatabaseRows, DumpRows, FileListRows, FileRows, HitRows, LimitRows, LineRows, ListRows, LoneRows, NameRows, NearRows, NodeRows, PatternRows, PositionRows, RawRows, SaidRows, StringRows, UnsaidRows}
+use Rattle.hwdb_laws.specs.AnswerRows.{DatabaseRows, DumpRows, EntryRows, FileListRows, FileRows, HitRows, LimitRows, LineRows, ListRows, LoneRows, NameRows, NearRows, NodeRows, PatternRows, PositionRows, RawRows, SaidRows, StringRows, UnsaidRows}
 use Rattle.hex.specs.Hex.{encode_with}
 use Rattle.hwdb_spec.specs.Answers.{effective_of, is_after, last_assignments, last_matching, last_of_each, last_value}
 use Rattle.hwdb_spec.specs.Assignment.{ascending, assignment_cmp, position_cmp, put, put_all}
 use Rattle.hwdb_spec.specs.Explanations.{explained}
 use Rattle.hwdb_spec.specs.Folders.{first_of}
+use Rattle.hwdb_spec.specs.Format.{value_at}
 use Rattle.hwdb_spec.specs.Lines.{numbered, pieces, trimmed}
 use Rattle.hwdb_spec.specs.Patterns.{bracket_at, byte_then, classes, item_at, items_from, matches, piece_then, some_ending, token_at, tokens_from}
 use Rattle.hwdb_spec.specs.Records.{behind, first_section, sections_from}
@@ -94,3 +95,7 @@ line_rows = refl
 pub lone_rows : LoneRows
 unfolding pieces numbered trimmed first_section sections_from behind records_from tokens_from token_at item_at items_from bracket_at classes nodes nodes_of depth depth_of explained first_of once last_up_to first_up_to some_up_to values_under values_below ascending put put_all assignment_cmp position_cmp matches some_ending byte_then piece_then visible_after is_utf8 chars encode_utf8 digits encode_with items_of members_of escaped_after escape_byte print_from answers effective_of last_of_each last_value last_matching last_assignments is_after answers_after prefix_of values_of with_empty_lines dumped is_said
 lone_rows = (refl, refl)
+
+pub entry_rows : EntryRows
+unfolding value_at
+entry_rows = refl

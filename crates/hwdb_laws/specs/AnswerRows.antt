@@ -5,6 +5,7 @@ use Rattle.hwdb_spec_commands.specs.Asked.{list_form}
 use Rattle.hwdb_spec.specs.Assignment.{Assignment, Position}
 use Rattle.hwdb_spec_commands.specs.Dump.{dump_text, first_unsaid, is_said}
 use Rattle.hwdb_spec.specs.Folders.{Source}
+use Rattle.hwdb_spec.specs.Format.{value_at}
 use Rattle.hwdb_spec_commands.specs.Json.{device_json, last_lines_json, properties_in, text_at}
 use Rattle.hwdb_spec.specs.Library.{device_strings, last_strings}
 use Rattle.hwdb_spec_commands.specs.Listings.{line_of}
@@ -200,3 +201,17 @@ LineRows = map devices_of (codes "a\nb\n" ∷ codes "a\n\nb" ∷ codes "" ∷ []
 abbrev pub LoneRows : Type 0
 LoneRows =
     (lone (codes "a\n") ≡ record { name = codes "1.hwdb"; bytes = codes "a\n" } ∷ []) × (lone_choice ≡ record { from_etc = true; name = codes "1.hwdb"; priority = 1 })
+
+-- ---- a value entry
+-- An offset in 8 bytes, the least one first.
+abbrev pub offset : ℕ → List ℕ
+offset at = at ∷ 0 ∷ 0 ∷ 0 ∷ 0 ∷ 0 ∷ 0 ∷ 0 ∷ []
+
+-- As hwdb-internal.h lays it out: the offsets of key, value and path, the line in 4 bytes, the priority in 2, and 2 without a meaning. Its
+-- strings come after it here, each with a byte 0 at its end.
+abbrev pub entry_bytes : List ℕ
+entry_bytes =
+    offset 32 ++ (offset 35 ++ (offset 37 ++ (7 ∷ 1 ∷ 0 ∷ 0 ∷ 2 ∷ 0 ∷ 0 ∷ 0 ∷ (codes " K" ++ (0 ∷ (codes "1" ++ (0 ∷ (codes "f" ++ (0 ∷ []))))))))
+
+abbrev pub EntryRows : Type 0
+EntryRows = value_at entry_bytes 0 ≡ record { priority = 2; line = 263; key = codes " K"; value = codes "1"; path = codes "f" }

@@ -36,10 +36,10 @@ mod planned_updates;
 mod program_runs;
 mod rows;
 
-pub use planned::{planned_errors_are_one, planned_runs_are_one};
+pub use planned::{answers_are_one, errors_are_one};
 pub use planned_jobs::jobs_are_planned;
 pub use planned_updates::{planned_runs_keep_files, planned_updates_are_one};
-pub use program_runs::{program_errors_are_one, program_input_is_told, program_runs_are_one};
+pub use program_runs::{input_errors_are_so, jobs_are_one, words_end_in_one};
 pub use rows::{
     answer_rows, change_rows, check_rows, colour_rows, compare_rows, device_rows, error_rows,
     explain_rows, form_rows, key_rows, likely_rows, near_rows, over_text_rows, place_rows,

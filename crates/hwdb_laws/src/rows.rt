@@ -273,6 +273,7 @@ pub fn answer_rows()
     ensures file_list { AnswerRows.FileListRows }
     ensures strings { AnswerRows.StringRows }
     ensures dump { AnswerRows.DumpRows }
+    ensures entries { AnswerRows.EntryRows }
     ensures said { AnswerRows.SaidRows }
     ensures unsaid { AnswerRows.UnsaidRows }
     ensures patterns { AnswerRows.PatternRows }

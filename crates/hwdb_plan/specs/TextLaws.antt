@@ -1,5 +1,5 @@
 -- What is so of every plan that says a text after the rest. Our choice.
-use Rattle.std.specs.Prelude.{◌≡◌, ◌⊎◌, ℕ, List, [], MatchResult, Ok, Err, Result}
+use Rattle.std.specs.Prelude.{◌≡◌, ℕ, List, [], MatchResult, Err, Result}
 use Rattle.hwdb_spec.specs.declared.errors.ToolError.TheVariants.{Write}
 use Rattle.hwdb_spec_commands.specs.Runs.{HasTaken, Told, WasCut}
 use Rattle.hwdb_spec_commands.specs.Told.{Reads}

@@ -1,8 +1,8 @@
 -- Comments that let kinds of warnings pass in their record: `# hwdb: allow KIND[,KIND]`. Faults are never let pass. Our choice.
-use Rattle.std.specs.Prelude.{Bool, true, false, ℕ, List, None, [], ◌∷◌, ◌++◌, ◌+◌, if◌then◌else◌, codes, drop, filter, flat_map, length, map, nat_eq, not}
+use Rattle.std.specs.Prelude.{Bool, false, ℕ, List, None, [], ◌∷◌, ◌++◌, ◌+◌, if◌then◌else◌, codes, drop, filter, flat_map, length, map, nat_eq, not}
 use Rattle.std.specs.List.{after_first, before_first, list_any, position_or_len, prefix_len, starts_with}
 use Rattle.hwdb_spec.specs.Folders.{same}
-use Rattle.hwdb_spec.specs.Lines.{Line, byte, clean_line, is, is_dropped, is_empty, is_indent, is_none, lines, pieces, trimmed}
+use Rattle.hwdb_spec.specs.Lines.{Line, byte, clean_line, is, is_dropped, is_empty, is_indent, pieces, trimmed}
 use Rattle.hwdb_spec_commands.specs.Findings.{Finding, line_faults_text, line_text, told}
 use Rattle.hwdb_spec_commands.specs.Properties.{did_you_mean, near_row}
 use Rattle.hwdb_spec_commands.specs.Reports.{shown}

@@ -2,8 +2,7 @@
 -- `verify` and `dump` print of it. `query` is systemd-hwdb(8)'s; the others are our choice.
 use Rattle.std.specs.Prelude.{◌++◌, ◌≡◌, ◌≤◌, ◌⊎◌, Bool, List, None, Option, Some, codes, false, length, true, ℕ}
 use Rattle.hwdb_spec.specs.Assignment.{Position}
-use Rattle.hwdb_spec_commands.specs.Databases.{IsSayable, IsTextOf}
-use Rattle.hwdb_spec_commands.specs.Dump.{dump_text}
+use Rattle.hwdb_spec_commands.specs.Databases.{IsTextOf}
 use Rattle.hwdb_spec_commands.specs.Json.{list_json}
 use Rattle.hwdb_spec_commands.specs.Reports.{shown}
 use Rattle.hwdb_spec.specs.Store.{Contents, database_name, path_in}
@@ -16,20 +15,10 @@ use Rattle.hwdb_spec.specs.Visible.{shown_name}
 abbrev pub database_path : (usr : Bool) (root : List ℕ) → List ℕ
 database_path usr root = path_in (database_folder usr root) database_name
 
--- the path of the database that is asked: /etc's, or if nothing is there that of /usr/lib
-abbrev pub IsAskedPath : (root : List ℕ) → Contents → (path : List ℕ) → Type 0
-IsAskedPath root contents path =
-    (path ≡ database_path false root) ⊎ ((path ≡ database_path true root) × (bytes_at contents (database_path false root) ≡ None))
-
 -- what the database holds: that at the given path, or if none is given the one that is asked
 abbrev pub named_database : (given : Option (List ℕ)) (root : List ℕ) → Contents → Option (List ℕ)
 named_database None root contents = asked_database root contents
 named_database (Some path) root contents = bytes_at contents path
-
--- where it is
-abbrev pub IsNamedPath : (given : Option (List ℕ)) (root : List ℕ) → Contents → (path : List ℕ) → Type 0
-IsNamedPath None root contents path = IsAskedPath root contents path
-IsNamedPath (Some given) root contents path = path ≡ given
 
 -- the text is what its bytes give, which are no more than a file may have
 pub record IsPrinted (given : Option (List ℕ)) (root : List ℕ) (Is : (bytes text : List ℕ) → Type 0) (contents : Contents) (text : List ℕ) : Type 0 where
@@ -37,14 +26,6 @@ pub record IsPrinted (given : Option (List ℕ)) (root : List ℕ) (Is : (bytes 
   pub named : named_database given root contents ≡ Some bytes
   pub within : length bytes ≤ max_file
   pub is : Is bytes text
-
--- its assignments are all said by their records, and the text has these; its bytes are no more than a file may have
-pub record IsDumped (given : Option (List ℕ)) (root : List ℕ) (contents : Contents) (text : List ℕ) : Type 0 where
-  pub bytes : List ℕ
-  pub named : named_database given root contents ≡ Some bytes
-  pub within : length bytes ≤ max_file
-  pub sayable : IsSayable bytes
-  pub is : IsTextOf dump_text bytes text
 
 -- the words of a database with an assignment that no text says: its path, and the pattern, as `check` shows bytes
 abbrev pub unsayable_text : (path pattern : List ℕ) → List ℕ

@@ -3,7 +3,7 @@ use Rattle.std.specs.Prelude.{◌++◌, ◌==◌, ◌∷◌, Bool, List, None, O
 use Rattle.std.specs.Fmt.{decimal}
 use Rattle.std.specs.Ordering.{match_ordering}
 use Rattle.json.specs.Json.{Json}
-use Rattle.hwdb_spec.specs.Assignment.{Assignment, text_cmp}
+use Rattle.hwdb_spec.specs.Assignment.{text_cmp}
 use Rattle.hwdb_spec_commands.specs.Checks.{both}
 use Rattle.hwdb_spec_commands.specs.DeviceDifferences.{device_differences}
 use Rattle.hwdb_spec_commands.specs.Differences.{Change, are_some, differences}

@@ -60,11 +60,6 @@ StandFor contents (path ∷ more) paths =
 abbrev pub AreNamedFiles : (given : List (List ℕ)) (input : Option (List ℕ)) → Contents → List Source → Type 0
 AreNamedFiles given input contents sources = (paths : List (List ℕ)) × StandFor contents given paths × AreGivenFiles paths input contents sources
 
--- the files that are checked: those that the given paths mean, or if none is given those of both folders
-abbrev pub AreCheckedFiles : (given : List (List ℕ)) (root : List ℕ) (input : Option (List ℕ)) → Contents → List Source → Type 0
-AreCheckedFiles [] root input contents sources = AreChosenFiles root contents sources
-AreCheckedFiles (path ∷ more) root input contents sources = AreNamedFiles (path ∷ more) input contents sources
-
 -- The text is what is said of such files, in this format, but for kinds that are allowed. The status says whether something is
 -- wrong with one.
 pub record IsChecked (Are : List Source → Type 0) (format : Format) (strict : Bool) (allowed : List (List ℕ)) (text : List ℕ) (status : ℕ) : Type 0 where

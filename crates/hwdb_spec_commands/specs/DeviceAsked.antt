@@ -1,13 +1,10 @@
 -- The device that `device` is asked for, what it prints of it or of all devices, and what it says if there is none. Our choice.
-use Rattle.std.specs.Prelude.{◌≡◌, ◌++◌, Bool, false, true, List, [], ◌∷◌, None, Option, Some, codes, flat_map, if◌then◌else◌, is_some, not, option_map, ℕ}
+use Rattle.std.specs.Prelude.{◌++◌, Bool, false, true, List, [], ◌∷◌, None, Option, codes, flat_map, if◌then◌else◌, is_some, not, option_map, ℕ}
 use Rattle.std.specs.Option.{option_map_or}
-use Rattle.hwdb_spec_commands.specs.Asked.{IsAnswered}
-use Rattle.hwdb_spec_commands.specs.Databases.{IsTextOf}
 use Rattle.hwdb_spec_commands.specs.DeviceFound.{only, places_meant}
-use Rattle.hwdb_spec_commands.specs.DeviceTexts.{device_row, device_text, line_of}
+use Rattle.hwdb_spec_commands.specs.DeviceTexts.{device_row, line_of}
 use Rattle.hwdb_spec_commands.specs.DeviceTree.{Sight, absolute, all_links, device_at, device_of_path, kernel_name, last_name, near_name, sysfs_below, unread_of_path}
 use Rattle.hwdb_spec.specs.Lines.{byte, has}
-use Rattle.hwdb_spec.specs.Store.{Contents}
 use Rattle.hwdb_spec_commands.specs.Sysfs.{Device}
 use Rattle.hwdb_spec_commands.specs.declared.devices.DeviceForm.{DeviceForm}
 use Rattle.hwdb_spec_commands.specs.declared.devices.DeviceForm.TheVariants as form
@@ -40,17 +37,6 @@ link_row sight names sys link =
 -- a line for each device that something is asked for, and for each that can't be read
 abbrev pub device_list : Sight → (names : List (List ℕ)) → (sys : List ℕ) → List ℕ
 device_list sight names sys = flat_map (link_row sight names sys) (all_links sight sys)
-
--- what is printed of the device that is meant, over the database that is asked
-pub record IsOfDevice (form : DeviceForm) (names : List (List ℕ)) (root given : List ℕ) (sight : Sight) (contents : Contents) (text : List ℕ) : Type 0 where
-  pub device : Device
-  pub meant : device_meant sight names root given ≡ Some device
-  pub is : IsAnswered root (IsTextOf (device_text form device)) contents text
-
--- what is printed if a path or a name is given, and without one the list
-abbrev pub IsDevicePrinted : (form : DeviceForm) (names : List (List ℕ)) (root : List ℕ) (given : Option (List ℕ)) → Sight → Contents → (text : List ℕ) → Type 0
-IsDevicePrinted form names root None sight contents text = option_map (device_list sight names) (sysfs_below sight root) ≡ Some text
-IsDevicePrinted form names root (Some given) sight contents text = IsOfDevice form names root given sight contents text
 
 -- ---- what is said if there is no device
 

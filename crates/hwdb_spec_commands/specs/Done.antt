@@ -3,7 +3,6 @@ use Rattle.std.specs.Io.KnownBytes.{Appends}
 use Rattle.std.specs.Prelude.{◌≡◌, ◌≤◌, ◌⊎◌, Bool, List, Option, Some, [], length, ℕ}
 use Rattle.hwdb_spec_commands.specs.Databases.{IsTextOf}
 use Rattle.hwdb_spec.specs.Folders.{AreAccepted, Choice, Source, faults_of_files}
-use Rattle.hwdb_spec_commands.specs.Given.{IsGiven}
 use Rattle.hwdb_spec_commands.specs.LeftOut.{AreLeftOut, without}
 use Rattle.hwdb_spec_commands.specs.LoneFile.{lone}
 use Rattle.hwdb_spec.specs.Outputs.{Texts}
@@ -51,13 +50,6 @@ pub record IsUpdated (root : List ℕ) (verbose strict : Bool) (status : ℕ) (o
   pub in_etc : AreFilesIn (etc_files root) old of_etc
   pub in_usr : AreFilesIn (usr_files root) old of_usr
   pub updated : Updated of_etc of_usr (listing verbose of_usr) max_file strict status err_before err_now in_place
-
--- the texts are the fault lines of the one file, and what it gives the device; it has no more bytes than a file may
-pub record IsAsked (file device : List ℕ) (input : Option (List ℕ)) (contents : Contents) (texts : Texts) : Type 0 where
-  pub bytes : List ℕ
-  pub read : IsGiven file input contents bytes
-  pub within : length bytes ≤ max_file
-  pub are : AreAskTexts file bytes device texts
 
 -- An update that read these files leaves this under a path. In its place it is the database of all text files of both folders,
 -- whole. Under the path of a new file it is what may be there.

@@ -1,6 +1,6 @@
 -- Why it can't be told which text files the paths of `check` mean, or these can't be read. Our choice.
 use Rattle.std.specs.Prelude.{◌++◌, ◌<◌, ◌∷◌, ◌≡◌, ◌⊎◌, List, None, [], false, length, ℕ}
-use Rattle.hwdb_spec_commands.specs.CheckedFiles.{StandFor, folder_of, is_file}
+use Rattle.hwdb_spec_commands.specs.CheckedFiles.{folder_of, is_file}
 use Rattle.hwdb_spec.specs.Folders.{max_files, names}
 use Rattle.hwdb_spec.specs.Store.{Contents}
 use Rattle.hwdb_spec.specs.System.{AreNamesIn, bytes_at}
@@ -19,22 +19,3 @@ AreTooMany contents path refusal =
 abbrev pub IsUnlistedFolder : Contents → (folder : List ℕ) → Refusal → Type 0
 IsUnlistedFolder contents folder (At TooLong at cause) = (at.items ≡ folder) × (bytes_at contents folder ≡ None)
 IsUnlistedFolder contents folder refusal = IsUnlisted folder refusal
-
--- it can't be told which text files a path means: its folder can't be listed, or has too many
-abbrev pub IsFolderUnread : Contents → (path : List ℕ) → Refusal → Type 0
-IsFolderUnread contents path refusal = IsUnlistedFolder contents (folder_of path) refusal ⊎ AreTooMany contents path refusal
-
--- the same of the first of the given paths of which that can't be told: for each before it, it can
-pub record AreFoldersUnread (contents : Contents) (given : List (List ℕ)) (refusal : Refusal) : Type 0 where
-  pub before : List (List ℕ)
-  pub path : List ℕ
-  pub after : List (List ℕ)
-  pub are : given ≡ before ++ path ∷ after
-  pub own : List (List ℕ)
-  pub stand : StandFor contents before own
-  pub unread : IsFolderUnread contents path refusal
-
--- reading what given paths mean fails: that can't be told, or one of these files can't be read
-abbrev pub IsNamedUnread : (Unread : List (List ℕ) → Refusal → Type 0) → Contents → (given : List (List ℕ)) → Refusal → Type 0
-IsNamedUnread Unread contents given refusal =
-    AreFoldersUnread contents given refusal ⊎ ((paths : List (List ℕ)) × StandFor contents given paths × Unread paths refusal)

@@ -1,6 +1,6 @@
 -- What a pattern was likely meant to be that no string of udev matches, or none that it likely asks. Our choice.
-use Rattle.std.specs.Prelude.{Bool, ℕ, List, [], ◌∷◌, ◌++◌, ◌+◌, ◌-◌, Option, None, Some, suc, zero, if◌then◌else◌, codes, drop, length, map, nat_lt, take}
-use Rattle.std.specs.List.{list_any, prefix_len}
+use Rattle.std.specs.Prelude.{Bool, ℕ, List, [], ◌∷◌, ◌++◌, ◌-◌, Option, None, Some, suc, zero, if◌then◌else◌, codes, drop, length, map, nat_lt, take}
+use Rattle.std.specs.List.{prefix_len}
 use Rattle.std.specs.Option.{option_and_then, option_map}
 use Rattle.hwdb_spec.specs.Forms.{expected, judged}
 use Rattle.hwdb_spec.specs.Lines.{begins_with, byte, has, is_indent}

@@ -1,14 +1,10 @@
 -- Which patterns `near` compares with a device: those of the text files that its words name. Without one it takes those of the
 -- database that is asked. And what it prints of them. Our choice.
-use Rattle.std.specs.Prelude.{Bool, false, true, ℕ, List, [], ◌∷◌, ◌++◌, ◌+◌, ◌≡◌, Option, None, Some, if◌then◌else◌, map}
+use Rattle.std.specs.Prelude.{Bool, false, true, ℕ, List, [], ◌∷◌, ◌++◌, ◌+◌, Option, None, Some, if◌then◌else◌, map}
 use Rattle.std.specs.Ordering.{is_lt, nat_cmp, ordering_then}
-use Rattle.hwdb_spec_commands.specs.Asked.{IsAnswered}
 use Rattle.hwdb_spec.specs.Assignment.{Assignment}
-use Rattle.hwdb_spec_commands.specs.CheckedFiles.{AreGivenFiles}
-use Rattle.hwdb_spec_commands.specs.Databases.{IsTextOf}
 use Rattle.hwdb_spec.specs.Folders.{Source, same}
 use Rattle.hwdb_spec_commands.specs.Near.{PatternAt, near_json, near_text, patterns_in}
-use Rattle.hwdb_spec.specs.Store.{Contents}
 use Rattle.hwdb_spec.specs.Tree.{Tree, members_under}
 
 -- ---- the patterns of text files
@@ -59,9 +55,3 @@ near_limit (Some limit) = limit
 abbrev pub near_form : (json : Bool) → (device : List ℕ) (limit : ℕ) → List PatternAt → List ℕ
 near_form false = near_text
 near_form true = near_json
-
--- the text is what the patterns of the given files give, or, if none is given, those of the database that is asked
-abbrev pub IsNear : (given : List (List ℕ)) (root : List ℕ) (form : List PatternAt → List ℕ) (input : Option (List ℕ)) → Contents → (text : List ℕ) → Type 0
-IsNear [] root form input contents text = IsAnswered root (IsTextOf (λ tree. form (database_patterns tree))) contents text
-IsNear (path ∷ more) root form input contents text =
-    (sources : List Source) × AreGivenFiles (path ∷ more) input contents sources × (text ≡ form (patterns_from 1 sources))

@@ -1,19 +1,15 @@
 -- `--text`: a command answers from the text files of both folders, as an update would compile them now. It is done over the files
 -- as they are, but that the database of /etc has the bytes that the update would write. The option is our choice.
-use Rattle.std.specs.Prelude.{◌≡◌, ◌==◌, ◌⊎◌, Bool, List, None, Option, Some, codes, false, [], if◌then◌else◌, is_some, length, not, string_bytes, true, ℕ}
+use Rattle.std.specs.Prelude.{◌==◌, ◌⊎◌, Bool, List, None, Option, Some, codes, false, [], if◌then◌else◌, is_some, length, not, string_bytes, true, ℕ}
 use Rattle.std.specs.Str.{bytes_eq}
 use Rattle.hwdb_spec_commands.specs.Asked.{database_path}
 use Rattle.hwdb_spec.specs.Folders.{Source}
 use Rattle.hwdb_spec_commands.specs.Given.{is_dash}
-use Rattle.hwdb_spec_commands.specs.Reading.{AreUnread}
-use Rattle.hwdb_spec_commands.specs.Refusals.{IsInWords}
 use Rattle.hwdb_spec_commands.specs.Replacements.{replacements_form}
 use Rattle.hwdb_spec_commands.specs.Runs.{Files, Told, World}
-use Rattle.hwdb_spec_commands.specs.StatusErrors.{AreNotMade}
 use Rattle.hwdb_spec.specs.Store.{Contents, database_file}
 use Rattle.hwdb_spec_commands.specs.declared.job.Task.TheVariants.{Device, Dump, Explain, List as ListHits, Near, Query, Test, Verify}
 use Rattle.hwdb_spec_commands.specs.declared.job.Task.{Task}
-use Rattle.hwdb_spec_commands.specs.declared.refusals.Refusal.{Refusal}
 
 -- the files as they are, but that the database of /etc below a root, which is asked first, has these bytes
 unfoldable pub with_database : (root bytes : List ℕ) → Contents → Contents
@@ -67,16 +63,3 @@ abbrev pub text_besides : Task → (etc usr : List Source) → List ℕ
 text_besides (Explain device json) etc usr =
     said_besides (is_dash (string_bytes device)) (replacements_form json (string_bytes device) etc usr)
 text_besides task etc usr = []
-
--- the words don't fit `--text`
-abbrev pub IsMisused : Task → Refusal → Type 0
-IsMisused task refusal = (text : List ℕ) × (misuse_text task ≡ Some text) × IsInWords text refusal
-
--- the text files can't be read, or not be compiled
-abbrev pub AreTextsRefused : (root : List ℕ) → Contents → Refusal → Type 0
-AreTextsRefused root contents refusal = AreUnread root contents refusal ⊎ AreNotMade root contents refusal
-
--- A task fails before anything is asked: its words don't fit `--text`; or they do, and there is nothing to ask.
-abbrev pub IsNothingAsked : Task → (root : List ℕ) → Contents → Refusal → Type 0
-IsNothingAsked task root contents refusal =
-    IsMisused task refusal ⊎ ((misuse_text task ≡ None) × AreTextsRefused root contents refusal)

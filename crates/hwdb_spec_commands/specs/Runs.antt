@@ -1,5 +1,5 @@
 -- What a run of a program sees, and what it leaves: files, devices that tell of their bytes, and what sysfs shows. Our choice.
-use Rattle.std.specs.Prelude.{◌≡◌, ◌⊎◌, List, Option, [], ℕ}
+use Rattle.std.specs.Prelude.{◌≡◌, List, Option, [], ℕ}
 use Rattle.hwdb_spec_commands.specs.DeviceTree.{Sight}
 use Rattle.hwdb_spec.specs.Outputs.{CutShort, Texts, Took}
 use Rattle.hwdb_spec.specs.Store.{Contents, NoMore, Outcomes, Same}
@@ -57,14 +57,6 @@ pub record Printed (Are : Texts → Type 0) (err_before err_now out_before out_n
   pub err : HasTaken texts.err err_before err_now
   pub quiet : texts.err ≡ [] → err_now ≡ err_before
   pub out : HasTaken texts.out out_before out_now
-
--- One of them failed while it took such a text: standard error, and standard output wasn't used; or after that standard output.
-pub record PrintedPart (Are : Texts → Type 0) (err_before err_now out_before out_now : Told) : Type 0 where
-  pub texts : Texts
-  pub are : Are texts
-  pub quiet : texts.err ≡ [] → err_now ≡ err_before
-  pub cut : (WasCut texts.err err_before err_now × (out_now ≡ out_before))
-      ⊎ (HasTaken texts.err err_before err_now × WasCut texts.out out_before out_now)
 
 -- such a text is for standard output, and standard error gets none
 abbrev pub OnOut : (Is : List ℕ → Type 0) → Texts → Type 0

@@ -5,20 +5,16 @@
 -- it. Of a folder of text files a link leads where the system has it lead, as for `check`.
 use Rattle.std.specs.Prelude.{◌++◌, ◌==◌, ◌∷◌, ◌≡◌, ◌≤◌, ◌⊎◌, Bool, List, Some, [], false, codes, if◌then◌else◌, length, map, not, true, ℕ}
 use Rattle.hwdb_spec_commands.specs.CheckedFiles.{AreNamedFiles, StandFor, folder_of, is_file}
-use Rattle.hwdb_spec.specs.Folders.{AreAccepted, Source, choice, counts}
+use Rattle.hwdb_spec.specs.Folders.{Source, choice, counts}
 use Rattle.hwdb_spec_commands.specs.GivenFolders.{AreTooMany, IsUnlistedFolder}
 use Rattle.hwdb_spec.specs.Lines.{byte, has}
 use Rattle.hwdb_spec_commands.specs.Reading.{AreUnread}
 use Rattle.hwdb_spec_commands.specs.Reasons.{IsOfFiles}
 use Rattle.hwdb_spec_commands.specs.Refusals.{IsInWords, IsUnreadAt}
-use Rattle.hwdb_spec_commands.specs.Status.{IsMade}
 use Rattle.hwdb_spec_commands.specs.StatusErrors.{AreNotMade, IsNotCompiled}
 use Rattle.hwdb_spec.specs.Store.{Contents}
-use Rattle.hwdb_spec.specs.System.{AreNamesIn, bytes_at, etc_files, usr_files}
-use Rattle.hwdb_spec.specs.Texts.{max_file}
-use Rattle.hwdb_spec.specs.Tree.{map_of_files}
+use Rattle.hwdb_spec.specs.System.{AreNamesIn, etc_files, usr_files}
 use Rattle.hwdb_spec_commands.specs.Undone.{IsGivenUnread}
-use Rattle.hwdb_spec.specs.Written.{IsWritten}
 use Rattle.hwdb_spec_commands.specs.declared.refusals.Refusal.{Refusal}
 use Rattle.hwdb_spec.specs.Visible.{shown_name}
 
@@ -73,27 +69,6 @@ as_etc s = record { name = file_name s.name; bytes = s.bytes }
 -- the text files that a path means, as `check` reads them; standard input isn't read
 abbrev pub AreSideFiles : (path : List ℕ) → Contents → List Source → Type 0
 AreSideFiles path contents sources = AreNamedFiles (path ∷ []) (Some []) contents sources
-
--- the bytes are what `update` would write of these
-pub record AreMadeAt (path : List ℕ) (contents : Contents) (bytes : List ℕ) : Type 0 where
-  pub sources : List Source
-  pub are : AreSideFiles path contents sources
-  pub accepted : AreAccepted (map as_etc sources) []
-  pub written : IsWritten (map_of_files (map as_etc sources) []) bytes
-  pub within : length bytes ≤ max_file
-
--- the bytes of a side of some kind
-abbrev pub AreBytesOf : Kind → (path : List ℕ) → Contents → (bytes : List ℕ) → Type 0
-AreBytesOf Database path contents bytes = (bytes_at contents path ≡ Some bytes) × (length bytes ≤ max_file)
-AreBytesOf Texts path contents bytes = AreMadeAt path contents bytes
-AreBytesOf Root path contents bytes = (of_etc of_usr : List Source) × IsMade (folder_of path) contents of_etc of_usr bytes
-AreBytesOf Empty path contents bytes = ⊥
-
--- the bytes of the side at a path
-pub record IsSide (path : List ℕ) (contents : Contents) (bytes : List ℕ) : Type 0 where
-  pub kind : Kind
-  pub is : IsKind kind path contents
-  pub are : AreBytesOf kind path contents bytes
 
 -- ---- errors
 -- the words of a folder that is no side: it has no text files, where they were looked for, and what may be named in place of it

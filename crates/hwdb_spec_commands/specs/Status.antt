@@ -1,22 +1,21 @@
 -- What `status` says: which database is asked, which one it hides, how much is in each, and which text files are masked or ignored.
 -- And whether the asked one says what the text files say. `update --check` has its status, and says nothing. Both are our choice.
-use Rattle.std.specs.Prelude.{◌++◌, ◌-◌, ◌∷◌, ◌≡◌, ◌≢◌, ◌≤◌, Bool, IfSome, List, None, Option, Some, [], codes, false, flat_map, if◌then◌else◌, is_some, length, map, suc, take, true, unwrap_or, ℕ}
+use Rattle.std.specs.Prelude.{◌++◌, ◌-◌, ◌∷◌, ◌≡◌, ◌≢◌, ◌≤◌, Bool, List, None, Option, Some, [], codes, false, flat_map, if◌then◌else◌, is_some, length, map, suc, take, true, unwrap_or, ℕ}
 use Rattle.json.specs.Json.{Json, null}
 use Rattle.hwdb_spec_commands.specs.Asked.{database_path}
 use Rattle.hwdb_spec.specs.Assignment.{ascending}
 use Rattle.hwdb_spec_commands.specs.Checks.{count_text}
 use Rattle.hwdb_spec_commands.specs.Commands.{removing_words, update_words}
 use Rattle.hwdb_spec_commands.specs.Differences.{Change, change_text, differences}
-use Rattle.hwdb_spec.specs.Folders.{AreAccepted, Choice, Source, chosen_of}
+use Rattle.hwdb_spec.specs.Folders.{AreAccepted, Choice, Source}
 use Rattle.hwdb_spec.specs.Format.{IsDatabase}
-use Rattle.hwdb_spec_commands.specs.Ignored.{AreIgnoredIn}
 use Rattle.hwdb_spec_commands.specs.Json.{array_of, json_line, number_json, object_of, text_json}
 use Rattle.hwdb_spec.specs.Lines.{byte}
 use Rattle.hwdb_spec_commands.specs.Progress.{masks}
 use Rattle.hwdb_spec_commands.specs.Readable.{AreAllRead}
 use Rattle.hwdb_spec.specs.Store.{Contents}
 use Rattle.hwdb_spec_commands.specs.Summary.{Summary, count_line, summary_of}
-use Rattle.hwdb_spec.specs.System.{AreFilesIn, asked_database, bytes_at, etc_files, usr_files}
+use Rattle.hwdb_spec.specs.System.{AreFilesIn, bytes_at, etc_files, usr_files}
 use Rattle.hwdb_spec.specs.Texts.{max_file}
 use Rattle.hwdb_spec.specs.Tree.{Map, Tree, map_of, map_of_files}
 use Rattle.hwdb_spec.specs.Visible.{shown_name}
@@ -325,28 +324,3 @@ pub record IsMade (root : List ℕ) (contents : Contents) (of_etc of_usr : List 
   pub accepted : AreAccepted of_etc of_usr
   pub written : IsWritten (map_of_files of_etc of_usr) made
   pub within : length made ≤ max_file
-
--- The text reports the asked database beside that one, and the status says whether it is fresh and hides none, and there are text
--- files. Neither it nor the one that it hides has more bytes than a file may have.
-pub record IsStatus (root : List ℕ) (json quiet : Bool) (contents : Contents) (text : List ℕ) (status : ℕ) : Type 0 where
-  pub of_etc : List Source
-  pub of_usr : List Source
-  pub made : List ℕ
-  pub is_made : IsMade root contents of_etc of_usr made
-  pub ignored_etc : List (List ℕ)
-  pub ignored_usr : List (List ℕ)
-  pub are_in_etc : AreIgnoredIn (etc_files root) contents ignored_etc
-  pub are_in_usr : AreIgnoredIn (usr_files root) contents ignored_usr
-  pub short : IfSome (asked_database root contents) (λ bytes. length bytes ≤ max_file)
-  pub short_hidden : IfSome (hidden_database root contents) (λ bytes. length bytes ≤ max_file)
-  pub holds : Option Amount
-  pub is_held : IsAmount (asked_database root contents) holds
-  pub hidden : Option Amount
-  pub is_hidden : IsAmount (hidden_database root contents) hidden
-  pub state : State
-  pub stands : IsState made (map_of_files of_etc of_usr) (asked_database root contents) state
-  pub report : Report
-  pub of : report ≡ report_of root (has_database false root contents) (has_database true root contents) holds hidden
-      (masked_paths (map (λ (s : Source). s.name) of_usr) (chosen_of of_etc of_usr)) (ignored_paths ignored_etc ignored_usr) (is_bare (chosen_of of_etc of_usr)) state
-  pub is : text ≡ report_form json quiet report
-  pub says : status ≡ status_of report

@@ -14,7 +14,7 @@ use Rattle.hwdb_spec.specs.Tree.{closed_part, is_open}
 use Rattle.hwdb_spec.specs.Texts.{place_text}
 use Rattle.hwdb_spec_commands.specs.Properties.{misuse, misuse_hint, misuse_text, property_row}
 use Rattle.hwdb_spec_commands.specs.Kinds.{is_told}
-use Rattle.hwdb_spec_commands.specs.Reports.{hint_line, mark_line, shown, shown_line}
+use Rattle.hwdb_spec_commands.specs.Reports.{shown}
 use Rattle.hwdb_spec_commands.specs.Surroundings.{is_unpaired, is_unread, unpaired_hint, unread_hint}
 use Rattle.hwdb_spec_commands.specs.Unmatched.{is_unmatched, judgement_hint, judgement_of, judgement_place, judgement_text, likelihood_hint, likelihood_of}
 use Rattle.hwdb_spec_commands.specs.declared.WarningKind.{WarningKind}

@@ -1,17 +1,15 @@
 -- What `device` asks sysfs, and its errors. Our choice.
 use Rattle.std.specs.Prelude.{◌≡◌, ◌⊎◌, ◌∷◌, List, [], None, Option, Some, is_some, true, ℕ}
-use Rattle.hwdb_spec_commands.specs.DeviceAsked.{device_meant, missing_text, no_sysfs_text, unread_text}
+use Rattle.hwdb_spec_commands.specs.DeviceAsked.{missing_text, no_sysfs_text, unread_text}
 use Rattle.hwdb_spec_commands.specs.DeviceFound.{places_meant, several_text}
 use Rattle.hwdb_spec_commands.specs.DeviceTree.{Sight, missing_folder, sysfs_below, unread_for}
 use Rattle.hwdb_spec.specs.Failures.{IsOneLine}
 use Rattle.hwdb_spec.specs.Lines.{is, pieces}
-use Rattle.hwdb_spec.specs.Store.{Contents}
 use Rattle.hwdb_spec_commands.specs.declared.attributes.TheConstants.{ATTRIBUTES}
 use Rattle.hwdb_spec.specs.declared.errors.ToolError.TheVariants.{Memory}
 use Rattle.hwdb_spec_commands.specs.Refusals.{IsInWords}
 use Rattle.hwdb_spec_commands.specs.declared.refusals.Refusal.{Refusal}
 use Rattle.hwdb_spec_commands.specs.declared.refusals.Refusal.TheVariants.{Plain}
-use Rattle.hwdb_spec_commands.specs.Undone.{IsUnanswered}
 
 -- the names of the attributes that rules ask for
 abbrev pub asked_names : List (List ℕ)
@@ -68,9 +66,3 @@ IsNoDevice root sys given sight refusal =
 abbrev pub IsUnmeant : (root given : List ℕ) → Sight → Refusal → Type 0
 IsUnmeant root given sight refusal =
     IsNoSysfs root sight refusal ⊎ ((sys : List ℕ) × (sysfs_below sight root ≡ Some sys) × IsNoDevice root sys given sight refusal)
-
--- `device` fails: there is no sysfs; or no such device; or after that was found, the database can't be read, or is none
-abbrev pub IsDeviceRefused : (root : List ℕ) (given : Option (List ℕ)) → Sight → Contents → Refusal → Type 0
-IsDeviceRefused root None sight contents refusal = IsNoSysfs root sight refusal
-IsDeviceRefused root (Some given) sight contents refusal =
-    IsUnmeant root given sight refusal ⊎ ((is_some (device_meant sight asked_names root given) ≡ true) × IsUnanswered root contents refusal)

@@ -5,9 +5,7 @@ pub mod NearErrors
 pub mod Tested
 pub mod TestErrors
 pub mod DeviceErrors
-pub mod HidingTold
 pub mod HidingPlan
-pub mod CheckedReasons
 pub mod GivenDatabases
 pub mod ComparedDatabases
 pub mod Program

@@ -10,45 +10,16 @@ use Rattle.std.proofs.lemmas.List.Elements.{All-nil, All-cons, All-head, All-map
 use Rattle.hwdb_spec_commands.specs.Given.{IsContent, IsGiven, is_dash, any_dash}
 use Rattle.hwdb_spec.specs.Store.{Contents}
 use Rattle.hwdb_spec.specs.System.{bytes_at}
-use Rattle.hwdb_spec_commands.specs.Runs.{OnOut}
 use Rattle.hwdb_spec.specs.Texts.{max_file}
 use Rattle.hwdb_check.specs.Checks.{source_of}
 use Rattle.hwdb_check.specs.declared.files.TextFile.{TextFile}
-use Rattle.hwdb_spec_commands.specs.CheckedFiles.{AreCheckedFiles, AreChosenFiles, AreGivenFiles, AreNamedFiles, IsChecked, StandFor}
+use Rattle.hwdb_spec_commands.specs.CheckedFiles.{AreChosenFiles, AreGivenFiles}
 use Rattle.hwdb_spec.specs.Selected.{AreSelected}
 use Rattle.hwdb_plan.specs.Files.{AreFiles}
 use Rattle.hwdb_tool.specs.Internal.{AreTextsGiven, bytes_given, bytes_if}
-use Rattle.hwdb_spec_commands.specs.Refusals.{IsUnread}
-use Rattle.hwdb_spec_commands.specs.GivenFolders.{IsNamedUnread}
-use Rattle.hwdb_spec_commands.specs.Reasons.{IsFirstGiven, IsReadGiven}
-use Rattle.hwdb_spec_commands.specs.Undone.{AreNotChecked, AreUncheckable, IsCheckRefused, IsGivenUnread, told_as, told_path}
+use Rattle.hwdb_spec_commands.specs.Reasons.{IsReadGiven}
 use Rattle.hwdb_spec_commands.specs.declared.refusals.Refusal.{Refusal}
-use Rattle.hwdb_tool.specs.Views.{texts_in}
-use Rattle.hwdb_tool.specs.declared.answer.Answer.{Answer}
 use Rattle.hwdb_spec.specs.Lemmas.Truth.{or_left, or_right}
-use Rattle.hwdb_spec_commands.specs.declared.formats.Format.{Format}
-
--- a given file, by its place
-pub given_path : (given : List (String Global)) (k : ℕ) (path : String Global) → path ≡ get_or given k path → k < length given → Contains (map string_bytes given) (string_bytes path)
-given_path given k path is lt =
-    (k, subst (λ n. k < n) (sym (length-map given string_bytes)) lt, get_or-map string_bytes given k path (string_bytes path) lt ∙ ap string_bytes (sym is))
-
-pub given_unread : (given : List (String Global)) (k : ℕ) (path : String Global) (refusal : Refusal) → path ≡ get_or given k path → k < length given
-    → IsUnread (told_path (string_bytes path)) refusal → IsGivenUnread (map string_bytes given) refusal
-given_unread given k path refusal is lt unread =
-    inr (string_bytes path, given_path given k path is lt, unread)
-
--- the first of them that can't be read
-pub first_given : (contents : Contents) (given : List (String Global)) (k : ℕ) (path : String Global) → path ≡ get_or given k path → k < length given
-    → All (λ (s : String Global). IsReadGiven contents (string_bytes s)) (take k given) → is_dash (string_bytes path) ≡ false → IsFirstGiven (map string_bytes given) contents (string_bytes path)
-first_given contents given k path is lt read plain = record {
-  before = map string_bytes (take k given);
-  after = map string_bytes (drop (suc k) given);
-  are = ap (map string_bytes) (split_at given k path lt) ∙ map-append string_bytes (take k given) (get_or given k path ∷ drop (suc k) given)
-      ∙ ap (λ (s : String Global). map string_bytes (take k given) ++ string_bytes s ∷ map string_bytes (drop (suc k) given)) (sym is);
-  read = All-map (IsReadGiven contents) string_bytes (take k given) read;
-  plain = plain;
-}
 
 -- one more of them has a text
 pub texts_given_more : (text : List ℕ) (contents : Contents) (given : List (String Global)) (k : ℕ) (path : String Global) (texts texts2 : List (List ℕ)) (bytes : List ℕ)
@@ -180,20 +151,6 @@ pub told_of : (given : List (List ℕ)) (input : Option (List ℕ)) (text read :
     → any_dash given ≡ true → IfSome input (λ told. text ≡ told)
 told_of given input text read same told e = subst (λ (t : List ℕ). IfSome input (λ told. t ≡ told)) (sym same) (told e)
 
--- standard input, among them
-found_dash : (given : List (List ℕ)) → any_dash given ≡ true → (path : List ℕ) × Contains given path × (is_dash path ≡ true)
-found_dash [] e = absurd (cc)
-found_dash (path ∷ given) e =
-    elim (is_dash path) as (λ d. is_dash path ≡ d → (d || any_dash given) ≡ true → (p : List ℕ) × Contains (path ∷ given) p × (is_dash p ≡ true)) [
-      | true ↦ λ is e. (path, (0, omega arith, refl), is)
-      | false ↦ λ is e. let found = found_dash given e in (found.0, (suc found.1.0, omega (arith, found.1.1), found.1.2), found.2)
-    ] refl e
-
-pub dash_unread : (given : List (List ℕ)) (refusal : Refusal) → any_dash given ≡ true → IsUnread (codes "standard input") refusal → IsGivenUnread given refusal
-dash_unread given refusal e unread =
-    let found = found_dash given e in
-    inr (found.0, found.1, subst (λ d. IsUnread (told_as d found.0) refusal) (sym found.2) unread)
-
 -- those of both folders
 pub chosen_sources : (root : List ℕ) (contents : Contents) (usr : List (List ℕ)) (chosen : List Choice) (texts : List (List ℕ)) (files : List TextFile) → AreSelected root contents usr chosen texts
     → map (λ f. f.path.now) files ≡ map path_of chosen → map (λ f. f.bytes.now) files ≡ texts → AreChosenFiles root contents (map source_of files)
@@ -207,56 +164,3 @@ chosen_sources root contents usr chosen texts files are named held = record {
   held = bytes_of files ∙ ap (map Some) held ∙ are.read ∙ ap (map (λ c. bytes_at contents (root ++ path_of c))) are.is;
   within = short_files files (subst (All IsShort) (sym held) are.within);
 }
-
--- ---- what is said of them
-pub checked_as : (Are : List Source → Type 0) (files : List TextFile) (format : Format) (strict : Bool) (allowed : List (List ℕ)) (text : List ℕ) (status : ℕ) → Are (map source_of files)
-    → IsChecked (λ sources. sources ≡ map source_of files) format strict allowed text status → IsChecked Are format strict allowed text status
-checked_as Are files format strict allowed text status are checked = record {
-  sources = checked.sources;
-  are = subst Are (sym checked.are) are;
-  is = checked.is;
-  says = checked.says;
-}
-
-pub all_checked : (Are : List Source → Type 0) (files : List TextFile) (format : Format) (strict : Bool) (allowed : List (List ℕ)) (r : Result Answer Refusal) → Are (map source_of files)
-    → IfOk r (λ a. OnOut (λ text. IsChecked (λ sources. sources ≡ map source_of files) format strict allowed text a.status) (texts_in a))
-    → IfOk r (λ a. OnOut (λ text. IsChecked Are format strict allowed text a.status) (texts_in a))
-all_checked Are files format strict allowed (Ok a) are checked = (checked.0, checked_as Are files format strict allowed a.out.items a.status are checked.1)
-all_checked Are files format strict allowed (Err e) are checked = tt
-
-pub not_checked : {T : Type 0} (Unread : Refusal → Type 0) (Are : List Source → Type 0) (files : List TextFile) (r : Result T Refusal) → Are (map source_of files)
-    → IfErr r (AreNotChecked (λ sources. sources ≡ map source_of files)) → IfErr r (IsCheckRefused Unread Are)
-not_checked Unread Are files (Ok x) are refused = tt
-not_checked Unread Are files (Err e) are refused = inr record {
-  sources = refused.sources;
-  are = subst Are (sym refused.are) are;
-  error = refused.error;
-  is = refused.is;
-  refused = refused.refused;
-}
-
--- if some are given
-pub some_given : (root : List ℕ) (input : Option (List ℕ)) (contents : Contents) (given : List (String Global)) (P : (Refusal → Type 0) → (List Source → Type 0) → Type 0) → (length given == 0) ≡ false
-    → P (IsNamedUnread IsGivenUnread contents (map string_bytes given)) (AreNamedFiles (map string_bytes given) input contents)
-    → P (AreUncheckable (map string_bytes given) root contents) (AreCheckedFiles (map string_bytes given) root input contents)
-some_given root input contents [] P some p = absurd (cc)
-some_given root input contents (path ∷ more) P some p = p
-
--- ---- the files that given paths mean
-module _ (given paths : List (List ℕ)) (input : Option (List ℕ)) (contents : Contents) (stand : StandFor contents given paths) where
-  pub named_checked : (format : Format) (strict : Bool) (allowed : List (List ℕ)) (r : Result Answer Refusal)
-      → IfOk r (λ a. OnOut (λ text. IsChecked (AreGivenFiles paths input contents) format strict allowed text a.status) (texts_in a))
-      → IfOk r (λ a. OnOut (λ text. IsChecked (AreNamedFiles given input contents) format strict allowed text a.status) (texts_in a))
-  named_checked format strict allowed (Ok a) checked =
-      (checked.0, record { sources = checked.1.sources; are = (paths, stand, checked.1.are); is = checked.1.is; says = checked.1.says })
-  named_checked format strict allowed (Err e) checked = tt
-
-  named_end : (e : Refusal) → IsCheckRefused (IsGivenUnread paths) (AreGivenFiles paths input contents) e
-      → IsCheckRefused (IsNamedUnread IsGivenUnread contents given) (AreNamedFiles given input contents) e
-  named_end e (inl unread) = inl (inr (paths, stand, unread))
-  named_end e (inr not) = inr record { sources = not.sources; are = (paths, stand, not.are); error = not.error; is = not.is; refused = not.refused }
-
-  pub named_refused : {T : Type 0} (r : Result T Refusal) → IfErr r (IsCheckRefused (IsGivenUnread paths) (AreGivenFiles paths input contents))
-      → IfErr r (IsCheckRefused (IsNamedUnread IsGivenUnread contents given) (AreNamedFiles given input contents))
-  named_refused (Ok x) refused = tt
-  named_refused (Err e) refused = named_end e refused

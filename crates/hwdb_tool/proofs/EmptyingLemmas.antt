@@ -7,43 +7,16 @@ use Rattle.hwdb_plan.specs.Plans.{Ends, Plan, ReachesValue}
 use Rattle.hwdb_plan.specs.Update.{loss_of, lost_in}
 use Rattle.hwdb_spec_commands.specs.Told.{Reads}
 use Rattle.hwdb_spec_commands.specs.Asked.{database_path}
-use Rattle.hwdb_spec_commands.specs.Emptied.{IsLoss, IsLossOf, IsLossUnseen, IsLost, IsOneUnseen, IsShort, loss_text}
+use Rattle.hwdb_spec_commands.specs.Emptied.{IsLost, loss_text}
 use Rattle.hwdb_spec.specs.Folders.{Choice}
 use Rattle.hwdb_spec.specs.Format.{IsDatabase}
-use Rattle.hwdb_spec_commands.specs.Runs.{HasTaken, Told}
 use Rattle.hwdb_spec_commands.specs.Status.{Amount, IsAmountOf, is_bare}
 use Rattle.hwdb_spec_commands.specs.Status.Amount.{Counted, Uncounted}
-use Rattle.hwdb_spec.specs.Store.{Contents}
-use Rattle.hwdb_spec.specs.System.{bytes_at}
 use Rattle.hwdb_spec.specs.Tree.{Tree, members_under}
 use Rattle.hwdb_spec_commands.specs.declared.refusals.Refusal.{Refusal}
 use Rattle.hwdb_spec.specs.Texts.{max_file}
 use Rattle.hwdb_tool.specs.Emptying.{is_nothing}
 use Rattle.hwdb_tool.specs.declared.databases.FoundDatabase.{FoundDatabase}
-
--- ---- a sink
-
--- what a sink is after it took the lines of what is lost
-abbrev pub after_loss : Told → (loss : List ℕ) → Told
-after_loss before loss = record { bytes = option_map (λ xs. xs ++ loss) before.bytes; failures = before.failures }
-
-took_whole : (o : Option (List ℕ)) (loss : List ℕ) → Appends o (option_map (λ xs. xs ++ loss) o) loss
-took_whole None loss = tt
-took_whole (Some xs) loss = refl
-
-pub took_loss : (before : Told) (loss : List ℕ) → HasTaken loss before (after_loss before loss)
-took_loss before loss = record { whole = took_whole before.bytes loss; unfailed = refl }
-
--- it took them and then the rest
-pub took_rest : (o now : Option (List ℕ)) (loss text : List ℕ) → Appends o now (loss ++ text) → Appends (option_map (λ xs. xs ++ loss) o) now text
-took_rest None now loss text took = tt
-took_rest (Some xs) None loss text took = absurd took
-took_rest (Some xs) (Some ys) loss text took = took ∙ sym (append_assoc xs loss text)
-
--- what was done, if a call ended well
-pub placed_of : {X E : Type 0} (r : Result X E) (T tells P : Type 0) (S Q : X → Type 0) → OnOk r T → (tells → OnOk r P) → IfOk r S → ((x : X) → T → (tells → P) → S x → Q x) → IfOk r Q
-placed_of (Ok x) T tells P S Q a b c so = so x a b c
-placed_of (Err e) T tells P S Q a b c so = tt
 
 -- ---- whether something is lost
 
@@ -107,47 +80,3 @@ module _ (w : Reads) (root : List ℕ) (usr : Bool) {V : Type 0} (of : V → Lis
   pub loss_if_full : (text : V) (chosen : List Choice) → false ≡ is_bare chosen → of text ≡ [] → ReachesValue of w (loss_of chosen root usr) (Ok text)
   loss_if_full text [] bare none = absurd (true≢false (sym bare))
   loss_if_full text (c ∷ more) bare none = λ next e ends. subst (λ (t : List ℕ). Ends w (next t) e) none ends
-
--- ---- one loss
-
-one_lost : (o : Option (List ℕ)) (a b : Bool) → IsLost o a → IsLost o b → a ≡ b
-one_lost None a b one two = one ∙ sym two
-one_lost (Some bytes) true true one two = refl
-one_lost (Some bytes) true false one two = absurd (one two)
-one_lost (Some bytes) false true one two = absurd (two one)
-one_lost (Some bytes) false false one two = refl
-
-one_loss : (root : List ℕ) (usr : Bool) (contents : Contents) (text text2 : List ℕ) → IsLoss root usr contents text → IsLoss root usr contents text2 → text ≡ text2
-one_loss root usr contents text text2 one two =
-    one.is
-    ∙ ap (λ (b : Bool). loss_text root usr b one.usr_lost) (one_lost (bytes_at contents (database_path false root)) one.etc_lost two.etc_lost one.is_etc two.is_etc)
-    ∙ ap (λ (b : Bool). loss_text root usr two.etc_lost b) (one_lost (bytes_at contents (database_path true root)) one.usr_lost two.usr_lost one.is_usr two.is_usr)
-    ∙ sym two.is
-
-pub one_loss_of : (chosen chosen2 : List Choice) (root : List ℕ) (usr : Bool) (contents : Contents) (text text2 : List ℕ) → chosen ≡ chosen2
-    → IsLossOf chosen root usr contents text → IsLossOf chosen2 root usr contents text2 → text ≡ text2
-one_loss_of chosen chosen2 root usr contents text text2 same one two = go chosen2 (subst (λ (l : List Choice). IsLossOf l root usr contents text) same one) two
-  where
-    go : (l : List Choice) → IsLossOf l root usr contents text → IsLossOf l root usr contents text2 → text ≡ text2
-    go [] a b = one_loss root usr contents text text2 a b
-    go (c ∷ more) a b = a ∙ sym b
-
--- both places were read, if no text file is chosen
-pub shorts_of : (chosen : List Choice) (root : List ℕ) (usr : Bool) (contents : Contents) (text : List ℕ) → IsLossOf chosen root usr contents text → chosen ≡ []
-    → IsShort false root contents × IsShort true root contents
-shorts_of chosen root usr contents text is none =
-    let loss : IsLoss root usr contents text = subst (λ (l : List Choice). IsLossOf l root usr contents text) none is in (loss.short_etc, loss.short_usr)
-
--- ---- by whether text files are chosen
-
-pub loss_bare : (chosen : List Choice) (root : List ℕ) (usr : Bool) (contents : Contents) (text : List ℕ) → true ≡ is_bare chosen → IsLoss root usr contents text → IsLossOf chosen root usr contents text
-loss_bare [] root usr contents text bare is = is
-loss_bare (c ∷ more) root usr contents text bare is = absurd (true≢false bare)
-
-pub loss_none : (chosen : List Choice) (root : List ℕ) (usr : Bool) (contents : Contents) (text : List ℕ) → false ≡ is_bare chosen → text ≡ [] → IsLossOf chosen root usr contents text
-loss_none [] root usr contents text bare is = absurd (true≢false (sym bare))
-loss_none (c ∷ more) root usr contents text bare is = is
-
-pub unseen_bare : (chosen : List Choice) (root : List ℕ) (contents : Contents) (r : Refusal) → true ≡ is_bare chosen → IsOneUnseen root contents r → IsLossUnseen chosen root contents r
-unseen_bare [] root contents r bare is = (refl, is)
-unseen_bare (c ∷ more) root contents r bare is = absurd (true≢false bare)

@@ -2,34 +2,10 @@
 use Rattle.std.proofs.Common.{◌≡◌, ◌∙◌, ◌∷◌, ◌||◌, ap, sym, subst, ℕ, Bool, true, false, List, [], map, refl, String, Global, string_bytes, drop, take, get_or, length, ◌+◌, ◌<◌, ◌++◌}
 use Rattle.std.proofs.lemmas.List.{drop_more, map-append, take_more}
 use Rattle.std.specs.Str.{bytes_eq}
-use Rattle.hwdb_spec.specs.Lemmas.Truth.{or_right}
 use Rattle.hwdb_spec.specs.Folders.{Source}
-use Rattle.hwdb_plan.specs.Files.{AreFiles, is_word}
+use Rattle.hwdb_plan.specs.Files.{AreFiles}
 use Rattle.hwdb_check.specs.Checks.{source_of}
 use Rattle.hwdb_check.specs.declared.files.TextFile.{TextFile}
-use Rattle.hwdb_tool.specs.Internal.{AreWords}
-
--- all of them
-pub all_words : (words : List (String Global)) → AreWords words words
-all_words words = λ path is. is
-
--- those after the first of some
-pub later_words : (word : String Global) (rest left words : List (String Global)) → left ≡ word ∷ rest → AreWords left words → AreWords rest words
-later_words word rest left words is among = λ path some.
-    among path (subst (λ (l : List (String Global)). is_word (map string_bytes l) path ≡ true) (sym is)
-    (or_right (bytes_eq (string_bytes word) path) (is_word (map string_bytes rest) path) some))
-
--- one that isn't the first of some is among them if it is after it
-pub not_first : (word : String Global) (rest left : List (String Global)) (path : List ℕ) → left ≡ word ∷ rest → bytes_eq (string_bytes word) path ≡ false
-    → is_word (map string_bytes left) path ≡ is_word (map string_bytes rest) path
-not_first word rest left path is other =
-    ap (λ (l : List (String Global)). is_word (map string_bytes l) path) is ∙ ap (λ (b : Bool). b || is_word (map string_bytes rest) path) other
-
--- the first is
-pub is_first : (word : String Global) (rest left : List (String Global)) (path : List ℕ) → left ≡ word ∷ rest → bytes_eq (string_bytes word) path ≡ true
-    → is_word (map string_bytes left) path ≡ true
-is_first word rest left path is one =
-    ap (λ (l : List (String Global)). is_word (map string_bytes l) path) is ∙ ap (λ (b : Bool). b || is_word (map string_bytes rest) path) one
 
 -- the path that a loop has come to
 pub next_path : (given : List (String Global)) (k : ℕ) (path : String Global) → path ≡ get_or given k path → k < length given

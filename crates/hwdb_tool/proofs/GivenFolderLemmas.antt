@@ -3,15 +3,10 @@ use Rattle.std.proofs.Common.{◌≡◌, ◌<◌, ◌∙◌, ◌++◌, ◌+◌, 
 use Rattle.std.specs.Prelude.{nat_eq}
 use Rattle.std.specs.Result.{IsErrAnd}
 use Rattle.std.proofs.lemmas.List.{map-append, take_more}
-use Rattle.hwdb_spec_commands.specs.CheckedFiles.{StandFor, StandsFor, folder_of, is_file}
+use Rattle.hwdb_spec_commands.specs.CheckedFiles.{folder_of}
 use Rattle.hwdb_spec.specs.Folders.{Choice}
 use Rattle.hwdb_spec_commands.specs.Given.{any_dash, is_dash}
-use Rattle.hwdb_spec.specs.Store.{Contents, path_in}
-use Rattle.hwdb_spec_commands.specs.declared.refusals.Refusal.{Refusal}
-use Rattle.hwdb_spec_commands.specs.declared.refusals.Refusal.TheVariants.{Plain}
-use Rattle.hwdb_spec.specs.declared.errors.ToolError.TheVariants.{Memory}
-use Rattle.hwdb_spec_commands.specs.GivenFolders.{AreFoldersUnread, IsFolderUnread}
-use Rattle.hwdb_spec.specs.Lemmas.Calls.{given_error}
+use Rattle.hwdb_spec.specs.Store.{path_in}
 use Rattle.hwdb_spec.specs.Lemmas.Truth.{neither_or, or_neither}
 
 -- ---- the folder that a path names
@@ -36,52 +31,6 @@ cut_slash path folder is = sym (ap folder_of is ∙ with_slash folder)
 
 pub kept_whole : (path : List ℕ) → ((front : List ℕ) → path ≡ front ++ 47 ∷ [] → ⊥) → path ≡ folder_of path
 kept_whole path not = sym (no_slash path not)
-
--- ---- several
-append_none : (l : List (List ℕ)) → l ≡ l ++ []
-append_none [] = refl
-append_none (x ∷ l) = ap (λ r. x ∷ r) (append_none l)
-
-pub stand_more : (contents : Contents) (given paths : List (List ℕ)) (path : List ℕ) (own : List (List ℕ)) → StandFor contents given paths → StandsFor (is_file contents path) contents path own → StandFor contents (given ++ path ∷ []) (paths ++ own)
-stand_more contents [] paths path own none one = (own, [], ap (λ (l : List (List ℕ)). l ++ own) none ∙ append_none own, one, refl)
-stand_more contents (first ∷ given) paths path own more one =
-    (more.0, more.1 ++ own, ap (λ (l : List (List ℕ)). l ++ own) more.2 ∙ append_assoc more.0 more.1 own, more.3, stand_more contents given more.1 path own more.4 one)
-
--- one more of the given
-pub stand_next : (contents : Contents) (given : List (String Global)) (k : ℕ) (path : String Global) (paths own new : List (String Global)) → path ≡ get_or given k path → k < length given
-    → StandFor contents (map string_bytes (take k given)) (map string_bytes paths)
-    → StandsFor (is_file contents (string_bytes path)) contents (string_bytes path) (map string_bytes own)
-    → map string_bytes new ≡ map string_bytes paths ++ map string_bytes own → StandFor contents (map string_bytes (take (k + 1) given)) (map string_bytes new)
-stand_next contents given k path paths own new is lt stand one more =
-    let before = map string_bytes (take k given) in
-    let next : map string_bytes (take (k + 1) given) ≡ before ++ string_bytes path ∷ [] =
-    ap (map string_bytes) (take_more given k path lt) ∙ map-append string_bytes (take k given) (get_or given k path ∷ [])
-    ∙ ap (λ (s : String Global). before ++ string_bytes s ∷ []) (sym is) in
-    subst (λ (g : List (List ℕ)). StandFor contents g (map string_bytes new)) (sym next)
-    (subst (λ (l : List (List ℕ)). StandFor contents (before ++ string_bytes path ∷ []) l) (sym more)
-    (stand_more contents before (map string_bytes paths) (string_bytes path) (map string_bytes own) stand one))
-
--- the folder of one of the given, if those before it mean text files
-pub one_unread : (contents : Contents) (given : List (String Global)) (k : ℕ) (path : String Global) (own : List (List ℕ)) (refusal : Refusal) → path ≡ get_or given k path → k < length given
-    → StandFor contents (map string_bytes (take k given)) own → IsFolderUnread contents (string_bytes path) refusal → AreFoldersUnread contents (map string_bytes given) refusal
-one_unread contents given k path own refusal is lt stand unread = record {
-  before = map string_bytes (take k given);
-  path = string_bytes path;
-  after = map string_bytes (drop (k + 1) given);
-  are = ap (map string_bytes) (sym (take-append-drop (k + 1) given) ∙ ap (λ (l : List (String Global)). l ++ drop (k + 1) given) (take_more given k path lt))
-      ∙ map-append string_bytes (take k given ++ get_or given k path ∷ []) (drop (k + 1) given)
-      ∙ ap (λ (l : List (List ℕ)). l ++ map string_bytes (drop (k + 1) given)) (map-append string_bytes (take k given) (get_or given k path ∷ []))
-      ∙ append_assoc (map string_bytes (take k given)) (string_bytes (get_or given k path) ∷ []) (map string_bytes (drop (k + 1) given))
-      ∙ ap (λ (s : String Global). map string_bytes (take k given) ++ string_bytes s ∷ map string_bytes (drop (k + 1) given)) (sym is);
-  own = own;
-  stand = stand;
-  unread = unread;
-}
-
-pub memory_unread : {T : Type 0} (contents : Contents) (given : List (String Global)) (k : ℕ) (path : String Global) (own : List (List ℕ)) (r : Result T Refusal) → path ≡ get_or given k path → k < length given
-    → StandFor contents (map string_bytes (take k given)) own → IsErrAnd r (λ x. x ≡ Plain Memory) → IfErr r (AreFoldersUnread contents (map string_bytes given))
-memory_unread contents given k path own r is lt stand memory =
-    given_error (Plain Memory) (AreFoldersUnread contents (map string_bytes given)) r memory (one_unread contents given k path own (Plain Memory) is lt stand (inl tt))
 
 and_none : (a : Bool) → (a && false) ≡ false
 and_none true = refl

@@ -3,32 +3,23 @@ use Rattle.std.proofs.Common.{◌≡◌, map, refl, string_bytes, subst, sym, Bo
 use Rattle.hwdb_plan.specs.Ended.{Outs, Prints}
 use Rattle.hwdb_plan.specs.Keys.{keys_plan}
 use Rattle.hwdb_plan.specs.Plans.{Follows}
-use Rattle.hwdb_spec.specs.Lemmas.Calls.{each_error, each_value}
-use Rattle.hwdb_spec.specs.declared.errors.ToolError.TheVariants.{Memory}
 use Rattle.hwdb_spec_commands.specs.DeviceTree.{Sight}
 use Rattle.hwdb_spec_commands.specs.Jobs.{IsTask}
-use Rattle.hwdb_spec_commands.specs.KeysAsked.{keys_status, keys_text}
-use Rattle.hwdb_spec_commands.specs.Runs.{Files, OnOut, Told, World}
+use Rattle.hwdb_spec_commands.specs.Runs.{Files, Told, World}
 use Rattle.hwdb_spec_commands.specs.Told.{Reads}
 use Rattle.hwdb_spec_commands.specs.declared.job.Job.{Job}
 use Rattle.hwdb_spec_commands.specs.declared.job.Task.{Task}
 use Rattle.hwdb_spec_commands.specs.declared.job.Task.TheVariants.{Keys}
 use Rattle.hwdb_spec_commands.specs.declared.refusals.Refusal.{Refusal}
-use Rattle.hwdb_spec_commands.specs.declared.refusals.Refusal.TheVariants.{Plain}
-use Rattle.hwdb_spec_program.specs.Program.{IsAnswerOf, IsTaskDone, root_of}
+use Rattle.hwdb_spec_program.specs.Program.{root_of}
 use Rattle.hwdb_spec_program.specs.ProgramPlan.{ShowsPlan, files_plan}
-use Rattle.hwdb_spec_program.specs.TaskRefusals.{IsNotDone, IsTaskReason, Refuses}
 use Rattle.hwdb_spec_program.specs.Words.{AskFor}
-use Rattle.hwdb_tool.specs.Views.{IsNotPrinted, IsPrintedWith, end_of, texts_in}
+use Rattle.hwdb_tool.specs.Views.{end_of}
 use Rattle.hwdb_tool.specs.declared.answer.Answer.{Answer}
-use Rattle.hwdb_tool.proofs.PrintingLemmas.{printed_done, printed_refused}
 use Rattle.hwdb_tool.proofs.ProgramPlanLemmas.{keys_planned, of_words}
 
 -- the words as they were given, and as the command takes them
 module _ (words : Vec (String Global) Global) (given : List (String Global)) (json : Bool) (same : given ≡ words.items) (answer : Result Answer Refusal) (result : Result ℕ Refusal) (task : Task) (is : task ≡ Keys words json) where
-  abbrev Found : List (String Global) → Type 0
-  Found ws = IfOk answer (λ a. OnOut (λ text. (text ≡ keys_text json (map string_bytes ws)) × (a.status ≡ keys_status text)) (texts_in a))
-
   module _ (root : List ℕ) (usr strict : Bool) (files : Files) (input err err_now out out_now : Told) (devices : Sight) where
     abbrev before : World
     before = record { files = files; input = input; out = out; err = err; devices = devices }
@@ -38,20 +29,6 @@ module _ (words : Vec (String Global) Global) (given : List (String Global)) (js
 
     abbrev asked : Task
     asked = Keys words json
-
-    pub keys_done : Found given → IfOk result (λ s. IsPrintedWith answer s err err_now out out_now) → IfOk result (λ s. IsTaskDone task root usr strict s before now)
-    keys_done found printed =
-        subst (λ (t : Task). IfOk result (λ s. IsTaskDone t root usr strict s before now)) (sym is)
-        (each_value _ (λ s. IsTaskDone asked root usr strict s before now) result (λ s done. (done, tt, record { same = λ p. refl; no_more = λ p v l. l }))
-        (printed_done answer result (λ s t. IsAnswerOf asked root strict input.bytes files.seen s t) err err_now out out_now (subst Found same found) printed))
-
-    pub keys_refused : Found given → IfErr answer (λ r. r ≡ Plain Memory) → IfErr result (λ r. IsNotPrinted answer r err err_now out out_now) → IfErr result (IsNotDone task root usr strict before now)
-    keys_refused found refused printed =
-        subst (λ (t : Task). IfErr result (IsNotDone t root usr strict before now)) (sym is)
-        (each_error _ (IsNotDone asked root usr strict before now) result (λ r both. ((both.0, record { same = λ p. refl; no_more = λ p v l. l }), both.1))
-        (printed_refused answer result (Refuses asked root input.bytes files.seen) (IsTaskReason asked root usr before now)
-        (λ s t. IsAnswerOf asked root strict input.bytes files.seen s t) err err_now out out_now refused (subst Found same found)
-        (each_error _ (IsTaskReason asked root usr before now) answer (λ r memory. subst (IsTaskReason asked root usr before now) (sym memory) tt) refused) tt printed))
 
 -- a run shows what the plan of its words ends in
 pub keys_follow : (w : Reads) (sight : Sight) (input : Told) (before now : Outs) (result : Result ℕ Refusal) (asked : List (List ℕ)) (job : Job) → AskFor asked job → (answer : Result Answer Refusal)

@@ -20,7 +20,6 @@ use Rattle.hwdb_spec_commands.specs.Asked.{IsFrom, IsListFrom, list_form}
 use Rattle.hwdb_spec_commands.specs.DatabaseErrors.{IsDatabaseRefusal}
 use Rattle.hwdb_spec_commands.specs.Databases.{IsNoDatabase, IsTextOf}
 use Rattle.hwdb_spec_commands.specs.Done.{AreAskTexts}
-use Rattle.hwdb_spec_commands.specs.Given.{is_dash}
 use Rattle.hwdb_spec_commands.specs.Listings.{IsListBeginning, IsListFault, IsListRefusal, line_of}
 use Rattle.hwdb_spec_commands.specs.LoneFile.{lone}
 use Rattle.hwdb_spec_commands.specs.Queries.{IsOfInput}
@@ -63,19 +62,6 @@ form_is device limit true p t = whole_map (line_of true) (within_limit limit (an
 first_is : (device : List ℕ) (limit : Option ℕ) (json : Bool) (p : Option Position) (t : Tree) (n : ℕ)
     → whole (take n (hit_lines json device limit p t)) ≡ flat_map (line_of json) (take n (within_limit limit (answers_after device p t)))
 first_is device limit json p t n = ap whole (take-map (line_of json) n (within_limit limit (answers_after device p t))) ∙ whole_map (line_of json) (take n (within_limit limit (answers_after device p t)))
-
--- ---- an error over the bytes of a database
-pub plain_stop : (path : List ℕ) (e : ToolError) → ((f : _) → e ≢ BadDatabase f) → IsStop (database_stop path e) (refusal.Plain e)
-plain_stop path Read not = inr refl
-plain_stop path Write not = inr refl
-plain_stop path TooLong not = inr refl
-plain_stop path TooManyFiles not = inr refl
-plain_stop path TooManyLines not = inr refl
-plain_stop path TooLarge not = inr refl
-plain_stop path BadPosition not = inr refl
-plain_stop path (BadDatabase f) not = absurd (not f refl)
-plain_stop path (Replace u) not = inr refl
-plain_stop path Memory not = inr refl
 
 module _ (w : Reads) (p : Next → Plan) (path bytes : List ℕ) (step : (next : Next) (e : End) → Ends w (next path bytes) e → Ends w (p next) e) where
   -- ---- `query` and `explain`

@@ -1,10 +1,8 @@
 -- Ends of these commands, from what their calls promise.
 use Rattle.std.proofs.Common.{◌≡◌, ◌≤◌, ◌∙◌, ◌⊎◌, inl, inr, ap, sym, subst, ◌==◌, ◌∷◌, arith, eqb-true, map, string_bytes, All, Bool, Global, String, true, false, List, None, Option, Some, Result, Ok, Err, IfOk, ℕ, [], length}
-use Rattle.hwdb_spec_commands.specs.Asked.{IsDumped, IsPrinted, named_database, unsayable_text}
-use Rattle.hwdb_spec_commands.specs.Runs.{OnOut}
-use Rattle.hwdb_spec.specs.Store.{Contents}
+use Rattle.hwdb_spec_commands.specs.Asked.{unsayable_text}
 use Rattle.hwdb_spec.specs.Texts.{max_file}
-use Rattle.hwdb_tool.specs.Views.{end_of, texts_in}
+use Rattle.hwdb_tool.specs.Views.{end_of}
 use Rattle.hwdb_tool.specs.declared.answer.Answer.{Answer}
 use Rattle.hwdb_spec_commands.specs.Databases.{IsSayable, IsSummary, IsTextOf}
 use Rattle.hwdb_spec_commands.specs.Dump.{dump_text, dumped, first_unsaid}
@@ -66,12 +64,6 @@ unsummed w path bytes e r is (inl memory) = inl memory
 unsummed w path bytes (verifying.Database f) r none (inr says) = inr (inr (f, none, ap Stops says))
 unsummed w path bytes verifying.Memory r is (inr says) = inl (plainly r says)
 
--- the answer is that of the named database
-pub summed_stored : (given : Option (List ℕ)) (root : List ℕ) (seen : Contents) (bytes : List ℕ) → named_database given root seen ≡ Some bytes → length bytes ≤ max_file → (result : Result Answer Refusal)
-    → IfOk result (λ a. OnOut (IsSummary bytes) (texts_in a)) → IfOk result (λ a. OnOut (IsPrinted given root IsSummary seen) (texts_in a))
-summed_stored given root seen bytes named within (Ok a) is = (is.0, record { bytes = bytes; named = named; within = within; is = is.1 })
-summed_stored given root seen bytes named within (Err r) is = tt
-
 -- ---- `dump`
 -- it ends in an answer
 pub texted : (w : Reads) (path bytes : List ℕ) (status : ℕ) (err out : List ℕ) → ((b : List ℕ) (t u : Tree) → IsDatabase b t → IsDatabase b u → t ≡ u)
@@ -102,12 +94,6 @@ untexted w path bytes (dumping.Unsayable pattern) r is (inr says) =
       subst (λ u. Ends w (if_said path u (dump_text is.tree)) (Stops (stop_of r))) (sym is.unsaid.unsaid) (ap Stops (says ∙ ap (λ q. Says (unsayable_text path q)) is.unsaid.is)),
     ))
 untexted w path bytes dumping.Memory r is (inr says) = inl (plainly r says)
-
--- the answer is that of the named database
-pub texted_stored : (given : Option (List ℕ)) (root : List ℕ) (seen : Contents) (bytes : List ℕ) → named_database given root seen ≡ Some bytes → length bytes ≤ max_file → (result : Result Answer Refusal)
-    → IfOk result (λ a. OnOut (IsTextOf dump_text bytes) (texts_in a)) → IfOk result (λ _. IsSayable bytes) → IfOk result (λ a. OnOut (IsDumped given root seen) (texts_in a))
-texted_stored given root seen bytes named within (Ok a) is all = (is.0, record { bytes = bytes; named = named; within = within; sayable = all; is = is.1 })
-texted_stored given root seen bytes named within (Err r) is all = tt
 
 -- ---- `test`
 -- it ends in an answer

@@ -11,7 +11,7 @@ use Rattle.hwdb_spec.specs.Folders.{Source, Choice, choice, counts, first_of, li
 use Rattle.hwdb_spec.specs.Store.{Contents, path_in}
 use Rattle.hwdb_spec.specs.System.{AreFilesIn, AreNamesIn, IsNameIn, bytes_at, etc_files, usr_files}
 use Rattle.hwdb_text.specs.Laws.{NamesAreThoseThatCount, NamesAscend, OneAscendingList}
-use Rattle.hwdb_tool.specs.OneOutcome.{IsOneReading}
+use Rattle.hwdb_tool.specs.Laws.{IsOneReading}
 use Rattle.hwdb_spec.specs.Lemmas.Orders.{same_itself, same_text}
 use Rattle.hwdb_spec.specs.Lemmas.Truth.{or_right}
 

@@ -11,7 +11,6 @@ use Rattle.hwdb_spec_commands.specs.Runs.{Told}
 use Rattle.hwdb_spec_commands.specs.declared.job.Job.{Job}
 use Rattle.hwdb_spec_commands.specs.declared.job.Task.{Task}
 use Rattle.hwdb_spec_commands.specs.declared.job.Task.TheVariants.{Ask, Check, Device, Diff, Dump, Explain, Keys, List as ListHits, Near, Query, Status, Test, Update, Verify}
-use Rattle.hwdb_spec_commands.specs.declared.job.WordsFault.{WordsFault}
 use Rattle.hwdb_spec_commands.specs.declared.job.WordsFault.TheVariants.{Help, Usage}
 use Rattle.hwdb_spec_commands.specs.WordFaults.{IsToldOfOne}
 use Rattle.hwdb_spec_commands.specs.declared.refusals.Refusal.{Refusal}

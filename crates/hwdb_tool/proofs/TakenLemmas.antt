@@ -13,7 +13,7 @@ use Rattle.hwdb_plan.specs.Files.{source_at}
 use Rattle.hwdb_plan.specs.Sides.{is_from, taken_from}
 use Rattle.hwdb_text.specs.Lemmas.Ascending.{ascending_holds, ascending_ordered, holds_ascending, one_list}
 use Rattle.hwdb_text.specs.Lemmas.Members.{Holds, held, holds_it}
-use Rattle.hwdb_tool.proofs.ChosenAsBeforeLemmas.{contains_of, lists_held}
+use Rattle.hwdb_tool.proofs.ListedLemmas.{contains_of, lists_held}
 
 -- what a filter keeps, and of what it keeps it
 kept : (p : List ℕ → Bool) (xs : List (List ℕ)) (n : List ℕ) → Holds xs n → p n ≡ true → Holds (filter p xs) n

@@ -41,7 +41,7 @@ use Rattle.hwdb_spec_program.specs.ProgramPlan.{Around, ShowsPlan, Taker, as_giv
 use Rattle.hwdb_spec_program.specs.Words.{AskFor}
 use Rattle.hwdb_plan.specs.Answers.{devices_plan, explain_plan}
 use Rattle.hwdb_plan.specs.Ended.{Outs, ShowsEnd}
-use Rattle.hwdb_plan.specs.Folders.{Texts, with_texts}
+use Rattle.hwdb_plan.specs.Folders.{with_texts}
 use Rattle.hwdb_plan.specs.Laws.{OverIsNoMore}
 use Rattle.hwdb_plan.specs.Lemmas.OverText.{asked_follows, none_follows, said_is_after, shows_after}
 use Rattle.hwdb_plan.specs.Lemmas.Sides.{in_words_stops}
@@ -52,7 +52,7 @@ use Rattle.hwdb_plan.specs.Plans.Plan.{Done}
 use Rattle.hwdb_plan.specs.Sides.{taken_from}
 use Rattle.hwdb_plan.specs.TextLaws.{MayFollow, WasSaid}
 use Rattle.hwdb_system.specs.Reads.{with_read}
-use Rattle.hwdb_tool.specs.AsBefore.{TextShowsOver}
+use Rattle.hwdb_tool.specs.TextPlans.{TextShowsOver}
 use Rattle.hwdb_tool.specs.Internal.{AreReadOf}
 use Rattle.hwdb_tool.specs.TextPlans.{besides_for, plan_over}
 use Rattle.hwdb_tool.proofs.FolderLemmas.{are_read}

@@ -3,19 +3,11 @@ use Rattle.std.specs.Prelude.{◌≡◌, ℕ, Bool, true, false, List, None, Opt
 use Rattle.std.specs.Global.{Global}
 use Rattle.hwdb_spec_commands.specs.Given.{is_dash}
 use Rattle.hwdb_spec.specs.Folders.{Source}
-use Rattle.hwdb_spec.specs.Explanations.{explain_text}
-use Rattle.hwdb_spec_commands.specs.Json.{explain_json}
 use Rattle.hwdb_spec.specs.Store.{Contents}
 use Rattle.hwdb_spec.specs.System.{AreFilesIn, bytes_at, etc_files, usr_files}
-use Rattle.hwdb_spec.specs.Tree.{Tree}
 use Rattle.hwdb_text.specs.Views.{choice_of}
 use Rattle.hwdb_compile.specs.Views.{AreChosenOf}
-use Rattle.hwdb_spec_commands.specs.OverText.{world_over}
-use Rattle.hwdb_spec_program.specs.Program.{IsTaskDone, root_of}
-use Rattle.hwdb_spec_commands.specs.Reasons.{HasGivenReason}
-use Rattle.hwdb_spec_commands.specs.Runs.{World}
 use Rattle.hwdb_spec.specs.Selected.{AreSelected}
-use Rattle.hwdb_spec_program.specs.TaskRefusals.{IsNotDone}
 use Rattle.hwdb_spec_commands.specs.Told.{Reads, Stop, unread_stop}
 use Rattle.hwdb_spec_commands.specs.Told.Stop.{Over, Plain}
 use Rattle.hwdb_spec.specs.declared.causes.Cause.{Cause}
@@ -23,8 +15,6 @@ use Rattle.hwdb_spec.specs.declared.errors.ReadError.{ReadError}
 use Rattle.hwdb_spec.specs.declared.errors.ReadError.TheVariants as reading
 use Rattle.hwdb_spec.specs.declared.errors.ToolError.TheVariants.{Memory, TooLong}
 use Rattle.hwdb_spec_commands.specs.declared.unread.Unread.TheVariants.{Failed}
-use Rattle.hwdb_spec_commands.specs.declared.job.Job.{Job}
-use Rattle.hwdb_spec_commands.specs.declared.refusals.Refusal.{Refusal}
 use Rattle.hwdb_plan.specs.Asking.{asked}
 use Rattle.hwdb_plan.specs.Plans.{End, Ends, Next}
 use Rattle.hwdb_plan.specs.Files.{is_word}
@@ -56,24 +46,9 @@ pub record AreReadOf (root : List ℕ) (contents : Contents) (listed : List (Lis
   pub named : map (λ (s : Source). s.name) of_usr ≡ listed
   pub are : AreChosenOf of_etc of_usr files
 
--- what is printed of one device
-abbrev pub explain_form : (json : Bool) → List ℕ → Tree → List ℕ
-explain_form false = explain_text
-explain_form true = explain_json
-
 -- a selection among these files
 abbrev pub IsOfSelection : (root : List ℕ) (files : Contents) → Selection → Type 0
 IsOfSelection root files s = AreSelected root files (map string_bytes s.listed.items) (map choice_of s.chosen.items) (map (λ t. t.items) s.texts.items)
-
--- a job's task is done over the files with this database
-abbrev pub IsDoneOver : Job → (database : List ℕ) (before now : World) (status : ℕ) → Type 0
-IsDoneOver job database before now status =
-    IsTaskDone job.task (root_of job) job.usr job.strict status (world_over (root_of job) database before) (world_over (root_of job) database now)
-
--- it ends with an error
-abbrev pub IsNotDoneOver : Job → (database : List ℕ) (before now : World) → Refusal → Type 0
-IsNotDoneOver job database before now refusal =
-    IsNotDone job.task (root_of job) job.usr job.strict (world_over (root_of job) database before) (world_over (root_of job) database now) refusal
 
 -- the plan of the database that is asked goes on with what is told of this path
 abbrev pub IsAskedAt : Reads → (root path : List ℕ) → Type 0
@@ -84,7 +59,3 @@ abbrev pub input_stop : ReadError → Option Cause → Stop
 input_stop reading.Failed cause = unread_stop (codes "standard input") (Failed cause)
 input_stop reading.TooLong cause = Over TooLong (codes "standard input") None
 input_stop reading.Memory cause = Plain Memory
-
--- what an error says of standard input is so; it says nothing of files
-abbrev pub IsInputReason : (input : Option (List ℕ)) (failures_before failures_now : ℕ) → Refusal → Type 0
-IsInputReason = HasGivenReason true (λ path. ⊥) (λ path. None)

@@ -1,11 +1,11 @@
--- What an update and a query after it say together.
-use Rattle.std.specs.Prelude.{◌≡◌, ℕ, Bool, false, List, [], ◌∷◌, Option, Some, None}
+-- What an update and a query after it say together, and that the order of a listing doesn't matter. Our choice.
+use Rattle.std.specs.Prelude.{◌≡◌, ℕ, Bool, false, List, [], ◌∷◌, Option, Some, None, map}
 use Rattle.hwdb_spec.specs.Assignment.{Assignment}
 use Rattle.hwdb_spec.specs.Answers.{effective_of}
-use Rattle.hwdb_spec.specs.Folders.{Source, all_assignments}
+use Rattle.hwdb_spec.specs.Folders.{Choice, Source, all_assignments, choice, chosen_of, contents, lists}
 use Rattle.hwdb_spec.specs.Last.{AreLast}
 use Rattle.hwdb_spec.specs.Store.{Contents, path_in, database_name, database_file}
-use Rattle.hwdb_spec.specs.System.{AreFilesIn, database_folder, etc_files, usr_files}
+use Rattle.hwdb_spec.specs.System.{AreFilesIn, AreNamesIn, database_folder, etc_files, usr_files}
 use Rattle.hwdb_spec.specs.Texts.{properties_text, queries_text}
 use Rattle.hwdb_spec_commands.specs.Databases.{IsTextOf}
 use Rattle.hwdb_spec_commands.specs.Asked.{IsAnswered}
@@ -30,3 +30,23 @@ UpdateThenQuery =
     → IsUpdated root verbose strict status files err_before err_now (λ database. new (path_in (database_folder false root) database_name) ≡ Some (database_file database))
     → IsAnswered root (IsTextOf (queries_text (device ∷ []))) new text
     → IsOfLast root files device text
+
+-- ---- listings
+-- two readings of both folders are one: which names each folder has, which files are chosen, and what each of them holds
+pub record IsOneReading (etc usr etc2 usr2 : List Source) : Type 0 where
+  pub named : (name : List ℕ) → lists name (map (λ (s : Source). s.name) usr) ≡ lists name (map (λ (s : Source). s.name) usr2)
+  pub chosen : chosen_of etc usr ≡ chosen_of etc2 usr2
+  pub held : (c : Choice) → contents etc usr c ≡ contents etc2 usr2 c
+
+-- the order of a listing doesn't matter, and it leaves nothing out
+abbrev pub ListingsGiveOneReading : Type 0
+ListingsGiveOneReading = (root : List ℕ) (files : Contents) (etc usr etc2 usr2 : List Source)
+    → AreFilesIn (etc_files root) files etc → AreFilesIn (usr_files root) files usr
+    → AreFilesIn (etc_files root) files etc2 → AreFilesIn (usr_files root) files usr2
+    → IsOneReading etc usr etc2 usr2
+
+abbrev pub ListingsGiveOneChoice : Type 0
+ListingsGiveOneChoice = (root : List ℕ) (files : Contents) (etc usr etc2 usr2 : List (List ℕ))
+    → AreNamesIn (etc_files root) files etc → AreNamesIn (usr_files root) files usr
+    → AreNamesIn (etc_files root) files etc2 → AreNamesIn (usr_files root) files usr2
+    → choice etc usr ≡ choice etc2 usr2

@@ -9,7 +9,4 @@ pub mod Colours
 pub mod Reloading
 pub mod Crash
 pub mod Failures
-pub mod OneOutcome
-pub mod OneRefusal
-pub mod AsBefore
 pub mod Updating

@@ -1,24 +1,15 @@
 //! What devices get: from the database, or from one text file.
-ghost use Rattle.std.specs.Prelude.{[], ◌∷◌, ◌≡◌, ◌≤◌, ◌⊎◌, true, false, option_map, IfErr, IfOk, OnOk};
+ghost use Rattle.std.specs.Prelude.{[], ◌∷◌, ◌≡◌, ◌≤◌, false, option_map, IfOk, OnOk};
 ghost use Rattle.hwdb_spec.specs.Flushing.{HandsOn};
-ghost use Rattle.hwdb_spec_commands.specs.Asked.{IsAnswered, IsListFrom};
-ghost use Rattle.hwdb_spec_commands.specs.Databases.{IsTextOf};
-ghost use Rattle.hwdb_spec_commands.specs.Done.{IsAsked};
 ghost use Rattle.hwdb_spec_commands.specs.Given.{is_dash};
-ghost use Rattle.hwdb_spec.specs.Outputs.{TookOne};
-ghost use Rattle.hwdb_spec_commands.specs.Runs.{OnOut, Told, told_by};
-ghost use Rattle.hwdb_spec_commands.specs.Streams.{texts_of};
-ghost use Rattle.hwdb_spec_commands.specs.Refusals.{HasReason};
-ghost use Rattle.hwdb_spec_commands.specs.Queries.{AreDone, AreUnanswered};
-ghost use Rattle.hwdb_spec_commands.specs.Reasons.{HasAskedReason, HasGivenReason};
-ghost use Rattle.hwdb_spec_commands.specs.Undone.{IsAskRefused, IsListRefused, IsUnanswered};
+ghost use Rattle.hwdb_spec_commands.specs.Runs.{Told, told_by};
 ghost use Rattle.hwdb_plan.specs.Answers.{answer_plan, explain_plan};
 ghost use Rattle.hwdb_plan.specs.Ask.{ask_plan};
 ghost use Rattle.hwdb_plan.specs.Ended.{ShowsEnd, outs};
 ghost use Rattle.hwdb_plan.specs.Input.{OverGiven};
 ghost use Rattle.hwdb_plan.specs.List.{list_plan};
 ghost use Rattle.hwdb_plan.specs.Plans.{Follows};
-ghost use Rattle.hwdb_tool.specs.Views.{end_of, texts_in};
+ghost use Rattle.hwdb_tool.specs.Views.{end_of};
 
 use crate::answer::Answer;
 use crate::databases::{asked, refused_database};
@@ -50,18 +41,7 @@ pub fn explain<D: System, I: Source, O: Sink, E: Sink>(
         (told_by I.left I.failures input.old) (told_by I.left I.failures input.new)
         (outs (told_by E.taken E.failures err.old) (told_by O.taken O.failures out.old))
         (outs (told_by E.taken E.failures err.new) (told_by O.taken O.failures out.new)) result }
-    ensures answered { D.Store.tells → IfOk result (λ status. AreDone root.now (Form.Explain json)
-        (device.now ∷ []) (I.left input.old) (D.Store.seen system.now) status
-        (told_by E.taken E.failures err.old) (told_by E.taken E.failures err.new)
-        (told_by O.taken O.failures out.old) (told_by O.taken O.failures out.new)) }
-    ensures refused { D.Store.tells → IfErr result (λ r. AreUnanswered root.now (Form.Explain json)
-        (device.now ∷ []) (I.left input.old) (D.Store.seen system.now) r
-        (told_by E.taken E.failures err.old) (told_by E.taken E.failures err.new)
-        (told_by O.taken O.failures out.old) (told_by O.taken O.failures out.new)) }
     ensures unread { is_dash device.now ≡ false → input.new ≡ input.old }
-    ensures reason { D.Store.tells → IfErr result (HasAskedReason
-        (is_dash device.now) root.now (D.System.may_fail system.now) (D.Store.seen system.now)
-        (I.left input.old) (I.failures input.old) (I.failures input.new)) }
     ensures unfailed { OnOk result (O.failures out.new ≡ O.failures out.old) }
     ensures out_hands_on { HandsOn (O.is_flushed out.old) (O.is_flushed out.new)
         (O.failures out.old) (O.failures out.new) }
@@ -95,13 +75,6 @@ fn explain_given<D: System>(
     ensures status { IfOk result (λ a. a.status ≡ 0) }
     ensures follows { D.Store.tells → Follows end_of (D.System.reads system.now)
         (answer_plan root.now (Form.Explain json) (device.now ∷ [])) result }
-    ensures answered { D.Store.tells → IfOk result (λ a. OnOut (IsAnswered root.now
-        (IsTextOf (texts_of (Form.Explain json) (device.now ∷ []))) (D.Store.seen system.now))
-        (texts_in a)) }
-    ensures refused { D.Store.tells → IfErr result
-        (IsUnanswered root.now (D.Store.seen system.now)) }
-    ensures reason { IfErr result
-        (HasReason (D.System.may_fail system.now) ⊥ (D.Store.seen system.now)) }
 {
     let found = asked(alloc, root, system)?;
     match answer(alloc, &found.bytes, device, Form::Explain { json }) {
@@ -126,15 +99,6 @@ pub fn list<D: System, O: Sink>(
         (list_plan root.now json device.now (option_map (λ t. t.now) after.entry) limit)
         input input (outs err (told_by O.taken O.failures out.old))
         (outs err (told_by O.taken O.failures out.new)) result }
-    ensures answered { D.Store.tells → IfOk result (λ _. TookOne (IsAnswered root.now
-        (IsListFrom json device.now (option_map (λ t. t.now) after.entry) limit)
-        (D.Store.seen system.now))
-        (O.taken out.old) (O.taken out.new) (O.failures out.old) (O.failures out.new)) }
-    ensures refused { D.Store.tells → IfErr result (λ r. IsListRefused root.now json device.now
-        (option_map (λ t. t.now) after.entry) limit (D.Store.seen system.now) r
-        (told_by O.taken O.failures out.old) (told_by O.taken O.failures out.new)) }
-    ensures reason { IfErr result
-        (HasReason (D.System.may_fail system.now) ⊥ (D.Store.seen system.now)) }
     ensures unfailed { OnOk result (O.failures out.new ≡ O.failures out.old) }
     ensures hands_on { HandsOn (O.is_flushed out.old) (O.is_flushed out.new)
         (O.failures out.old) (O.failures out.new) }
@@ -159,14 +123,7 @@ pub fn ask_file<D: System, I: Source>(
         (I.left input.old) (I.failures input.old) (I.failures input.new)
         (D.System.reads system.now)
         (λ path reads. Follows end_of reads (ask_plan file.now device.now path) result) }
-    ensures asked { D.Store.tells → IfOk result (λ a.
-        IsAsked file.now device.now (I.left input.old) (D.Store.seen system.now) (texts_in a)) }
-    ensures refused { D.Store.tells → IfErr result
-        (IsAskRefused file.now (I.left input.old) (D.Store.seen system.now)) }
     ensures unread { is_dash file.now ≡ false → input.new ≡ input.old }
-    ensures reason { IfErr result (HasGivenReason (is_dash file.now)
-        (D.System.may_fail system.now) (D.Store.seen system.now)
-        (I.left input.old) (I.failures input.old) (I.failures input.new)) }
 {
     law_one_written_form();
     let bytes = read(alloc, file, system, input)?;

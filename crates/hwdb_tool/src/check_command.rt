@@ -1,11 +1,10 @@
 //! `check`: text files that are read and looked over. Nothing is written.
-ghost use Rattle.std.specs.Prelude.{◌≡◌, ◌≤◌, ◌==◌, All, List, [], ℕ, true, false, not, map, string_bytes, IfOk, IfErr, IfNone, IfSome, length};
+ghost use Rattle.std.specs.Prelude.{◌≡◌, ◌≤◌, ◌==◌, All, List, [], true, false, map, string_bytes, IfOk, IfErr, IfNone, IfSome, length};
 ghost use Rattle.hwdb_check.specs.Checks.{source_of};
 ghost use Rattle.hwdb_spec_commands.specs.Runs.{OnOut};
 ghost use Rattle.hwdb_spec.specs.Folders.{Source, path_of};
 ghost use Rattle.hwdb_text.specs.Views.{choice_of};
-ghost use Rattle.hwdb_spec_commands.specs.Refusals.{HasReason};
-ghost use Rattle.hwdb_spec_commands.specs.CheckedFiles.{AreCheckedFiles, AreChosenFiles, AreGivenFiles, AreNamedFiles, IsChecked};
+ghost use Rattle.hwdb_spec_commands.specs.CheckedFiles.{AreGivenFiles, IsChecked};
 ghost use Rattle.hwdb_plan.specs.Check.{check_plan, said_of, stored};
 ghost use Rattle.hwdb_plan.specs.Files.{AreFiles, OfInput, ReachesFiles, given_files, is_word, read_files};
 ghost use Rattle.hwdb_plan.specs.Folders.{texts_of_folders};
@@ -13,13 +12,9 @@ ghost use Rattle.hwdb_plan.specs.GivenFolders.{named_files};
 ghost use Rattle.hwdb_plan.specs.Plans.{Follows};
 ghost use Rattle.hwdb_plan.specs.Plans.Plan.{Done};
 ghost use Rattle.hwdb_tool.specs.Internal.{AreTextsGiven, AreWords};
-ghost use Rattle.hwdb_spec_program.specs.CheckedReasons.{HasCheckedReason, HasNamedReason};
-ghost use Rattle.hwdb_spec_commands.specs.GivenFolders.{IsNamedUnread};
-ghost use Rattle.hwdb_spec_commands.specs.Reasons.{HasFilesReason, IsFileReason};
 ghost use Rattle.hwdb_spec_commands.specs.Given.{any_dash};
 ghost use Rattle.hwdb_spec.specs.Texts.{max_file};
-ghost use Rattle.hwdb_spec_commands.specs.Undone.{AreNotChecked, AreUncheckable, IsCheckRefused, IsGivenUnread};
-ghost use Rattle.hwdb_spec_commands.specs.Reading.{AreUnread};
+ghost use Rattle.hwdb_spec_commands.specs.Undone.{AreNotChecked};
 ghost use Rattle.hwdb_tool.specs.Views.{end_of, texts_in};
 
 use crate::answer::Answer;
@@ -50,18 +45,7 @@ pub fn check<D: System, I: Source>(
         (I.failures input.new) (λ told. Follows end_of (D.System.reads system.now)
         (check_plan told (map string_bytes given.now) root.now
         (said_of format strict (map string_bytes allowed.now))) result) }
-    ensures checked { D.Store.tells → IfOk result (λ a. OnOut (λ text. IsChecked
-        (AreCheckedFiles (map string_bytes given.now) root.now (I.left input.old)
-        (D.Store.seen system.now)) format strict (map string_bytes allowed.now)
-        text a.status) (texts_in a)) }
-    ensures refused { D.Store.tells → IfErr result (IsCheckRefused
-        (AreUncheckable (map string_bytes given.now) root.now (D.Store.seen system.now))
-        (AreCheckedFiles (map string_bytes given.now) root.now (I.left input.old)
-        (D.Store.seen system.now))) }
     ensures unread { any_dash (map string_bytes given.now) ≡ false → input.new ≡ input.old }
-    ensures reason { D.Store.tells → IfErr result (HasCheckedReason (not (length given.now == 0))
-        (D.System.may_fail system.now) (D.Store.seen system.now) (I.left input.old)
-        (I.failures input.old) (I.failures input.new) (map string_bytes given.now)) }
 {
     if given.is_empty() {
         check_chosen(alloc, root, format, allowed, strict, system)
@@ -85,17 +69,7 @@ fn check_named<D: System, I: Source>(
         (named_files (map string_bytes given.now) [] (λ paths.
         given_files (map string_bytes given.now) told paths (λ sources.
         Done (said_of format strict (map string_bytes allowed.now) sources)))) result) }
-    ensures checked { D.Store.tells → IfOk result (λ a. OnOut (λ text. IsChecked
-        (AreNamedFiles (map string_bytes given.now) (I.left input.old) (D.Store.seen system.now))
-        format strict (map string_bytes allowed.now) text a.status) (texts_in a)) }
-    ensures refused { D.Store.tells → IfErr result (IsCheckRefused
-        (IsNamedUnread IsGivenUnread (D.Store.seen system.now) (map string_bytes given.now))
-        (AreNamedFiles (map string_bytes given.now) (I.left input.old)
-        (D.Store.seen system.now))) }
     ensures unread { any_dash (map string_bytes given.now) ≡ false → input.new ≡ input.old }
-    ensures reason { D.Store.tells → IfErr result (HasNamedReason
-        (D.System.may_fail system.now) (D.Store.seen system.now) (I.left input.old)
-        (I.failures input.old) (I.failures input.new) (map string_bytes given.now)) }
 {
     let paths = named_files(alloc, given, system)?;
     check_given(alloc, given, &paths, format, allowed, strict, system, input)
@@ -116,17 +90,7 @@ fn check_given<D: System, I: Source>(
         (I.failures input.new) (λ told. Follows end_of (D.System.reads system.now)
         (given_files (map string_bytes words.now) told (map string_bytes given.now)
         (λ sources. Done (said_of format strict (map string_bytes allowed.now) sources))) result) }
-    ensures checked { D.Store.tells → IfOk result (λ a. OnOut (λ text. IsChecked
-        (AreGivenFiles (map string_bytes given.now) (I.left input.old) (D.Store.seen system.now))
-        format strict (map string_bytes allowed.now) text a.status) (texts_in a)) }
-    ensures refused { D.Store.tells → IfErr result (IsCheckRefused
-        (IsGivenUnread (map string_bytes given.now))
-        (AreGivenFiles (map string_bytes given.now) (I.left input.old)
-        (D.Store.seen system.now))) }
     ensures unread { any_dash (map string_bytes given.now) ≡ false → input.new ≡ input.old }
-    ensures reason { D.Store.tells → IfErr result (HasFilesReason true
-        (map string_bytes given.now) (D.System.may_fail system.now) (D.Store.seen system.now)
-        (I.left input.old) (I.failures input.old) (I.failures input.new)) }
 {
     let texts = given_texts(alloc, words, given, system, input)?;
     let files = with_paths(alloc, given, &texts)?;
@@ -145,14 +109,6 @@ fn check_chosen<D: System>(
     ensures follows { D.Store.tells → Follows end_of (D.System.reads system.now)
         (texts_of_folders root.now (λ texts. Done (said_of format strict
         (map string_bytes allowed.now) (stored texts.chosen texts.texts)))) result }
-    ensures checked { D.Store.tells → IfOk result (λ a. OnOut (λ text. IsChecked
-        (AreChosenFiles root.now (D.Store.seen system.now)) format strict
-        (map string_bytes allowed.now) text a.status) (texts_in a)) }
-    ensures refused { D.Store.tells → IfErr result (IsCheckRefused
-        (AreUnread root.now (D.Store.seen system.now))
-        (AreChosenFiles root.now (D.Store.seen system.now))) }
-    ensures reason { D.Store.tells → IfErr result
-        (HasReason (D.System.may_fail system.now) ⊥ (D.Store.seen system.now)) }
 {
     let selection = selected(alloc, root, system)?;
     let paths = stored_paths(alloc, &selection.chosen)?;
@@ -229,9 +185,6 @@ pub fn read_given<D: System>(
         (map (λ t. t.items) texts.items)) }
     ensures within { length text.now ≤ max_file
         → IfOk result (λ texts. All (λ t. length t.items ≤ max_file) texts.items) }
-    ensures refused { IfErr result (IsGivenUnread (map string_bytes given.now)) }
-    ensures reason { D.Store.tells → IfErr result (IsFileReason (map string_bytes given.now)
-        (D.System.may_fail system.now) (D.Store.seen system.now)) }
 {
     let mut texts = Vec::new(alloc);
     let mut left = words;
@@ -262,11 +215,7 @@ pub fn given_texts<D: System, I: Source>(
         → AreFiles (map string_bytes given.now) (map (λ t. t.items) texts.items) sources
         → AreGivenFiles (map string_bytes given.now) (I.left input.old)
         (D.Store.seen system.now) sources) }
-    ensures refused { IfErr result (IsGivenUnread (map string_bytes given.now)) }
     ensures unread { any_dash (map string_bytes given.now) ≡ false → input.new ≡ input.old }
-    ensures reason { D.Store.tells → IfErr result (HasFilesReason true
-        (map string_bytes given.now) (D.System.may_fail system.now) (D.Store.seen system.now)
-        (I.left input.old) (I.failures input.old) (I.failures input.new)) }
 {
     let text = input_text(alloc, given, input)?;
     read_given(alloc, words, given, &text, system)

@@ -1,5 +1,5 @@
 //! Commands that are told: the one that makes a database anew, and the one that removes it.
-ghost use Rattle.std.specs.Prelude.{◌≡◌, ◌++◌, IfOk, OnOk, string_bytes};
+ghost use Rattle.std.specs.Prelude.{◌≡◌, ◌++◌, IfOk, OnOk};
 ghost use Rattle.hwdb_spec_commands.specs.Commands;
 ghost use Rattle.hwdb_spec_commands.specs.Commands.{no_option, root_words};
 

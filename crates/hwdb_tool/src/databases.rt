@@ -1,13 +1,10 @@
 //! The databases of both folders: where each is, and what is asked.
-ghost use Rattle.std.specs.Prelude.{◌≡◌, ◌≤◌, ◌++◌, Some, is_some, option_map, string_bytes, IfOk, IfErr, IfSome, length};
+ghost use Rattle.std.specs.Prelude.{◌≡◌, ◌≤◌, ◌++◌, Some, option_map, string_bytes, IfOk, IfSome, length};
 ghost use Rattle.hwdb_spec.specs.Store as spec;
 ghost use Rattle.hwdb_spec.specs.System as Folder;
 ghost use Rattle.hwdb_spec.specs.System.{asked_database, bytes_at};
 ghost use Rattle.hwdb_spec.specs.Texts.{max_file};
-ghost use Rattle.hwdb_spec_commands.specs.Refusals.{HasReason, IsOfDatabase, IsUnreadAt, IsUnreadable};
-ghost use Rattle.hwdb_spec_commands.specs.Asked.{IsNamedPath, named_database, IsAskedPath};
-ghost use Rattle.hwdb_spec_program.specs.NamedDatabases.{IsUnnamed};
-ghost use Rattle.hwdb_spec_commands.specs.Undone.{IsUnfound, IsUnreadableIf};
+ghost use Rattle.hwdb_spec_commands.specs.Refusals.{IsOfDatabase};
 ghost use Rattle.hwdb_spec_commands.specs.Told.{IsReadTo, IsStop};
 ghost use Rattle.hwdb_plan.specs.Asking.{asked, if_read, named};
 ghost use Rattle.hwdb_plan.specs.Dump.{database_stop};
@@ -38,14 +35,7 @@ pub fn asked<D: System>(alloc: Global, root: &str, system: &D) -> Result<FoundDa
         (D.System.reads system.now) (asked root.now) result }
     ensures asked { D.Store.tells → IfOk result
         (λ f. asked_database root.now (D.Store.seen system.now) ≡ Some f.bytes.items) }
-    ensures path { D.Store.tells → IfOk result
-        (λ f. IsAskedPath root.now (D.Store.seen system.now) (string_bytes f.path)) }
-    ensures held { D.Store.tells → IfOk result
-        (λ f. bytes_at (D.Store.seen system.now) (string_bytes f.path) ≡ Some f.bytes.items) }
     ensures within { IfOk result (λ f. length f.bytes.items ≤ max_file) }
-    ensures refused { D.Store.tells → IfErr result (IsUnfound root.now (D.Store.seen system.now)) }
-    ensures reason { IfErr result
-        (HasReason (D.System.may_fail system.now) ⊥ (D.Store.seen system.now)) }
 {
     if let Some(found) = found_in(alloc, root, ETC_FOLDER, system)? {
         return Ok(found);
@@ -72,13 +62,7 @@ pub(crate) fn found_in<D: System>(
         (spec.path_in (root.now ++ folder.now) spec.database_name)) }
     ensures path { IfOk result (λ found. IfSome found (λ f. string_bytes f.path
         ≡ spec.path_in (root.now ++ folder.now) spec.database_name)) }
-    ensures held { D.Store.tells → IfOk result (λ found. IfSome found
-        (λ f. bytes_at (D.Store.seen system.now) (string_bytes f.path) ≡ Some f.bytes.items)) }
     ensures within { IfOk result (λ found. IfSome found (λ f. length f.bytes.items ≤ max_file)) }
-    ensures refused { D.Store.tells → IfErr result (IsUnreadAt (D.Store.seen system.now)
-        (spec.path_in (root.now ++ folder.now) spec.database_name)) }
-    ensures reason { IfErr result
-        (HasReason (D.System.may_fail system.now) ⊥ (D.Store.seen system.now)) }
 {
     let path = database_path(alloc, root, folder)?;
     match system.database(alloc, path.as_str())? {
@@ -106,20 +90,7 @@ pub fn named<D: System>(
     ensures follows { D.Store.tells → Reaches (λ f. string_bytes f.path) (λ f. f.bytes.items)
         (D.System.reads system.now) (named (option_map (λ t. t.now) given.entry) root.now)
         result }
-    ensures named { D.Store.tells → IfOk result
-        (λ f. named_database (option_map (λ t. t.now) given.entry) root.now
-        (D.Store.seen system.now) ≡ Some f.bytes.items) }
-    ensures path { D.Store.tells → IfOk result
-        (λ f. IsNamedPath (option_map (λ t. t.now) given.entry) root.now (D.Store.seen system.now)
-        (string_bytes f.path)) }
-    ensures held { D.Store.tells → IfOk result
-        (λ f. bytes_at (D.Store.seen system.now) (string_bytes f.path) ≡ Some f.bytes.items) }
     ensures within { IfOk result (λ f. length f.bytes.items ≤ max_file) }
-    ensures refused { D.Store.tells → IfErr result (IsUnnamed (option_map (λ t. t.now) given.entry)
-        root.now (D.Store.seen system.now)) }
-    ensures reason { IfErr result (HasReason
-        (IsUnreadableIf (is_some (option_map (λ t. t.now) given.entry))
-        (D.System.may_fail system.now) (D.Store.seen system.now)) ⊥ (D.Store.seen system.now)) }
 {
     match given {
         None => asked(alloc, root, system),
@@ -131,17 +102,7 @@ pub fn named<D: System>(
 fn given_at<D: System>(alloc: Global, path: &str, system: &D) -> Result<FoundDatabase, Refusal>
     ensures follows { D.Store.tells → Reaches (λ f. string_bytes f.path) (λ f. f.bytes.items)
         (D.System.reads system.now) (λ next. Input path.now (if_read path.now next)) result }
-    ensures bytes { D.Store.tells → IfOk result
-        (λ f. bytes_at (D.Store.seen system.now) path.now ≡ Some f.bytes.items) }
-    ensures path { IfOk result (λ f. string_bytes f.path ≡ path.now) }
-    ensures held { D.Store.tells → IfOk result
-        (λ f. bytes_at (D.Store.seen system.now) (string_bytes f.path) ≡ Some f.bytes.items) }
     ensures within { IfOk result (λ f. length f.bytes.items ≤ max_file) }
-    ensures refused { D.Store.tells → IfErr result
-        (IsUnreadAt (D.Store.seen system.now) path.now) }
-    ensures reason { IfErr result (HasReason
-        (IsUnreadable (D.System.may_fail system.now) (D.Store.seen system.now)) ⊥
-        (D.Store.seen system.now)) }
 {
     let bytes = system.input(alloc, path)?;
     let path = String::from_str(alloc, path)?;

@@ -1,23 +1,19 @@
 //! `device`: what udev asks for a device, and what that gets; or a line for each device. Nothing is written.
 ghost use Rattle.std.specs.Prelude.{◌≡◌, ◌++◌, [], Some, option_map, IfErr, IfOk, OnOk};
 ghost use Rattle.std.specs.Option.{option_map_or};
-ghost use Rattle.hwdb_spec_commands.specs.Asked.{IsAnswered};
 ghost use Rattle.hwdb_spec_commands.specs.Databases.{IsTextOf};
 ghost use Rattle.hwdb_spec_commands.specs.DeviceAsked as spec;
-ghost use Rattle.hwdb_spec_commands.specs.DeviceAsked.{IsDevicePrinted, IsOfDevice, device_list, device_meant, link_row, unread_row};
+ghost use Rattle.hwdb_spec_commands.specs.DeviceAsked.{device_list, device_meant, link_row, unread_row};
 ghost use Rattle.hwdb_spec_commands.specs.DeviceTexts as texts;
 ghost use Rattle.hwdb_spec_commands.specs.DeviceTree as tree;
-ghost use Rattle.hwdb_spec_commands.specs.Runs.{OnOut};
 ghost use Rattle.hwdb_spec_commands.specs.SysfsAnswers.{sight_by};
 ghost use Rattle.hwdb_sysfs.specs.Views.{device_of};
 ghost use Rattle.hwdb_spec_commands.specs.DatabaseErrors.{IsDatabaseRefusal};
-ghost use Rattle.hwdb_spec_commands.specs.Refusals.{HasReason};
-ghost use Rattle.hwdb_spec_program.specs.DeviceErrors.{IsDeviceRefused, IsNoSysfs, IsUnmeant, IsWorded, asked_names};
-ghost use Rattle.hwdb_spec_commands.specs.Undone.{IsUnanswered};
+ghost use Rattle.hwdb_spec_program.specs.DeviceErrors.{IsUnmeant, IsWorded, asked_names};
 ghost use Rattle.hwdb_plan.specs.Asking.{asked};
 ghost use Rattle.hwdb_plan.specs.Device.{OfCause, device_answer, device_plan, devices_plan, meant_plan};
 ghost use Rattle.hwdb_plan.specs.Plans.{Follows};
-ghost use Rattle.hwdb_tool.specs.Views.{end_of, texts_in};
+ghost use Rattle.hwdb_tool.specs.Views.{end_of};
 
 use crate::answer::Answer;
 use crate::databases::{asked, refused_database};
@@ -60,14 +56,6 @@ pub fn device<D: Machine>(
     ensures follows { D.Store.tells → OfCause (λ cause. Follows end_of
         (D.System.reads system.now) (device_plan (sight_by D.answers system.now) cause
         asked_names root.now form (option_map (λ t. t.now) given.entry)) result) }
-    ensures printed { D.Store.tells → IfOk result (λ a. OnOut (IsDevicePrinted form asked_names
-        root.now (option_map (λ t. t.now) given.entry) (sight_by D.answers system.now)
-        (D.Store.seen system.now)) (texts_in a)) }
-    ensures refused { D.Store.tells → IfErr result (IsDeviceRefused root.now
-        (option_map (λ t. t.now) given.entry) (sight_by D.answers system.now)
-        (D.Store.seen system.now)) }
-    ensures reason { IfErr result
-        (HasReason (D.System.may_fail system.now) ⊥ (D.Store.seen system.now)) }
 {
     match given {
         None => listed(alloc, root, system),
@@ -86,13 +74,6 @@ fn listed<D: Machine>(alloc: Global, root: &str, system: &D) -> Result<Answer, R
     ensures follows { D.Store.tells → OfCause (λ cause. Follows end_of
         (D.System.reads system.now)
         (devices_plan (sight_by D.answers system.now) cause asked_names root.now) result) }
-    ensures printed { D.Store.tells → IfOk result (λ a. OnOut (λ text. option_map
-        (device_list (sight_by D.answers system.now) asked_names)
-        (tree.sysfs_below (sight_by D.answers system.now) root.now) ≡ Some text) (texts_in a)) }
-    ensures refused { D.Store.tells → IfErr result
-        (IsNoSysfs root.now (sight_by D.answers system.now)) }
-    ensures reason { IfErr result
-        (HasReason (D.System.may_fail system.now) ⊥ (D.Store.seen system.now)) }
 {
     devices_are_told(system);
     let sys = sysfs_of(alloc, root, system)?;
@@ -195,12 +176,6 @@ fn shown<D: Machine>(
     ensures follows { D.Store.tells → OfCause (λ cause. Follows end_of
         (D.System.reads system.now) (meant_plan (sight_by D.answers system.now) cause
         asked_names root.now given.now form) result) }
-    ensures printed { D.Store.tells → IfOk result (λ a. OnOut (IsOfDevice form asked_names root.now
-        given.now (sight_by D.answers system.now) (D.Store.seen system.now)) (texts_in a)) }
-    ensures refused { D.Store.tells → IfErr result (IsDeviceRefused root.now (Some given.now)
-        (sight_by D.answers system.now) (D.Store.seen system.now)) }
-    ensures reason { IfErr result
-        (HasReason (D.System.may_fail system.now) ⊥ (D.Store.seen system.now)) }
 {
     devices_are_told(system);
     let device = device_read(alloc, root, given, system)?;
@@ -237,13 +212,6 @@ fn answered<D: System>(
     ensures status { IfOk result (λ a. a.status ≡ 0) }
     ensures follows { D.Store.tells → Follows end_of (D.System.reads system.now)
         (asked root.now (device_answer form (device_of device.now))) result }
-    ensures printed { D.Store.tells → IfOk result (λ a. OnOut (IsAnswered root.now
-        (IsTextOf (texts.device_text form (device_of device.now)))
-        (D.Store.seen system.now)) (texts_in a)) }
-    ensures refused { D.Store.tells → IfErr result
-        (IsUnanswered root.now (D.Store.seen system.now)) }
-    ensures reason { IfErr result
-        (HasReason (D.System.may_fail system.now) ⊥ (D.Store.seen system.now)) }
 {
     let found = asked(alloc, root, system)?;
     match text_over(alloc, &found.bytes, device, form) {

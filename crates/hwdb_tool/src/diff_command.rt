@@ -9,15 +9,14 @@ ghost use Rattle.hwdb_spec_commands.specs.Given.{any_dash, is_dash};
 ghost use Rattle.hwdb_spec_program.specs.GivenDatabases.{names_twice, twice_text};
 ghost use Rattle.hwdb_spec_commands.specs.Refusals.{IsInWords};
 ghost use Rattle.hwdb_spec_commands.specs.Undone.{told_path};
-ghost use Rattle.hwdb_spec_commands.specs.Runs.{OnOut};
-ghost use Rattle.hwdb_spec_program.specs.ComparedDatabases.{HasDiffReason, IsCompared, IsDiffed, IsDiffRefused, IsOfDiff};
+ghost use Rattle.hwdb_spec_program.specs.ComparedDatabases.{IsOfDiff};
 ghost use Rattle.hwdb_spec.specs.Texts.{devices_of};
 ghost use Rattle.hwdb_spec_commands.specs.Told.{IsStop};
 ghost use Rattle.hwdb_plan.specs.Diff.{change_of, diff_plan, diff_stop, once, sides_compared};
 ghost use Rattle.hwdb_plan.specs.Files.{OfInput};
 ghost use Rattle.hwdb_plan.specs.Plans.{Follows};
-ghost use Rattle.hwdb_tool.specs.SideSteps.{IsOneDash, IsPairError};
-ghost use Rattle.hwdb_tool.specs.Views.{end_of, texts_in};
+ghost use Rattle.hwdb_tool.specs.SideSteps.{IsOneDash};
+ghost use Rattle.hwdb_tool.specs.Views.{end_of};
 
 use crate::answer::Answer;
 use crate::check_command::{given_texts, with_paths};
@@ -57,16 +56,8 @@ pub fn diff<D: TextsBelow, I: Source>(
         (once (names_twice (map string_bytes given.now) old_path.now new_path.now) twice_text
         (diff_plan told (map string_bytes given.now) old_path.now new_path.now
         (change_of stat json))) result) }
-    ensures diffed { D.Store.tells → IfOk result (λ a. OnOut (λ text. IsDiffed stat json
-        (map string_bytes given.now) old_path.now new_path.now (I.left input.old)
-        (D.Store.seen system.now) text a.status) (texts_in a)) }
-    ensures refused { D.Store.tells → IfErr result (IsDiffRefused (map string_bytes given.now)
-        old_path.now new_path.now (I.left input.old) (D.Store.seen system.now)) }
     ensures unread { any_dash (old_path.now ∷ new_path.now ∷ map string_bytes given.now) ≡ false
         → input.new ≡ input.old }
-    ensures reason { D.Store.tells → IfErr result (HasDiffReason (map string_bytes given.now)
-        old_path.now new_path.now (D.System.may_fail system.now) (D.Store.seen system.now)
-        (I.left input.old) (I.failures input.old) (I.failures input.new)) }
 {
     if names_twice(given, old_path, new_path) {
         return Err(refused_twice(alloc));
@@ -112,15 +103,6 @@ fn compared<D: TextsBelow, I: Source>(
         (λ told. Follows end_of (D.System.reads system.now)
         (sides_compared told old_path.now new_path.now
         (change_of stat json (map source_of files.now))) result) }
-    ensures compared { D.Store.tells → IsOneDash old_path.now new_path.now
-        → IfOk result (λ a. OnOut (λ text. IsCompared
-        (comparison_form stat json (devices_named (map source_of files.now)))
-        (has_changed (devices_named (map source_of files.now))) old_path.now new_path.now
-        (I.left input.old) (D.Store.seen system.now) text a.status) (texts_in a)) }
-    ensures refused { D.Store.tells → IsOneDash old_path.now new_path.now
-        → IfErr result (IsPairError (D.System.may_fail system.now) (D.Store.seen system.now)
-        (I.left input.old) (I.failures input.old) (I.failures input.new)
-        old_path.now new_path.now) }
     ensures unread { is_dash old_path.now ≡ false → is_dash new_path.now ≡ false
         → input.new ≡ input.old }
 {

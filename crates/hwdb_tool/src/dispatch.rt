@@ -11,9 +11,9 @@ ghost use Rattle.hwdb_spec_commands.specs.WordFaults.{AreWrong};
 ghost use Rattle.hwdb_spec_program.specs.Words.{AskFor};
 ghost use Rattle.hwdb_spec_commands.specs.declared.job.Job.{Job};
 ghost use Rattle.hwdb_spec_commands.specs.declared.job.Task.TheVariants.{Update};
-ghost use Rattle.hwdb_spec_program.specs.Program.{IsDone, IsTaskDone, IsUpdate, OldOrAskedFor, OldOrDone, looks_below_root, reads_input, root_of};
+ghost use Rattle.hwdb_spec_program.specs.Program.{IsUpdate, OldOrAskedFor, OldOrDone, looks_below_root, reads_input, root_of};
 ghost use Rattle.hwdb_spec_program.specs.ProgramPlan.{OldOrAsked, RunsPlan, ShowsPlan, files_plan, program_plan, update_of};
-ghost use Rattle.hwdb_spec_program.specs.TaskRefusals.{HasFailedWith, HasSucceeded, IsJobNotDone, IsNotDone, IsRootUnread, IsSaid, refused_status};
+ghost use Rattle.hwdb_spec_program.specs.TaskRefusals.{AreFaulty, AreRefused, AreTold, IsRootUnread, IsSaid, refused_status};
 ghost use Rattle.hwdb_spec_commands.specs.Refusals.{HasReason};
 ghost use Rattle.hwdb_spec_commands.specs.declared.refusals.Refusal.TheVariants.{Plain};
 ghost use Rattle.hwdb_tool.specs.Updating.{UpdatesAsAsked};
@@ -67,24 +67,24 @@ pub fn program<D: Machine, I: Source, O: Outlet, E: Sink>(
         × spec.LeavesOnly D.Store.moment D.Store.left_since system.old system.new
         (OldOrAsked (update_of (map string_bytes words.now)) (D.System.reads system.old) causes
         (D.Store.seen system.old) (D.Store.may_leave system.old)) }
+    ensures told { D.Store.tells → AreFaulty (map string_bytes words.now) → result ≡ 0
+        → let world = world_by (sight_by D.answers)
+        (files_by D.Store.seen D.System.may_fail D.Store.may_leave D.Store.failures)
+        (told_by I.left I.failures) (told_by O.Sink.taken O.Sink.failures)
+        (told_by E.taken E.failures) in AreTold (O.reader_gone out.new) (map string_bytes words.now)
+        (world system.old input.old out.old err.old) (world system.new input.new out.new err.new) }
+    ensures untold { D.Store.tells → AreFaulty (map string_bytes words.now) → 0 < result
+        → let world = world_by (sight_by D.answers)
+        (files_by D.Store.seen D.System.may_fail D.Store.may_leave D.Store.failures)
+        (told_by I.left I.failures) (told_by O.Sink.taken O.Sink.failures)
+        (told_by E.taken E.failures) in AreRefused (map string_bytes words.now) result
+        (world system.old input.old out.old err.old) (world system.new input.new out.new err.new) }
     ensures any_moment { D.Store.tells
         → spec.LeavesOnly D.Store.moment D.Store.left_since system.old system.new
         (OldOrAskedFor (D.System.may_fail system.old) (map string_bytes words.now)
         (D.Store.seen system.old) (D.Store.may_leave system.old)) }
     ensures unread { ((job : Job) → AskFor (map string_bytes words.now) job
         → reads_input job.task ≡ false) → input.new ≡ input.old }
-    ensures done { D.Store.tells → result ≡ 0 → let world = world_by (sight_by D.answers)
-        (files_by D.Store.seen D.System.may_fail D.Store.may_leave D.Store.failures)
-        (told_by I.left I.failures) (told_by O.Sink.taken O.Sink.failures)
-        (told_by E.taken E.failures) in HasSucceeded (O.reader_gone out.old) (O.reader_gone out.new)
-        (map string_bytes words.now) (world system.old input.old out.old err.old)
-        (world system.new input.new out.new err.new) }
-    ensures refused { D.Store.tells → 0 < result → let world = world_by (sight_by D.answers)
-        (files_by D.Store.seen D.System.may_fail D.Store.may_leave D.Store.failures)
-        (told_by I.left I.failures) (told_by O.Sink.taken O.Sink.failures)
-        (told_by E.taken E.failures) in HasFailedWith (map string_bytes words.now) result
-        (world system.old input.old out.old err.old)
-        (world system.new input.new out.new err.new) }
     ensures out_hands_on { HandsOn (O.Sink.is_flushed out.old) (O.Sink.is_flushed out.new)
         (O.Sink.failures out.old) (O.Sink.failures out.new) }
     ensures err_handed_on { HasHandedOn (E.is_flushed err.old) (E.is_flushed err.new)
@@ -220,18 +220,6 @@ fn run_job<D: Machine, I: Source, O: Sink, E: Sink>(
     ensures unread { reads_input job.now.task ≡ false → input.new ≡ input.old }
     ensures kept { (IsUpdate job.now.task → ⊥) → system.new ≡ system.old }
     ensures update { IsUpdate job.now.task → out.new ≡ out.old }
-    ensures done { D.Store.tells → let world = world_by (sight_by D.answers)
-        (files_by D.Store.seen D.System.may_fail D.Store.may_leave D.Store.failures)
-        (told_by I.left I.failures) (told_by O.taken O.failures) (told_by E.taken E.failures) in
-        IfOk result (λ status. IsDone job.now status
-        (world system.old input.old out.old err.old)
-        (world system.new input.new out.new err.new)) }
-    ensures refused { D.Store.tells → let world = world_by (sight_by D.answers)
-        (files_by D.Store.seen D.System.may_fail D.Store.may_leave D.Store.failures)
-        (told_by I.left I.failures) (told_by O.taken O.failures) (told_by E.taken E.failures) in
-        IfErr result (IsJobNotDone job.now
-        (world system.old input.old out.old err.old)
-        (world system.new input.new out.new err.new)) }
     ensures out_hands_on { HandsOn (O.is_flushed out.old) (O.is_flushed out.new)
         (O.failures out.old) (O.failures out.new) }
     ensures err_hands_on { HandsOn (E.is_flushed err.old) (E.is_flushed err.new)
@@ -277,18 +265,6 @@ pub fn run<D: Machine, I: Source, O: Sink, E: Sink>(
     ensures unread { reads_input job.now.task ≡ false → input.new ≡ input.old }
     ensures kept { (IsUpdate job.now.task → ⊥) → system.new ≡ system.old }
     ensures update { IsUpdate job.now.task → out.new ≡ out.old }
-    ensures done { D.Store.tells → let world = world_by (sight_by D.answers)
-        (files_by D.Store.seen D.System.may_fail D.Store.may_leave D.Store.failures)
-        (told_by I.left I.failures) (told_by O.taken O.failures) (told_by E.taken E.failures) in
-        IfOk result (λ status. IsTaskDone job.now.task (root_of job.now) job.now.usr
-        job.now.strict status (world system.old input.old out.old err.old)
-        (world system.new input.new out.new err.new)) }
-    ensures refused { D.Store.tells → let world = world_by (sight_by D.answers)
-        (files_by D.Store.seen D.System.may_fail D.Store.may_leave D.Store.failures)
-        (told_by I.left I.failures) (told_by O.taken O.failures) (told_by E.taken E.failures) in
-        IfErr result (IsNotDone job.now.task (root_of job.now) job.now.usr
-        job.now.strict (world system.old input.old out.old err.old)
-        (world system.new input.new out.new err.new)) }
     ensures unfailed { OnOk result (O.failures out.new ≡ O.failures out.old) }
     ensures out_hands_on { HandsOn (O.is_flushed out.old) (O.is_flushed out.new)
         (O.failures out.old) (O.failures out.new) }

@@ -1,22 +1,15 @@
 //! `dump`: a database that is read and printed as a text file.
-ghost use Rattle.std.specs.Prelude.{◌≡◌, ℕ, [], false, true, List, Some, is_some, option_map, IfOk, IfErr};
-ghost use Rattle.hwdb_spec_commands.specs.Databases.{IsSayable, IsTextOf};
-ghost use Rattle.hwdb_spec_commands.specs.Dump.{dump_text};
-ghost use Rattle.hwdb_spec_commands.specs.DumpErrors.{IsDumpRefusal};
-ghost use Rattle.hwdb_spec_commands.specs.Refusals.{HasReason, IsInWords};
-ghost use Rattle.hwdb_spec_program.specs.GivenDatabases.{HasDatabaseReason, OfGiven, OfNamed, names_input};
-ghost use Rattle.hwdb_spec_program.specs.NamedDatabases.{IsDumpRefused, IsOfDump};
-ghost use Rattle.hwdb_tool.specs.Internal.{IsInputReason};
-ghost use Rattle.hwdb_tool.specs.Views.{end_of, texts_in};
-ghost use Rattle.hwdb_spec.specs.Store.{Contents};
+ghost use Rattle.std.specs.Prelude.{◌≡◌, ℕ, false, List, Some, option_map, IfOk};
+ghost use Rattle.hwdb_spec_commands.specs.Refusals.{IsInWords};
+ghost use Rattle.hwdb_spec_program.specs.GivenDatabases.{names_input};
+ghost use Rattle.hwdb_spec_program.specs.NamedDatabases.{IsOfDump};
+ghost use Rattle.hwdb_tool.specs.Views.{end_of};
 ghost use Rattle.hwdb_spec_commands.specs.Told.{IsStop, Reads};
 ghost use Rattle.hwdb_spec_commands.specs.Told.Stop.{Says};
 ghost use Rattle.hwdb_plan.specs.Dump.{dump_plan, dump_stop, text_form};
 ghost use Rattle.hwdb_plan.specs.Input.{OverInput, OverNamed};
 ghost use Rattle.hwdb_plan.specs.Plans.{Follows};
-ghost use Rattle.hwdb_spec_commands.specs.Asked.{IsDumped, unsayable_text};
-ghost use Rattle.hwdb_spec_commands.specs.Runs.{OnOut};
-ghost use Rattle.hwdb_spec_commands.specs.Undone.{IsUnreadableIf};
+ghost use Rattle.hwdb_spec_commands.specs.Asked.{unsayable_text};
 ghost use Rattle.hwdb_spec.specs.declared.errors.DumpError.{DumpError};
 
 use crate::answer::Answer;
@@ -47,16 +40,6 @@ pub fn dump<D: System, I: Source>(
         (λ given reads. Follows end_of reads (dump_plan given root.now) result) }
     ensures unread { names_input (option_map (λ t. t.now) given.entry) ≡ false
         → input.new ≡ input.old }
-    ensures dumped { D.Store.tells → IfOk result (λ a. OnOut
-        (λ text. OfNamed (option_map (λ t. t.now) given.entry) (I.left input.old)
-        (D.Store.seen system.now) (λ given seen. IsDumped given root.now seen text))
-        (texts_in a)) }
-    ensures refused { D.Store.tells → IfErr result
-        (λ r. OfNamed (option_map (λ t. t.now) given.entry) (I.left input.old)
-        (D.Store.seen system.now) (λ given seen. IsDumpRefused given root.now seen r)) }
-    ensures reason { IfErr result (HasDatabaseReason (option_map (λ t. t.now) given.entry)
-        (D.System.may_fail system.now) (D.Store.seen system.now)
-        (I.left input.old) (I.failures input.old) (I.failures input.new)) }
 {
     if names_input(given) {
         dump_input(alloc, input)
@@ -71,14 +54,6 @@ fn dump_input<I: Source>(alloc: Global, input: &mut I) -> Result<Answer, Refusal
     ensures follows { (root : List ℕ) (reads : Reads) → OverInput
         (I.left input.old) (I.failures input.old) (I.failures input.new) reads
         (λ path reads. Follows end_of reads (dump_plan (Some path) root) result) }
-    ensures dumped { (root : List ℕ) (seen : Contents) → IfOk result (λ a. OnOut
-        (λ text. OfGiven true [] (I.left input.old) seen
-        (λ path seen. IsDumped (Some path) root seen text)) (texts_in a)) }
-    ensures refused { (root : List ℕ) (seen : Contents) → IfErr result
-        (λ r. OfGiven true [] (I.left input.old) seen
-        (λ path seen. IsDumpRefused (Some path) root seen r)) }
-    ensures reason { IfErr result (IsInputReason
-        (I.left input.old) (I.failures input.old) (I.failures input.new)) }
 {
     let bytes = read_input(alloc, input)?;
     texted(alloc, INPUT, &bytes)
@@ -95,15 +70,6 @@ fn dump_stored<D: System>(
     ensures status { IfOk result (λ a. a.status ≡ 0) }
     ensures follows { D.Store.tells → Follows end_of (D.System.reads system.now)
         (dump_plan (option_map (λ t. t.now) given.entry) root.now) result }
-    ensures dumped { D.Store.tells → IfOk result (λ a. OnOut
-        (IsDumped (option_map (λ t. t.now) given.entry) root.now (D.Store.seen system.now))
-        (texts_in a)) }
-    ensures refused { D.Store.tells → IfErr result
-        (IsDumpRefused (option_map (λ t. t.now) given.entry) root.now
-        (D.Store.seen system.now)) }
-    ensures reason { IfErr result (HasReason
-        (IsUnreadableIf (is_some (option_map (λ t. t.now) given.entry))
-        (D.System.may_fail system.now) (D.Store.seen system.now)) ⊥ (D.Store.seen system.now)) }
 {
     let found = named(alloc, root, given, system)?;
     texted(alloc, found.path.as_bytes(), &found.bytes)
@@ -113,10 +79,6 @@ fn dump_stored<D: System>(
 fn texted(alloc: Global, path: &[u8], bytes: &[u8]) -> Result<Answer, Refusal>
     ensures status { IfOk result (λ a. a.status ≡ 0) }
     ensures follows { (reads : Reads) → Follows end_of reads (text_form path.now bytes.now) result }
-    ensures texted { IfOk result (λ a. OnOut (IsTextOf dump_text bytes.now) (texts_in a)) }
-    ensures sayable { IfOk result (λ _. IsSayable bytes.now) }
-    ensures refused { IfErr result (λ r. (error : DumpError)
-        × IsOfDump error path.now r × IsDumpRefusal bytes.now error) }
 {
     law_one_tree();
     match hwdb_databases::dump(alloc, bytes) {

@@ -1,11 +1,10 @@
 //! What `update` says if there are no text files: which database that may assign something is replaced by an empty one, or hidden by it.
-ghost use Rattle.std.specs.Prelude.{◌≡◌, ◌≤◌, ◌++◌, [], List, Some, codes, false, length, option_map, true, IfErr, IfOk, IfSome, OnOk};
+ghost use Rattle.std.specs.Prelude.{◌≡◌, ◌≤◌, ◌++◌, [], List, Some, codes, false, length, option_map, true, IfOk, IfSome, OnOk};
 ghost use Rattle.hwdb_spec_commands.specs.Asked;
 ghost use Rattle.hwdb_spec_commands.specs.Commands.{removing_words, update_words};
 ghost use Rattle.hwdb_spec_commands.specs.Emptied;
-ghost use Rattle.hwdb_spec_commands.specs.Emptied.{IsLoss, IsLossOf, IsLossUnseen, IsLost, IsOneUnseen, line_if};
+ghost use Rattle.hwdb_spec_commands.specs.Emptied.{IsLost, line_if};
 ghost use Rattle.hwdb_spec.specs.Folders.{Choice};
-ghost use Rattle.hwdb_spec_commands.specs.Refusals.{HasReason, IsUnreadAt};
 ghost use Rattle.hwdb_plan.specs.Plans.{ReachesValue};
 ghost use Rattle.hwdb_plan.specs.Update.{loss_of, lost_in};
 ghost use Rattle.hwdb_plan.specs.Lemmas.Update.{IsLostBy, IsLostIf};
@@ -71,15 +70,8 @@ fn is_lost_in<D: System>(
 ) -> Result<bool, Refusal>
     ensures follows { D.Store.tells → ReachesValue (λ lost. lost) (D.System.reads system.now)
         (lost_in (spec.path_in (root.now ++ folder.now) spec.database_name)) result }
-    ensures lost { D.Store.tells → IfOk result (λ lost. IsLost
-        (bytes_at (D.Store.seen system.now)
-        (spec.path_in (root.now ++ folder.now) spec.database_name)) lost) }
     ensures within { D.Store.tells → OnOk result (IfSome (bytes_at (D.Store.seen system.now)
         (spec.path_in (root.now ++ folder.now) spec.database_name)) (λ b. length b ≤ max_file)) }
-    ensures refused { D.Store.tells → IfErr result (IsUnreadAt (D.Store.seen system.now)
-        (spec.path_in (root.now ++ folder.now) spec.database_name)) }
-    ensures reason { IfErr result
-        (HasReason (D.System.may_fail system.now) ⊥ (D.Store.seen system.now)) }
 {
     let found = found_in(alloc, root, folder, system)?;
     let lost = is_lost_if(alloc, &found)?;
@@ -224,12 +216,6 @@ fn loss_of_empty<D: System>(
 ) -> Result<Vec<u8>, Refusal>
     ensures follows { D.Store.tells → ReachesValue (λ text. text.items)
         (D.System.reads system.now) (loss_of [] root.now usr) result }
-    ensures loss { D.Store.tells → IfOk result
-        (λ text. IsLoss root.now usr (D.Store.seen system.now) text.items) }
-    ensures refused { D.Store.tells
-        → IfErr result (IsOneUnseen root.now (D.Store.seen system.now)) }
-    ensures reason { IfErr result
-        (HasReason (D.System.may_fail system.now) ⊥ (D.Store.seen system.now)) }
 {
     let etc_lost = is_lost_in(alloc, root, ETC_FOLDER, system)?;
     let usr_lost = is_lost_in(alloc, root, USR_FOLDER, system)?;
@@ -248,12 +234,6 @@ pub(crate) fn loss_if<D: System>(
     ensures follows { (chosen : List Choice) → bare ≡ is_bare chosen → D.Store.tells
         → ReachesValue (λ text. text.items) (D.System.reads system.now)
         (loss_of chosen root.now usr) result }
-    ensures loss { (chosen : List Choice) → bare ≡ is_bare chosen → D.Store.tells → IfOk result
-        (λ text. IsLossOf chosen root.now usr (D.Store.seen system.now) text.items) }
-    ensures refused { (chosen : List Choice) → bare ≡ is_bare chosen → D.Store.tells
-        → IfErr result (IsLossUnseen chosen root.now (D.Store.seen system.now)) }
-    ensures reason { IfErr result
-        (HasReason (D.System.may_fail system.now) ⊥ (D.Store.seen system.now)) }
 {
     if bare {
         loss_of_empty(alloc, root, usr, system)

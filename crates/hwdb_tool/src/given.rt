@@ -1,20 +1,17 @@
 //! The files that words name: `-` is standard input, which is read once.
 ghost use Rattle.std.specs.Prelude.{◌≡◌, ◌≤◌, ◌⊎◌, ℕ, List, Result, Some, true, false, codes, map, option_map, string_bytes, length, IfOk, IfErr, IfSome, MatchResult};
-ghost use Rattle.hwdb_spec_commands.specs.Given.{IsGiven, is_dash, any_dash};
-ghost use Rattle.hwdb_spec.specs.System.{bytes_at};
+ghost use Rattle.hwdb_spec_commands.specs.Given.{is_dash, any_dash};
 ghost use Rattle.hwdb_spec.specs.Errors.{refusal_of_read};
 ghost use Rattle.hwdb_spec_program.specs.GivenDatabases.{names_input};
-ghost use Rattle.hwdb_spec_commands.specs.Refusals.{HasReason, IsAt, IsUnread, IsUnreadAt, IsUnreadable};
+ghost use Rattle.hwdb_spec_commands.specs.Refusals.{IsAt, IsUnreadAt};
 ghost use Rattle.hwdb_spec_commands.specs.Told.{IsReadTo, IsStop, unread_stop};
 ghost use Rattle.hwdb_spec_commands.specs.declared.unread.Unread.{Unread};
 ghost use Rattle.hwdb_spec_commands.specs.declared.unread.Unread.TheVariants.{Failed};
 ghost use Rattle.hwdb_plan.specs.Input.{IsInputTold, OverGiven};
 ghost use Rattle.hwdb_plan.specs.Files.{IsInputText, OfInput, file_told};
 ghost use Rattle.hwdb_tool.specs.Internal.{bytes_given, input_stop};
-ghost use Rattle.hwdb_spec_commands.specs.Queries.{IsOfWholeInput, IsWholeInputUnread};
-ghost use Rattle.hwdb_spec_commands.specs.Reasons.{HasGivenReason};
+ghost use Rattle.hwdb_spec_commands.specs.Queries.{IsOfWholeInput};
 ghost use Rattle.hwdb_spec.specs.Texts.{max_file};
-ghost use Rattle.hwdb_spec_commands.specs.Undone.{IsGivenUnread, IsUnreadGiven, told_path};
 ghost use Rattle.hwdb_spec_commands.specs.declared.refusals.Refusal.TheVariants.{Plain};
 
 use hwdb_answers::ToolError;
@@ -94,12 +91,7 @@ pub fn read_input<I: Source>(alloc: Global, input: &mut I) -> Result<Vec<u8>, Re
     ensures told { (answer : Result (List ℕ) Unread) × IsInputTold
         (I.left input.old) (I.failures input.old) (I.failures input.new) answer
         × IsReadTo (λ v. v.items) answer (codes "standard input") result }
-    ensures whole { IfOk result
-        (λ text. IfSome (I.left input.old) (λ told. text.items ≡ told)) }
     ensures within { IfOk result (λ text. length text.items ≤ max_file) }
-    ensures refused { IfErr result (IsUnread (codes "standard input")) }
-    ensures reason { IfErr result (λ r. (r ≡ Plain ToolError.Memory)
-        ⊎ IsWholeInputUnread (I.left input.old) (I.failures input.old) (I.failures input.new) r) }
 {
     match read_all(alloc, input, MAX_BYTES) {
         Ok(text) => Ok(text),
@@ -118,15 +110,8 @@ pub fn read<D: System, I: Source>(
         (I.left input.old) (I.failures input.old) (I.failures input.new)
         (D.System.reads system.now)
         (λ at reads. IsReadTo (λ v. v.items) (reads.input at) at result) }
-    ensures read { D.Store.tells → IfOk result (λ bytes.
-        IsGiven path.now (I.left input.old) (D.Store.seen system.now) bytes.items) }
     ensures within { IfOk result (λ bytes. length bytes.items ≤ max_file) }
-    ensures refused { D.Store.tells → IfErr result
-        (IsUnreadGiven (is_dash path.now) path.now (D.Store.seen system.now)) }
     ensures untouched { is_dash path.now ≡ false → input.new ≡ input.old }
-    ensures reason { IfErr result (HasGivenReason (is_dash path.now)
-        (D.System.may_fail system.now) (D.Store.seen system.now)
-        (I.left input.old) (I.failures input.old) (I.failures input.new)) }
 {
     if is_dash(path) {
         read_input(alloc, input)
@@ -146,11 +131,7 @@ pub fn input_text<I: Source>(
     ensures whole { IfOk result (λ text. any_dash (map string_bytes given.now) ≡ true
         → IfSome (I.left input.old) (λ told. text.items ≡ told)) }
     ensures within { IfOk result (λ text. length text.items ≤ max_file) }
-    ensures refused { IfErr result (IsGivenUnread (map string_bytes given.now)) }
     ensures untouched { any_dash (map string_bytes given.now) ≡ false → input.new ≡ input.old }
-    ensures reason { IfErr result (λ r. (r ≡ Plain ToolError.Memory)
-        ⊎ ((any_dash (map string_bytes given.now) ≡ true)
-        × IsWholeInputUnread (I.left input.old) (I.failures input.old) (I.failures input.new) r)) }
 {
     if any_dash(given) {
         read_input(alloc, input)
@@ -168,15 +149,9 @@ fn file_bytes<D: System>(
 ) -> Result<Vec<u8>, Refusal>
     ensures told { D.Store.tells → IsReadTo (λ v. v.items)
         (file_told (D.System.reads system.now) is_named path.now) path.now result }
-    ensures bytes { D.Store.tells → IfOk result
-        (λ bytes. bytes_at (D.Store.seen system.now) path.now ≡ Some bytes.items) }
     ensures within { IfOk result (λ bytes. length bytes.items ≤ max_file) }
-    ensures refused { IfErr result (IsUnread path.now) }
     ensures unread { D.Store.tells → IfErr result
         (IsUnreadAt (D.Store.seen system.now) path.now) }
-    ensures reason { IfErr result (HasReason
-        (IsUnreadable (D.System.may_fail system.now) (D.Store.seen system.now)) ⊥
-        (D.Store.seen system.now)) }
 {
     if is_named {
         system.input(alloc, path)
@@ -201,12 +176,6 @@ pub fn bytes_given<D: System>(
         bytes_given text.now (D.Store.seen system.now) path.now ≡ Some bytes.items) }
     ensures within { (is_dash path.now ≡ false) ⊎ (length text.now ≤ max_file)
         → IfOk result (λ bytes. length bytes.items ≤ max_file) }
-    ensures refused { IfErr result (IsUnread (told_path path.now)) }
-    ensures file { D.Store.tells → IfErr result (λ r. (r ≡ Plain ToolError.Memory)
-        ⊎ ((is_dash path.now ≡ false) × IsUnreadAt (D.Store.seen system.now) path.now r)) }
-    ensures reason { IfErr result (HasReason
-        (IsUnreadable (D.System.may_fail system.now) (D.Store.seen system.now)) ⊥
-        (D.Store.seen system.now)) }
 {
     if is_dash(path) {
         Ok(text.to_vec(alloc)?)

@@ -1,14 +1,11 @@
 //! The text files that the paths of `check` mean: a path of a folder means the text files in it.
 ghost use Rattle.std.specs.Prelude.{[], ◌∷◌, ◌++◌, false, ◌≡◌, ◌≤◌, ◌⊎◌, ◌<◌, length, map, string_bytes, IfErr, IfOk};
 ghost use Rattle.hwdb_spec_commands.specs.CheckedFiles;
-ghost use Rattle.hwdb_spec_commands.specs.CheckedFiles.{StandFor, StandsFor, is_file};
 ghost use Rattle.hwdb_spec.specs.Folders.{choice, max_files, names};
 ghost use Rattle.hwdb_spec_commands.specs.Given.{any_dash, is_dash};
 ghost use Rattle.hwdb_spec.specs.Store as spec;
 ghost use Rattle.hwdb_text.specs.Views.{choice_of};
-ghost use Rattle.hwdb_spec_commands.specs.Refusals.{HasReason};
 ghost use Rattle.hwdb_spec_commands.specs.declared.refusals.Refusal.TheVariants.{Plain};
-ghost use Rattle.hwdb_spec_commands.specs.GivenFolders.{AreFoldersUnread, IsFolderUnread};
 ghost use Rattle.hwdb_plan.specs.GivenFolders.{files_at, files_for, named_files};
 ghost use Rattle.hwdb_plan.specs.Plans.{ReachesValue};
 
@@ -87,13 +84,6 @@ pub fn files_in(alloc: Global, path: &str, all: &[String]) -> Result<Vec<String>
 fn files_at<D: System>(alloc: Global, path: &str, system: &D) -> Result<Vec<String>, Refusal>
     ensures told { D.Store.tells → ReachesValue (λ own. map string_bytes own.items)
         (D.System.reads system.now) (files_at path.now) result }
-    ensures files { D.Store.tells → is_dash path.now ≡ false → IfOk result (λ own. StandsFor
-        (is_file (D.Store.seen system.now) path.now) (D.Store.seen system.now) path.now
-        (map string_bytes own.items)) }
-    ensures refused { D.Store.tells → is_dash path.now ≡ false → IfErr result
-        (IsFolderUnread (D.Store.seen system.now) path.now) }
-    ensures reason { IfErr result
-        (HasReason (D.System.may_fail system.now) ⊥ (D.Store.seen system.now)) }
     ensures plain { is_dash path.now ≡ false
         → IfOk result (λ own. any_dash (map string_bytes own.items) ≡ false) }
 {
@@ -108,13 +98,6 @@ fn files_at<D: System>(alloc: Global, path: &str, system: &D) -> Result<Vec<Stri
 fn files_for<D: System>(alloc: Global, path: &str, system: &D) -> Result<Vec<String>, Refusal>
     ensures told { D.Store.tells → ReachesValue (λ own. map string_bytes own.items)
         (D.System.reads system.now) (files_for path.now) result }
-    ensures files { D.Store.tells → IfOk result (λ own. StandsFor
-        (is_file (D.Store.seen system.now) path.now) (D.Store.seen system.now) path.now
-        (map string_bytes own.items)) }
-    ensures refused { D.Store.tells → IfErr result
-        (IsFolderUnread (D.Store.seen system.now) path.now) }
-    ensures reason { IfErr result
-        (HasReason (D.System.may_fail system.now) ⊥ (D.Store.seen system.now)) }
     ensures plain { is_dash path.now ≡ false
         → IfOk result (λ own. any_dash (map string_bytes own.items) ≡ false) }
 {
@@ -147,12 +130,6 @@ pub fn named_files<D: System>(
 ) -> Result<Vec<String>, Refusal>
     ensures told { D.Store.tells → ReachesValue (λ paths. map string_bytes paths.items)
         (D.System.reads system.now) (named_files (map string_bytes given.now) []) result }
-    ensures files { D.Store.tells → IfOk result (λ paths. StandFor (D.Store.seen system.now)
-        (map string_bytes given.now) (map string_bytes paths.items)) }
-    ensures refused { D.Store.tells → IfErr result
-        (AreFoldersUnread (D.Store.seen system.now) (map string_bytes given.now)) }
-    ensures reason { IfErr result
-        (HasReason (D.System.may_fail system.now) ⊥ (D.Store.seen system.now)) }
     ensures plain { any_dash (map string_bytes given.now) ≡ false
         → IfOk result (λ paths. any_dash (map string_bytes paths.items) ≡ false) }
 {

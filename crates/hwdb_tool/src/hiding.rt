@@ -1,20 +1,16 @@
 //! What `update --usr --verbose` says before it updates, if /etc's database, which is asked first, hides the new one.
-ghost use Rattle.std.specs.Prelude.{◌≡◌, ◌≤◌, ◌++◌, [], ℕ, List, IfOk, IfErr, OnOk, string_bytes};
+ghost use Rattle.std.specs.Prelude.{◌≡◌, ◌≤◌, ◌++◌, [], ℕ, List, IfOk, OnOk, string_bytes};
 ghost use Rattle.hwdb_spec.specs.Flushing.{HandsOn};
-ghost use Rattle.hwdb_spec_commands.specs.Runs.{HasTaken, files_by, told_by};
+ghost use Rattle.hwdb_spec_commands.specs.Runs.{files_by, told_by};
 ghost use Rattle.hwdb_spec_program.specs.Hiding.{hiding_line, hiding_text};
 ghost use Rattle.hwdb_spec.specs.Store as spec;
-ghost use Rattle.hwdb_spec.specs.System as Folder;
 ghost use Rattle.hwdb_spec_program.specs.HidingPlan.{UpdatesTelling, hiding_plan};
 ghost use Rattle.hwdb_plan.specs.Plans.{Ends};
 ghost use Rattle.hwdb_plan.specs.Plans.End.{Answers};
 ghost use Rattle.hwdb_plan.specs.Putting.{OldOrPut};
 ghost use Rattle.hwdb_plan.specs.Update.{update_plan};
 ghost use Rattle.hwdb_tool.specs.Emptying.{SaysOnly};
-ghost use Rattle.hwdb_spec_program.specs.HidingTold.{IsTellingUpdateRefused, IsUpdatedTelling};
 ghost use Rattle.hwdb_spec_commands.specs.Done.{OldOrUpdatedLess};
-ghost use Rattle.hwdb_spec_commands.specs.Refusals.{HasReason};
-ghost use Rattle.hwdb_spec_commands.specs.Undone.{IsUntold, IsUnwritable};
 ghost use Rattle.hwdb_spec_commands.specs.Asked.{database_path};
 ghost use Rattle.hwdb_spec.specs.Visible.{shown_name};
 
@@ -90,17 +86,9 @@ fn tell_hiding<D: System, E: Sink>(
     system: &D,
     err: &mut E,
 ) -> Result<(), Refusal>
-    ensures told { D.Store.tells → OnOk result (HasTaken
-        (hiding_text usr verbose root.now (D.Store.seen system.now))
-        (told_by E.taken E.failures err.old) (told_by E.taken E.failures err.new)) }
-    ensures refused { D.Store.tells → IfErr result (λ r.
-        IsUntold (hiding_text usr verbose root.now (D.Store.seen system.now)) r
-        (told_by E.taken E.failures err.old) (told_by E.taken E.failures err.new)) }
     ensures says { D.Store.tells → SaysOnly (D.System.reads system.now)
         (hiding_plan usr verbose root.now)
         (told_by E.taken E.failures err.old) (told_by E.taken E.failures err.new) result }
-    ensures reason { IfErr result
-        (HasReason (D.System.may_fail system.now) ⊥ (D.Store.seen system.now)) }
     ensures unfailed { OnOk result (E.failures err.new ≡ E.failures err.old) }
     ensures hands_on { HandsOn (E.is_flushed err.old) (E.is_flushed err.new)
         (E.failures err.old) (E.failures err.new) }
@@ -134,20 +122,6 @@ pub fn update_telling<D: System, E: Sink>(
         → spec.LeavesOnly D.Store.moment D.Store.left_since system.old system.new
         (OldOrUpdatedLess (D.System.may_fail system.old) root.now usr skip
         (D.Store.seen system.old) (D.Store.may_leave system.old)) }
-    ensures updated { D.Store.tells → IfOk result (λ status. IsUpdatedTelling root.now usr
-        verbose strict skip status (files_by D.Store.seen D.System.may_fail D.Store.may_leave
-        D.Store.failures system.old)
-        (told_by E.taken E.failures err.old) (told_by E.taken E.failures err.new)
-        (λ database. spec.InPlace (Folder.database_folder usr root.now) database
-        (D.Store.seen system.old) (D.Store.seen system.new) (D.Store.may_leave system.new))) }
-    ensures refused { D.Store.tells → let files = files_by D.Store.seen D.System.may_fail
-        D.Store.may_leave D.Store.failures in IfErr result (λ r.
-        IsTellingUpdateRefused root.now usr verbose skip r
-        (files system.old) (files system.new)
-        (told_by E.taken E.failures err.old) (told_by E.taken E.failures err.new)) }
-    ensures reason { D.Store.tells → IfErr result (HasReason (D.System.may_fail system.old)
-        (IsUnwritable (Folder.database_folder usr root.now) (D.Store.seen system.old)
-        (D.Store.failures system.old) (D.Store.failures system.new)) (D.Store.seen system.old)) }
     ensures hands_on { HandsOn (E.is_flushed err.old) (E.is_flushed err.new)
         (E.failures err.old) (E.failures err.new) }
 {

@@ -1,15 +1,8 @@
 //! `query -` and `explain -`: the devices that standard input names.
-ghost use Rattle.std.specs.Prelude.{◌≡◌, ◌⊎◌, IfErr, IfOk, IfSome, None, OnOk, true};
+ghost use Rattle.std.specs.Prelude.{◌≡◌, IfOk, None, OnOk};
 ghost use Rattle.hwdb_spec.specs.Flushing.{HandsOn};
-ghost use Rattle.hwdb_spec.specs.Outputs.{TookOne};
 ghost use Rattle.hwdb_spec_commands.specs.Runs.{told_by};
-ghost use Rattle.hwdb_spec.specs.Texts.{devices_of};
-ghost use Rattle.hwdb_spec_commands.specs.Databases.{IsTextOf};
-ghost use Rattle.hwdb_spec_commands.specs.AnsweredLines.{line_error};
-ghost use Rattle.hwdb_spec_commands.specs.Streams.{texts_of};
-ghost use Rattle.hwdb_spec_commands.specs.Asked.{IsAnswered};
-ghost use Rattle.hwdb_spec_commands.specs.Queries.{IsOfInput, IsStreamRefused};
-ghost use Rattle.hwdb_spec_commands.specs.Reasons.{HasAskedReason};
+ghost use Rattle.hwdb_spec_commands.specs.Queries.{IsOfInput};
 ghost use Rattle.hwdb_spec.specs.declared.DbFault.{DbFault};
 ghost use Rattle.hwdb_spec_commands.specs.Refusals.{IsOfCause};
 ghost use Rattle.hwdb_plan.specs.Answers.{stream_plan};
@@ -42,17 +35,6 @@ pub fn answer_input<D: System, I: Source, O: Sink, E: Sink>(
         (told_by I.left I.failures input.old) (told_by I.left I.failures input.new)
         (outs (told_by E.taken E.failures err.old) (told_by O.taken O.failures out.old))
         (outs (told_by E.taken E.failures err.new) (told_by O.taken O.failures out.new)) result }
-    ensures answered { D.Store.tells → OnOk result (IfSome (I.left input.old) (λ text. TookOne
-        (IsAnswered root.now (IsTextOf (texts_of form (devices_of text))) (D.Store.seen system.now))
-        (O.taken out.old) (O.taken out.new) (O.failures out.old) (O.failures out.new))) }
-    ensures all { OnOk result
-        (IfSome (I.left input.old) (λ text. line_error (devices_of text) ≡ None)) }
-    ensures refused { D.Store.tells → IfErr result (λ r. IsStreamRefused root.now form
-        (I.left input.old) (D.Store.seen system.now) r
-        (told_by O.taken O.failures out.old) (told_by O.taken O.failures out.new)) }
-    ensures reason { D.Store.tells → IfErr result (HasAskedReason true root.now
-        (D.System.may_fail system.now) (D.Store.seen system.now)
-        (I.left input.old) (I.failures input.old) (I.failures input.new)) }
     ensures unfailed { OnOk result (O.failures out.new ≡ O.failures out.old) }
     ensures hands_on { HandsOn (O.is_flushed out.old) (O.is_flushed out.new)
         (O.failures out.old) (O.failures out.new) }

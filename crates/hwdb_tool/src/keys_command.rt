@@ -1,12 +1,10 @@
 //! `keys`: the keys that the values of `KEYBOARD_KEY_..` name.
-ghost use Rattle.std.specs.Prelude.{◌≡◌, ◌≤◌, IfErr, IfOk, map, string_bytes};
+ghost use Rattle.std.specs.Prelude.{◌≡◌, ◌≤◌, map, string_bytes};
 ghost use Rattle.hwdb_plan.specs.Keys.{keys_plan};
 ghost use Rattle.hwdb_plan.specs.Plans.{Follows};
 ghost use Rattle.hwdb_spec_commands.specs.KeysAsked.{keys_status, keys_text};
-ghost use Rattle.hwdb_spec_commands.specs.Runs.{OnOut};
 ghost use Rattle.hwdb_spec_commands.specs.Told.{Reads};
-ghost use Rattle.hwdb_spec_commands.specs.declared.refusals.Refusal.TheVariants.{Plain};
-ghost use Rattle.hwdb_tool.specs.Views.{end_of, texts_in};
+ghost use Rattle.hwdb_tool.specs.Views.{end_of};
 
 use crate::answer::Answer;
 use hwdb_answers::ToolError;
@@ -18,10 +16,6 @@ use std::alloc::Global;
 pub fn keys(alloc: Global, words: &[String], json: bool) -> Result<Answer, Refusal>
     ensures follows { (reads : Reads)
         → Follows end_of reads (keys_plan json (map string_bytes words.now)) result }
-    ensures found { IfOk result (λ a. OnOut
-        (λ text. (text ≡ keys_text json (map string_bytes words.now))
-        × (a.status ≡ keys_status text)) (texts_in a)) }
-    ensures refused { IfErr result (λ r. r ≡ Plain ToolError.Memory) }
 {
     let text = keys_text(alloc, json, words)?;
     let status = status_of(&text);

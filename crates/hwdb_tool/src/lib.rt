@@ -25,12 +25,9 @@
 //! | `databases` | the database that a command asks for |
 //! | `given` | files that words name, or standard input |
 //! | `given_folders` | the text files that the paths of `check` mean |
-//! | `laws` | what an update and a query after it say together |
-//! | `as_before` | what follows a plan keeps the older promises of its command |
-//! | `one_outcome` | two runs over one input end alike |
-//! | `one_refusal` | so they do with an error, and what it says of standard input is so |
+//! | `laws` | what an update and a query after it say together, and that the order of a listing doesn't matter |
 //! | `crash` | what a crash, a start and a query make of a run |
-//! | `failures` | what failed calls and faulty words leave undone |
+//! | `failures` | what failed calls and faulty words leave undone, and what comes before a job is done |
 //!
 //! What the tasks ask of a file system is in `hwdb_system`, what they print in `hwdb_answers`, and their devices are in `hwdb_io`. The
 //! calls of these are here too.
@@ -38,7 +35,6 @@
 
 mod answer;
 mod answers;
-mod as_before;
 mod besides;
 mod check_command;
 mod coloured;
@@ -60,8 +56,6 @@ mod keys_command;
 mod laws;
 mod missing;
 mod near_command;
-mod one_outcome;
-mod one_refusal;
 mod outlet;
 mod over_text;
 mod printing;
@@ -77,11 +71,6 @@ mod verify_command;
 
 pub use answer::Answer;
 pub use answers::{ask_file, explain, list};
-pub use as_before::{
-    ask_as_before, check_as_before, device_as_before, diff_as_before, dump_as_before,
-    explain_as_before, list_as_before, near_as_before, query_as_before, status_as_before,
-    test_as_before, text_shows_over, update_as_before, update_crash_as_before, verify_as_before,
-};
 pub use check_command::check;
 pub use coloured::{Coloured, kind_of, terminals_get_no_control, write_shown};
 pub use crash::{crash_then_query, kill_then_query};
@@ -89,7 +78,7 @@ pub use device_command::{device, device_form};
 pub use diff_command::diff;
 pub use dispatch::program;
 pub use dump_command::dump;
-pub use failures::{counts_tell_failures, faulty_update_leaves_all};
+pub use failures::{counts_tell_failures, faultless_words_begin, faulty_update_leaves_all};
 pub use hiding::update_telling;
 pub use hwdb_answers::{ToolError, ask, run_list, run_query, run_update};
 pub use hwdb_check::KINDS;
@@ -99,11 +88,10 @@ pub use hwdb_io::{
 };
 pub use hwdb_spec_commands::TextKind;
 pub use hwdb_system::{Refusal, System, SystemStore};
-pub use laws::update_then_query;
+pub use laws::{listings_give_one_reading, update_then_query};
 pub use near_command::near;
-pub use one_outcome::{answers_are_one, jobs_are_one, listings_give_one_reading, tasks_are_one};
-pub use one_refusal::{errors_are_one, input_errors_are_so, words_end_in_one};
 pub use outlet::Outlet;
+pub use over_text::text_shows_over;
 pub use query_command::query;
 pub use status_command::status;
 pub use test_command::test;

@@ -1,25 +1,18 @@
 //! `near`: the patterns that almost matched a device, of text files or of the database below the root. Nothing is written.
-ghost use Rattle.std.specs.Prelude.{◌≡◌, ◌==◌, true, false, not, length, map, string_bytes, IfErr, IfOk, List, []};
-ghost use Rattle.hwdb_spec_commands.specs.Refusals.{HasReason};
+ghost use Rattle.std.specs.Prelude.{◌≡◌, false, map, string_bytes, IfOk, []};
 ghost use Rattle.hwdb_check.specs.Checks;
 ghost use Rattle.hwdb_near.specs.Views;
-ghost use Rattle.hwdb_spec_commands.specs.Asked.{IsAnswered};
-ghost use Rattle.hwdb_spec_commands.specs.CheckedFiles.{AreGivenFiles};
-ghost use Rattle.hwdb_spec_commands.specs.Databases.{IsTextOf};
 ghost use Rattle.hwdb_spec.specs.Folders.{Source};
 ghost use Rattle.hwdb_spec_commands.specs.Given.{any_dash};
-ghost use Rattle.hwdb_spec_commands.specs.NearAsked.{IsNear, database_patterns, near_form, near_limit, patterns_from};
-ghost use Rattle.hwdb_spec_commands.specs.Runs.{OnOut};
-ghost use Rattle.hwdb_spec_program.specs.NearErrors.{IsNearRefused, error_of};
-ghost use Rattle.hwdb_spec_commands.specs.Reasons.{HasFilesReason};
-ghost use Rattle.hwdb_spec_commands.specs.Undone.{IsGivenUnread, IsUnanswered};
+ghost use Rattle.hwdb_spec_commands.specs.NearAsked.{near_form, near_limit, patterns_from};
+ghost use Rattle.hwdb_spec_program.specs.NearErrors.{error_of};
 ghost use Rattle.hwdb_plan.specs.Asking.{asked};
 ghost use Rattle.hwdb_plan.specs.Files.{OfInput, given_files};
 ghost use Rattle.hwdb_plan.specs.Near.{near_database, near_plan};
 ghost use Rattle.hwdb_plan.specs.Plans.{Follows};
 ghost use Rattle.hwdb_plan.specs.Plans.End.{Answers};
 ghost use Rattle.hwdb_plan.specs.Plans.Plan.{Done};
-ghost use Rattle.hwdb_tool.specs.Views.{end_of, texts_in};
+ghost use Rattle.hwdb_tool.specs.Views.{end_of};
 
 use crate::answer::Answer;
 use crate::check_command::{given_texts, with_paths};
@@ -50,15 +43,7 @@ pub fn near<D: System, I: Source>(
         (I.failures input.new) (λ told. Follows end_of (D.System.reads system.now)
         (near_plan told (map string_bytes given.now) root.now
         (near_form json device.now (near_limit limit))) result) }
-    ensures near { D.Store.tells → IfOk result (λ a. OnOut (IsNear
-        (map string_bytes given.now) root.now (near_form json device.now (near_limit limit))
-        (I.left input.old) (D.Store.seen system.now)) (texts_in a)) }
-    ensures refused { D.Store.tells → IfErr result (IsNearRefused
-        (map string_bytes given.now) root.now (D.Store.seen system.now)) }
     ensures unread { any_dash (map string_bytes given.now) ≡ false → input.new ≡ input.old }
-    ensures reason { D.Store.tells → IfErr result (HasFilesReason (not (length given.now == 0))
-        (map string_bytes given.now) (D.System.may_fail system.now) (D.Store.seen system.now)
-        (I.left input.old) (I.failures input.old) (I.failures input.new)) }
 {
     let count = count_of(limit);
     if given.is_empty() {
@@ -90,13 +75,6 @@ fn near_asked<D: System>(
     ensures status { IfOk result (λ a. a.status ≡ 0) }
     ensures follows { D.Store.tells → Follows end_of (D.System.reads system.now)
         (asked root.now (near_database (near_form json device.now limit))) result }
-    ensures near { D.Store.tells → IfOk result (λ a. OnOut (IsAnswered root.now
-        (IsTextOf (λ tree. near_form json device.now limit (database_patterns tree)))
-        (D.Store.seen system.now)) (texts_in a)) }
-    ensures refused { D.Store.tells → IfErr result
-        (IsUnanswered root.now (D.Store.seen system.now)) }
-    ensures reason { IfErr result
-        (HasReason (D.System.may_fail system.now) ⊥ (D.Store.seen system.now)) }
 {
     let found = asked(alloc, root, system)?;
     match near_in_database(alloc, &found.bytes, device, limit, json) {
@@ -134,15 +112,7 @@ fn near_given<D: System, I: Source>(
         (given_files (map string_bytes given.now) told (map string_bytes given.now)
         (λ sources. Done (Answers 0 []
         (near_form json device.now limit (patterns_from 1 sources))))) result) }
-    ensures near { D.Store.tells → IfOk result (λ a. OnOut (λ text. (sources : List Source)
-        × AreGivenFiles (map string_bytes given.now) (I.left input.old)
-        (D.Store.seen system.now) sources
-        × (text ≡ near_form json device.now limit (patterns_from 1 sources))) (texts_in a)) }
-    ensures refused { IfErr result (IsGivenUnread (map string_bytes given.now)) }
     ensures unread { any_dash (map string_bytes given.now) ≡ false → input.new ≡ input.old }
-    ensures reason { D.Store.tells → IfErr result (HasFilesReason true
-        (map string_bytes given.now) (D.System.may_fail system.now) (D.Store.seen system.now)
-        (I.left input.old) (I.failures input.old) (I.failures input.new)) }
 {
     let texts = given_texts(alloc, given, given, system, input)?;
     let files = with_paths(alloc, given, &texts)?;

@@ -1,31 +1,28 @@
 //! `--text`: a task over the text files of both folders, as an update would compile them now. Nothing is written.
-ghost use Rattle.std.specs.Prelude.{◌≡◌, ◌≤◌, ℕ, List, false, length, map, option_map, string_bytes, true, IfErr, IfOk, OnOk};
+ghost use Rattle.std.specs.Prelude.{◌≡◌, ◌≤◌, ℕ, List, false, length, option_map, true, IfOk, OnOk};
 ghost use Rattle.hwdb_plan.specs.Ended.{outs};
 ghost use Rattle.hwdb_plan.specs.OverText.{basis, basis_now};
 ghost use Rattle.hwdb_plan.specs.Plans.{ReachesValue};
 ghost use Rattle.hwdb_spec.specs.Flushing.{HandsOn};
 ghost use Rattle.hwdb_spec.specs.Folders.{Source};
-ghost use Rattle.hwdb_spec_commands.specs.OverText.{AreTextsRefused, misuse_text, takes_text, text_besides};
+ghost use Rattle.hwdb_spec_commands.specs.OverText.{misuse_text, takes_text, text_besides};
 ghost use Rattle.hwdb_spec.specs.Texts.{max_file};
-ghost use Rattle.hwdb_spec_program.specs.Program.{IsDoneOverText, asks_text, reads_input, root_of};
+ghost use Rattle.hwdb_spec_program.specs.Program.{asks_text, reads_input, root_of};
 ghost use Rattle.hwdb_spec_program.specs.ProgramPlan.{ShowsPlan, program_plan};
-ghost use Rattle.hwdb_spec_commands.specs.Refusals.{HasReason, IsInWords};
-ghost use Rattle.hwdb_spec_commands.specs.Runs.{files_by, told_by, world_by};
+ghost use Rattle.hwdb_spec_commands.specs.Refusals.{IsInWords};
+ghost use Rattle.hwdb_spec_commands.specs.Runs.{told_by};
 ghost use Rattle.hwdb_spec_commands.specs.Status.{IsMade};
 ghost use Rattle.hwdb_spec_commands.specs.SysfsAnswers.{sight_by};
-ghost use Rattle.hwdb_spec_program.specs.TaskRefusals.{IsNotDoneFrom};
 ghost use Rattle.hwdb_spec_program.specs.Words.{AskFor};
-ghost use Rattle.hwdb_tool.specs.Internal.{IsDoneOver, IsNotDoneOver};
-ghost use Rattle.hwdb_tool.specs.TextPlans.{besides_for, plan_over};
+ghost use Rattle.hwdb_tool.specs.TextPlans.{TextShowsOver, besides_for, plan_over};
 
-use crate::as_before::text_shows_over;
 use crate::besides::text_besides;
 use crate::dispatch::{root_of, run};
 use crate::printing::say;
 use crate::status_command::compiled;
 use hwdb_cli::{Job, Task};
 use hwdb_io::{Sink, Source};
-use hwdb_plan::over_is_no_more;
+use hwdb_plan::{only_asked_matters, over_is_no_more, over_is_over};
 use hwdb_system::{Machine, Overlay, Refusal, System, selected, with_texts};
 use std::alloc::Global;
 
@@ -102,10 +99,6 @@ fn made<D: System>(alloc: Global, task: &Task, root: &str, system: &D) -> Result
     ensures made { D.Store.tells → IfOk result (λ m. (of_etc of_usr : List Source)
         × IsMade root.now (D.Store.seen system.now) of_etc of_usr m.database.items
         × (m.besides.items ≡ text_besides task.now of_etc of_usr)) }
-    ensures refused { D.Store.tells → IfErr result
-        (AreTextsRefused root.now (D.Store.seen system.now)) }
-    ensures reason { D.Store.tells → IfErr result
-        (HasReason (D.System.may_fail system.now) ⊥ (D.Store.seen system.now)) }
 {
     let selection = selected(alloc, root, system)?;
     let files = with_texts(alloc, &selection.chosen, &selection.texts)?;
@@ -115,6 +108,14 @@ fn made<D: System>(alloc: Global, task: &Task, root: &str, system: &D) -> Result
         database: made.database,
         besides,
     })
+}
+
+/// With `--text` a command shows what `over` of its plan ends in.
+pub fn text_shows_over()
+    ensures { TextShowsOver }
+{
+    only_asked_matters();
+    over_is_over();
 }
 
 /// Does the job's task over the files as they are, but that the database has these bytes. Returns the status.
@@ -136,18 +137,6 @@ fn run_over<D: Machine, I: Source, O: Sink, E: Sink>(
         (told_by I.left I.failures input.old) (told_by I.left I.failures input.new)
         (outs (told_by E.taken E.failures err.old) (told_by O.taken O.failures out.old))
         (outs (told_by E.taken E.failures err.new) (told_by O.taken O.failures out.new)) result }
-    ensures done { D.Store.tells → let world = world_by (sight_by D.answers)
-        (files_by D.Store.seen D.System.may_fail D.Store.may_leave D.Store.failures)
-        (told_by I.left I.failures) (told_by O.taken O.failures) (told_by E.taken E.failures) in
-        IfOk result (IsDoneOver job.now database.now
-        (world system.now input.old out.old err.old)
-        (world system.now input.new out.new err.new)) }
-    ensures refused { D.Store.tells → let world = world_by (sight_by D.answers)
-        (files_by D.Store.seen D.System.may_fail D.Store.may_leave D.Store.failures)
-        (told_by I.left I.failures) (told_by O.taken O.failures) (told_by E.taken E.failures) in
-        IfErr result (IsNotDoneOver job.now database.now
-        (world system.now input.old out.old err.old)
-        (world system.now input.new out.new err.new)) }
     ensures unfailed { OnOk result (O.failures out.new ≡ O.failures out.old) }
     ensures out_hands_on { HandsOn (O.is_flushed out.old) (O.is_flushed out.new)
         (O.failures out.old) (O.failures out.new) }
@@ -182,18 +171,6 @@ pub fn run_over_text<D: Machine, I: Source, O: Sink, E: Sink>(
         (told_by I.left I.failures input.old) (told_by I.left I.failures input.new)
         (outs (told_by E.taken E.failures err.old) (told_by O.taken O.failures out.old))
         (outs (told_by E.taken E.failures err.new) (told_by O.taken O.failures out.new)) result }
-    ensures done { D.Store.tells → let world = world_by (sight_by D.answers)
-        (files_by D.Store.seen D.System.may_fail D.Store.may_leave D.Store.failures)
-        (told_by I.left I.failures) (told_by O.taken O.failures) (told_by E.taken E.failures) in
-        IfOk result (λ status. IsDoneOverText job.now.task (root_of job.now) job.now.usr
-        job.now.strict status (world system.now input.old out.old err.old)
-        (world system.now input.new out.new err.new)) }
-    ensures refused { D.Store.tells → let world = world_by (sight_by D.answers)
-        (files_by D.Store.seen D.System.may_fail D.Store.may_leave D.Store.failures)
-        (told_by I.left I.failures) (told_by O.taken O.failures) (told_by E.taken E.failures) in
-        IfErr result (IsNotDoneFrom true job.now.task (root_of job.now) job.now.usr
-        job.now.strict (world system.now input.old out.old err.old)
-        (world system.now input.new out.new err.new)) }
     ensures out_hands_on { HandsOn (O.is_flushed out.old) (O.is_flushed out.new)
         (O.failures out.old) (O.failures out.new) }
     ensures err_hands_on { HandsOn (E.is_flushed err.old) (E.is_flushed err.new)

@@ -1,9 +1,8 @@
 //! What a command prints, and the one place where it is printed.
 ghost use Rattle.std.specs.Prelude.{[], ◌≡◌, ◌≢◌, ◌≤◌, Err, IfErr, IfOk, MatchResult, OnOk};
 ghost use Rattle.hwdb_spec.specs.Flushing.{HandsOn};
-ghost use Rattle.hwdb_spec_commands.specs.Runs.{HasTaken, Printed, PrintedPart, WasCut, told_by};
+ghost use Rattle.hwdb_spec_commands.specs.Runs.{HasTaken, WasCut, told_by};
 ghost use Rattle.hwdb_plan.specs.Ended.{Prints, outs};
-ghost use Rattle.hwdb_tool.specs.Views.{IsNotPrinted, IsPrintedWith, texts_in};
 ghost use Rattle.hwdb_spec_commands.specs.declared.refusals.Refusal.TheVariants.{Plain};
 
 use crate::answer::Answer;
@@ -44,12 +43,6 @@ pub fn printed<O: Sink, E: Sink>(
         (λ r. (result ≡ Err r) × (outs (told_by E.taken E.failures err.new)
         (told_by O.taken O.failures out.new) ≡ outs (told_by E.taken E.failures err.old)
         (told_by O.taken O.failures out.old))) }
-    ensures done { IfOk result (λ status. IsPrintedWith answer status
-        (told_by E.taken E.failures err.old) (told_by E.taken E.failures err.new)
-        (told_by O.taken O.failures out.old) (told_by O.taken O.failures out.new)) }
-    ensures refused { IfErr result (λ r. IsNotPrinted answer r
-        (told_by E.taken E.failures err.old) (told_by E.taken E.failures err.new)
-        (told_by O.taken O.failures out.old) (told_by O.taken O.failures out.new)) }
     ensures unfailed { OnOk result (O.failures out.new ≡ O.failures out.old) }
     ensures out_hands_on { HandsOn (O.is_flushed out.old) (O.is_flushed out.new)
         (O.failures out.old) (O.failures out.new) }
@@ -68,13 +61,6 @@ fn print<O: Sink, E: Sink>(answer: &Answer, out: &mut O, err: &mut E) -> Result<
         (outs (told_by E.taken E.failures err.old) (told_by O.taken O.failures out.old))
         (outs (told_by E.taken E.failures err.new) (told_by O.taken O.failures out.new)) result }
     ensures status { IfOk result (λ status. status ≡ answer.now.status) }
-    ensures done { OnOk result (Printed (λ texts. texts ≡ texts_in answer.now)
-        (told_by E.taken E.failures err.old) (told_by E.taken E.failures err.new)
-        (told_by O.taken O.failures out.old) (told_by O.taken O.failures out.new)) }
-    ensures refused { IfErr result (λ r. (r ≡ Plain ToolError.Write)
-        × PrintedPart (λ texts. texts ≡ texts_in answer.now)
-        (told_by E.taken E.failures err.old) (told_by E.taken E.failures err.new)
-        (told_by O.taken O.failures out.old) (told_by O.taken O.failures out.new)) }
     ensures unfailed { OnOk result (O.failures out.new ≡ O.failures out.old) }
     ensures out_hands_on { HandsOn (O.is_flushed out.old) (O.is_flushed out.new)
         (O.failures out.old) (O.failures out.new) }

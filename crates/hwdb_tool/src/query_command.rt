@@ -1,19 +1,12 @@
 //! `query`: what each of several devices gets, those of the words or those that standard input names.
-ghost use Rattle.std.specs.Prelude.{◌≡◌, ◌≤◌, ◌⊎◌, true, false, map, string_bytes, IfErr, IfOk, OnOk};
+ghost use Rattle.std.specs.Prelude.{◌≡◌, ◌≤◌, false, map, string_bytes, IfOk, OnOk};
 ghost use Rattle.hwdb_spec.specs.Flushing.{HandsOn};
-ghost use Rattle.hwdb_spec_commands.specs.Asked.{IsAnswered};
-ghost use Rattle.hwdb_spec_commands.specs.Databases.{IsTextOf};
 ghost use Rattle.hwdb_spec_commands.specs.Given.{is_input};
-ghost use Rattle.hwdb_spec_commands.specs.Runs.{OnOut, told_by};
-ghost use Rattle.hwdb_spec_commands.specs.Streams.{texts_of};
-ghost use Rattle.hwdb_spec_commands.specs.Refusals.{HasReason};
-ghost use Rattle.hwdb_spec_commands.specs.Queries.{AreDone, AreUnanswered};
-ghost use Rattle.hwdb_spec_commands.specs.Reasons.{HasAskedReason};
-ghost use Rattle.hwdb_spec_commands.specs.Undone.{IsUnanswered};
+ghost use Rattle.hwdb_spec_commands.specs.Runs.{told_by};
 ghost use Rattle.hwdb_plan.specs.Answers.{answer_plan, query_plan};
 ghost use Rattle.hwdb_plan.specs.Ended.{ShowsEnd, outs};
 ghost use Rattle.hwdb_plan.specs.Plans.{Follows};
-ghost use Rattle.hwdb_tool.specs.Views.{end_of, texts_in};
+ghost use Rattle.hwdb_tool.specs.Views.{end_of};
 
 use crate::answer::Answer;
 use crate::databases::{asked, refused_database};
@@ -44,19 +37,7 @@ pub fn query<D: System, I: Source, O: Sink, E: Sink>(
         (told_by I.left I.failures input.old) (told_by I.left I.failures input.new)
         (outs (told_by E.taken E.failures err.old) (told_by O.taken O.failures out.old))
         (outs (told_by E.taken E.failures err.new) (told_by O.taken O.failures out.new)) result }
-    ensures answered { D.Store.tells → IfOk result (λ status. AreDone root.now (Form.Query json)
-        (map string_bytes devices.now) (I.left input.old) (D.Store.seen system.now) status
-        (told_by E.taken E.failures err.old) (told_by E.taken E.failures err.new)
-        (told_by O.taken O.failures out.old) (told_by O.taken O.failures out.new)) }
-    ensures refused { D.Store.tells → IfErr result (λ r. AreUnanswered root.now (Form.Query json)
-        (map string_bytes devices.now) (I.left input.old) (D.Store.seen system.now) r
-        (told_by E.taken E.failures err.old) (told_by E.taken E.failures err.new)
-        (told_by O.taken O.failures out.old) (told_by O.taken O.failures out.new)) }
     ensures unread { is_input (map string_bytes devices.now) ≡ false → input.new ≡ input.old }
-    ensures reason { D.Store.tells → IfErr result (HasAskedReason
-        (is_input (map string_bytes devices.now)) root.now (D.System.may_fail system.now)
-        (D.Store.seen system.now)
-        (I.left input.old) (I.failures input.old) (I.failures input.new)) }
     ensures unfailed { OnOk result (O.failures out.new ≡ O.failures out.old) }
     ensures out_hands_on { HandsOn (O.is_flushed out.old) (O.is_flushed out.new)
         (O.failures out.old) (O.failures out.new) }
@@ -100,13 +81,6 @@ fn query_given<D: System>(
     ensures status { IfOk result (λ a. a.status ≡ 0) }
     ensures follows { D.Store.tells → Follows end_of (D.System.reads system.now)
         (answer_plan root.now (Form.Query json) (map string_bytes devices.now)) result }
-    ensures answered { D.Store.tells → IfOk result (λ a. OnOut (IsAnswered root.now
-        (IsTextOf (texts_of (Form.Query json) (map string_bytes devices.now)))
-        (D.Store.seen system.now)) (texts_in a)) }
-    ensures refused { D.Store.tells → IfErr result
-        (IsUnanswered root.now (D.Store.seen system.now)) }
-    ensures reason { IfErr result
-        (HasReason (D.System.may_fail system.now) ⊥ (D.Store.seen system.now)) }
 {
     match answer_in_parts(alloc, root, devices, json, system) {
         Some(answer) => Ok(answer),
@@ -125,8 +99,6 @@ fn query_whole<D: System>(
     ensures status { IfOk result (λ a. a.status ≡ 0) }
     ensures follows { D.Store.tells → Follows end_of (D.System.reads system.now)
         (answer_plan root.now (Form.Query json) (map string_bytes devices.now)) result }
-    ensures reason { IfErr result
-        (HasReason (D.System.may_fail system.now) ⊥ (D.Store.seen system.now)) }
 {
     let found = asked(alloc, root, system)?;
     match answers(alloc, &found.bytes, devices, Form::Query { json }) {

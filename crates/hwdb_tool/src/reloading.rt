@@ -1,6 +1,5 @@
 //! The database that answers a stream of devices, and the one that replaces it.
-ghost use Rattle.std.specs.Prelude.{◌≡◌, ◌++◌, ℕ, IfOk, IfSome, List, None, Some, codes, false, string_bytes, true};
-ghost use Rattle.hwdb_spec.specs.Store as spec;
+ghost use Rattle.std.specs.Prelude.{◌≡◌, ◌++◌, ℕ, IfOk, IfSome, List, None, Some, codes, false, true};
 ghost use Rattle.hwdb_spec.specs.System.{asked_database};
 ghost use Rattle.hwdb_spec_commands.specs.Reloads.{kept_line, taken_line};
 ghost use Rattle.hwdb_spec.specs.Visible.{shown_name};

@@ -1,31 +1,25 @@
 //! What a path of `diff` means: a database, a text file, a folder of text files, or a root. Nothing is written.
-ghost use Rattle.std.specs.Prelude.{◌++◌, ◌==◌, ◌∷◌, ◌<◌, ◌≡◌, ◌≤◌, ◌⊎◌, [], ℕ, All, Some, false, length, map, string_bytes, true, IfErr, IfNone, IfOk, IfSome, List};
+ghost use Rattle.std.specs.Prelude.{◌++◌, ◌==◌, ◌∷◌, ◌<◌, ◌≡◌, ◌≤◌, [], ℕ, All, Some, false, length, map, string_bytes, true, IfErr, IfNone, IfOk, IfSome, List};
 ghost use Rattle.hwdb_compile.specs.Views as compiled;
 ghost use Rattle.hwdb_compile.specs.Views.{sources};
 ghost use Rattle.hwdb_check.specs.Checks.{source_of};
-ghost use Rattle.hwdb_spec_commands.specs.CheckedFiles.{StandFor, folder_of, is_file};
-ghost use Rattle.hwdb_spec_program.specs.ComparedDatabases.{IsSideGiven};
+ghost use Rattle.hwdb_spec_commands.specs.CheckedFiles.{folder_of};
 ghost use Rattle.hwdb_plan.specs.Files.{OfInput};
 ghost use Rattle.hwdb_plan.specs.GivenFolders.{if_few};
 ghost use Rattle.hwdb_plan.specs.Plans.{ReachesValue};
 ghost use Rattle.hwdb_plan.specs.Sides.{file_bytes, folder_bytes, made_at, made_of, own_made, plain_side, side, taken_from};
-ghost use Rattle.hwdb_spec.specs.Folders as folders;
 ghost use Rattle.hwdb_spec_commands.specs.Given.{is_dash};
 ghost use Rattle.hwdb_spec.specs.Lines.{has};
-ghost use Rattle.hwdb_spec_commands.specs.Refusals.{HasReason, IsInWords, IsUnreadAt, IsUnreadable};
+ghost use Rattle.hwdb_spec_commands.specs.Refusals.{IsInWords, IsUnreadAt};
 ghost use Rattle.hwdb_spec_commands.specs.Sides;
-ghost use Rattle.hwdb_spec_commands.specs.Sides.{AreMadeAt, HasOwn, HasTexts, IsSide, as_etc, names_text, no_texts_text};
-ghost use Rattle.hwdb_spec_commands.specs.Status.{IsMade};
-ghost use Rattle.hwdb_spec_commands.specs.StatusErrors.{AreNotMade, IsNotCompiled};
+ghost use Rattle.hwdb_spec_commands.specs.Sides.{as_etc, names_text, no_texts_text};
+ghost use Rattle.hwdb_spec_commands.specs.StatusErrors.{IsNotCompiled};
 ghost use Rattle.hwdb_spec_commands.specs.Told.{IsReadTo, Reads};
 ghost use Rattle.hwdb_spec.specs.Store.{Contents};
-ghost use Rattle.hwdb_spec.specs.System.{bytes_at};
 ghost use Rattle.hwdb_spec.specs.Texts.{max_file};
 ghost use Rattle.hwdb_spec.specs.declared.errors.ToolError.{ToolError};
-ghost use Rattle.hwdb_spec_commands.specs.declared.refusals.Refusal.TheVariants.{Plain};
 ghost use Rattle.hwdb_text.specs.Views.{IsStorableChoice, choice_of};
 ghost use Rattle.hwdb_tool.specs.Internal.{IsOfSelection};
-ghost use Rattle.hwdb_tool.specs.SideSteps.{AreTextsError, IsFolderOf, IsGivenSideError, IsSideError};
 ghost use Rattle.hwdb_tool.specs.Statuses.{AreMadeOf};
 
 use crate::check_command::{read_given, with_paths};
@@ -138,12 +132,6 @@ fn texts_at<D: System>(
 ) -> Result<Vec<u8>, Refusal>
     ensures told { D.Store.tells → ReachesValue (λ v. v.items) (D.System.reads system.now)
         (made_at path.now (map string_bytes own.now)) result }
-    ensures made { D.Store.tells → StandFor (D.Store.seen system.now) (path.now ∷ [])
-        (map string_bytes own.now)
-        → IfOk result (λ bytes. AreMadeAt path.now (D.Store.seen system.now) bytes.items) }
-    ensures refused { D.Store.tells → StandFor (D.Store.seen system.now) (path.now ∷ [])
-        (map string_bytes own.now) → IfErr result (AreTextsError
-        (D.System.may_fail system.now) (D.Store.seen system.now) path.now) }
 {
     let words = alone(alloc, path)?;
     let texts = read_given(alloc, &words, own, &[], system)?;
@@ -161,17 +149,6 @@ fn named_texts<D: System>(
     ensures told { D.Store.tells → ReachesValue (λ v. v.items) (D.System.reads system.now)
         (λ next. if_few path.now (map string_bytes names.now)
         (λ own. made_at path.now own next)) result }
-    ensures side { D.Store.tells
-        → IsFolderOf path.now (D.Store.seen system.now) (map string_bytes names.now)
-        → HasTexts (folder_of path.now) (D.Store.seen system.now) false
-        → HasOwn (folder_of path.now) (D.Store.seen system.now) true
-        → IfOk result (λ bytes. IsSide path.now (D.Store.seen system.now) bytes.items) }
-    ensures refused { D.Store.tells
-        → IsFolderOf path.now (D.Store.seen system.now) (map string_bytes names.now)
-        → HasTexts (folder_of path.now) (D.Store.seen system.now) false
-        → HasOwn (folder_of path.now) (D.Store.seen system.now) true
-        → IfErr result (IsSideError (D.System.may_fail system.now)
-        (D.Store.seen system.now) path.now) }
 {
     let own = files_in(alloc, path, names)?;
     texts_at(alloc, path, &own, system)
@@ -213,15 +190,6 @@ fn own_texts<D: System>(
 ) -> Result<Vec<u8>, Refusal>
     ensures told { D.Store.tells → ReachesValue (λ v. v.items) (D.System.reads system.now)
         (own_made path.now (map string_bytes names.now)) result }
-    ensures side { D.Store.tells
-        → IsFolderOf path.now (D.Store.seen system.now) (map string_bytes names.now)
-        → HasTexts (folder_of path.now) (D.Store.seen system.now) false
-        → IfOk result (λ bytes. IsSide path.now (D.Store.seen system.now) bytes.items) }
-    ensures refused { D.Store.tells
-        → IsFolderOf path.now (D.Store.seen system.now) (map string_bytes names.now)
-        → HasTexts (folder_of path.now) (D.Store.seen system.now) false
-        → IfErr result (IsSideError (D.System.may_fail system.now)
-        (D.Store.seen system.now) path.now) }
 {
     if no_names(names) {
         Err(refused_folder(alloc, path))
@@ -234,13 +202,6 @@ fn own_texts<D: System>(
 fn text_file_at<D: System>(alloc: Global, path: &str, system: &D) -> Result<Vec<u8>, Refusal>
     ensures told { D.Store.tells → ReachesValue (λ v. v.items) (D.System.reads system.now)
         (made_at path.now (path.now ∷ [])) result }
-    ensures side { D.Store.tells → is_file (D.Store.seen system.now) path.now ≡ true
-        → names_text path.now ≡ true
-        → IfOk result (λ bytes. IsSide path.now (D.Store.seen system.now) bytes.items) }
-    ensures refused { D.Store.tells → is_file (D.Store.seen system.now) path.now ≡ true
-        → names_text path.now ≡ true
-        → IfErr result (IsSideError (D.System.may_fail system.now)
-        (D.Store.seen system.now) path.now) }
 {
     let own = alone(alloc, path)?;
     texts_at(alloc, path, &own, system)
@@ -250,14 +211,9 @@ fn text_file_at<D: System>(alloc: Global, path: &str, system: &D) -> Result<Vec<
 fn database_at<D: System>(alloc: Global, path: &str, system: &D) -> Result<Vec<u8>, Refusal>
     ensures told { D.Store.tells → IsReadTo (λ v. v.items)
         ((D.System.reads system.now).input path.now) path.now result }
-    ensures held { D.Store.tells → IfOk result
-        (λ bytes. bytes_at (D.Store.seen system.now) path.now ≡ Some bytes.items) }
     ensures within { IfOk result (λ bytes. length bytes.items ≤ max_file) }
     ensures unread { D.Store.tells → IfErr result
         (IsUnreadAt (D.Store.seen system.now) path.now) }
-    ensures reason { IfErr result (HasReason
-        (IsUnreadable (D.System.may_fail system.now) (D.Store.seen system.now)) ⊥
-        (D.Store.seen system.now)) }
 {
     system.input(alloc, path)
 }
@@ -266,11 +222,6 @@ fn database_at<D: System>(alloc: Global, path: &str, system: &D) -> Result<Vec<u
 fn file_at<D: System>(alloc: Global, path: &str, system: &D) -> Result<Vec<u8>, Refusal>
     ensures told { D.Store.tells → ReachesValue (λ v. v.items) (D.System.reads system.now)
         (file_bytes path.now) result }
-    ensures side { D.Store.tells → is_file (D.Store.seen system.now) path.now ≡ true
-        → IfOk result (λ bytes. IsSide path.now (D.Store.seen system.now) bytes.items) }
-    ensures refused { D.Store.tells → is_file (D.Store.seen system.now) path.now ≡ true
-        → IfErr result (IsSideError (D.System.may_fail system.now)
-        (D.Store.seen system.now) path.now) }
 {
     if names_text(path) {
         text_file_at(alloc, path, system)
@@ -288,13 +239,6 @@ fn root_bytes(alloc: Global, selection: &Selection) -> Result<Vec<u8>, Refusal>
         → let chosen = map choice_of selection.now.chosen.items in
         let texts = map (λ t. t.items) selection.now.texts.items in ReachesValue (λ v. v.items)
         w (made_of (taken_from true chosen texts) (taken_from false chosen texts)) result }
-    ensures made { (root : List ℕ) (contents : Contents)
-        → IsOfSelection root contents selection.now
-        → IfOk result (λ bytes. (of_etc of_usr : List folders.Source)
-        × IsMade root contents of_etc of_usr bytes.items) }
-    ensures refused { (root : List ℕ) (contents : Contents)
-        → IsOfSelection root contents selection.now
-        → IfErr result (λ r. (r ≡ Plain ToolError.Memory) ⊎ AreNotMade root contents r) }
 {
     let files = with_texts(alloc, &selection.chosen, &selection.texts)?;
     let made = compiled(alloc, &files)?;
@@ -317,13 +261,6 @@ fn folder_at<D: TextsBelow>(
 ) -> Result<Vec<u8>, Refusal>
     ensures told { D.Store.tells → ReachesValue (λ v. v.items) (D.System.reads system.now)
         (folder_bytes path.now (map string_bytes names.now)) result }
-    ensures side { D.Store.tells
-        → IsFolderOf path.now (D.Store.seen system.now) (map string_bytes names.now)
-        → IfOk result (λ bytes. IsSide path.now (D.Store.seen system.now) bytes.items) }
-    ensures refused { D.Store.tells
-        → IsFolderOf path.now (D.Store.seen system.now) (map string_bytes names.now)
-        → IfErr result (IsSideError (D.System.may_fail system.now)
-        (D.Store.seen system.now) path.now) }
 {
     let selection = system.selected_below(alloc, folder_of(path))?;
     if are_none(&selection.chosen) {
@@ -337,10 +274,6 @@ fn folder_at<D: TextsBelow>(
 fn plain_side<D: TextsBelow>(alloc: Global, path: &str, system: &D) -> Result<Vec<u8>, Refusal>
     ensures told { D.Store.tells → ReachesValue (λ v. v.items) (D.System.reads system.now)
         (plain_side path.now) result }
-    ensures side { D.Store.tells → is_dash path.now ≡ false
-        → IfOk result (λ bytes. IsSide path.now (D.Store.seen system.now) bytes.items) }
-    ensures refused { D.Store.tells → is_dash path.now ≡ false → IfErr result
-        (IsSideError (D.System.may_fail system.now) (D.Store.seen system.now) path.now) }
 {
     let found = system.folder_names(alloc, folder_of(path))?;
     match found {
@@ -362,11 +295,6 @@ pub fn side<D: TextsBelow, I: Source>(
     ensures told { D.Store.tells → OfInput (I.left input.old) (I.failures input.old)
         (I.failures input.new) (λ told. ReachesValue (λ v. v.items)
         (D.System.reads system.now) (side told path.now) result) }
-    ensures side { D.Store.tells → IfOk result (λ bytes. IsSideGiven path.now
-        (I.left input.old) (D.Store.seen system.now) bytes.items) }
-    ensures refused { D.Store.tells → IfErr result (IsGivenSideError
-        (D.System.may_fail system.now) (D.Store.seen system.now)
-        (I.left input.old) (I.failures input.old) (I.failures input.new) path.now) }
     ensures unread { is_dash path.now ≡ false → input.new ≡ input.old }
 {
     if is_dash(path) {

@@ -4,28 +4,26 @@ ghost use Rattle.hwdb_compile.specs.Views.{ForFolders};
 ghost use Rattle.hwdb_text.specs.Views.{choice_in};
 ghost use Rattle.hwdb_system.specs.Internal.{IsNameSet};
 ghost use Rattle.hwdb_spec.specs.Format.{IsDatabase};
-ghost use Rattle.hwdb_spec_commands.specs.Refusals.{HasReason, IsUnreadAt};
 ghost use Rattle.hwdb_spec_commands.specs.Status;
 ghost use Rattle.hwdb_spec.specs.Assignment.{ascending};
 ghost use Rattle.hwdb_spec_commands.specs.Reading.{AreUnread};
-ghost use Rattle.hwdb_spec_commands.specs.Status.{IsAmount, IsStatus, has_database, hidden_database, is_well, masked_of};
+ghost use Rattle.hwdb_spec_commands.specs.Status.{IsAmount, has_database, hidden_database, is_well, masked_of};
 ghost use Rattle.hwdb_databases.specs.Views.{amount_shown, report_shown, state_shown};
 ghost use Rattle.hwdb_spec_commands.specs.Asked;
 ghost use Rattle.hwdb_spec_commands.specs.Commands;
-ghost use Rattle.hwdb_spec_commands.specs.Runs.{OnOut};
 ghost use Rattle.hwdb_spec.specs.System as Folder;
 ghost use Rattle.hwdb_spec.specs.System.{bytes_at};
 ghost use Rattle.hwdb_spec.specs.Texts.{max_file};
 ghost use Rattle.hwdb_spec.specs.Tree.{Map, Tree};
 ghost use Rattle.hwdb_spec.specs.Written.{IsDatabaseOf};
 ghost use Rattle.hwdb_text.specs.Views.{IsStorableChoice, choice_of};
-ghost use Rattle.hwdb_spec_commands.specs.StatusErrors.{IsNotCompiled, IsStatusRefused};
+ghost use Rattle.hwdb_spec_commands.specs.StatusErrors.{IsNotCompiled};
 ghost use Rattle.hwdb_spec_commands.specs.Told.{IsReadTo};
 ghost use Rattle.hwdb_plan.specs.Plans.{Follows, ReachesValue};
 ghost use Rattle.hwdb_plan.specs.Readable.{ReachesOf};
 ghost use Rattle.hwdb_plan.specs.Status.{databases_of, ignored_below, in_places, made_now, report_plan, seen_at, status_plan};
-ghost use Rattle.hwdb_tool.specs.Statuses.{AreIgnored, AreMadeOf, IsMadeNow, IsNotMadeNow, IsNow, IsOneUnread, IsReported, ignored_path, now_with, places};
-ghost use Rattle.hwdb_tool.specs.Views.{end_of, texts_in};
+ghost use Rattle.hwdb_tool.specs.Statuses.{AreMadeOf, IsNow, ignored_path, now_with, places};
+ghost use Rattle.hwdb_tool.specs.Views.{end_of};
 ghost use Rattle.hwdb_spec.specs.declared.errors.ToolError.{ToolError};
 ghost use Rattle.hwdb_spec_commands.specs.declared.refusals.Refusal.TheVariants.{Plain};
 
@@ -155,12 +153,8 @@ fn ignored_paths<D: TextFolders>(
 ) -> Result<Vec<Vec<u8>>, Refusal>
     ensures told { D.Store.tells → ReachesValue (λ paths. map (λ p. p.items) paths.items)
         (D.System.reads system.now) (ignored_below root.now) result }
-    ensures paths { D.Store.tells → IfOk result (λ paths. AreIgnored
-        root.now (D.Store.seen system.now) (map (λ p. p.items) paths.items)) }
     ensures refused { D.Store.tells
         → IfErr result (AreUnread root.now (D.Store.seen system.now)) }
-    ensures reason { IfErr result
-        (HasReason (D.System.may_fail system.now) ⊥ (D.Store.seen system.now)) }
 {
     let etc = system.ignored_names(alloc, root, false)?;
     let usr = system.ignored_names(alloc, root, true)?;
@@ -199,10 +193,6 @@ fn usr_database<D: System>(
         ≡ bytes_at (D.Store.seen system.now) (Asked.database_path true root.now)) }
     ensures within { IfOk result (λ found. IfSome (option_map (λ b. b.items) found)
         (λ b. length b ≤ max_file)) }
-    ensures refused { D.Store.tells → IfErr result (IsUnreadAt (D.Store.seen system.now)
-        (Asked.database_path true root.now)) }
-    ensures reason { IfErr result
-        (HasReason (D.System.may_fail system.now) ⊥ (D.Store.seen system.now)) }
 {
     match found_in(alloc, root, USR_FOLDER, system)? {
         Some(found) => Ok(Some(found.bytes)),
@@ -224,10 +214,6 @@ fn asked_in_usr<D: System>(alloc: Global, root: &str, system: &D) -> Result<Aske
     ensures within { IfOk result (λ a. IfSome (option_map (λ b. b.items) a.bytes)
         (λ b. length b ≤ max_file)) }
     ensures hidden { IfOk result (λ a. option_map (λ b. b.items) a.hidden ≡ None) }
-    ensures refused { D.Store.tells → IfErr result (IsUnreadAt (D.Store.seen system.now)
-        (Asked.database_path true root.now)) }
-    ensures reason { IfErr result
-        (HasReason (D.System.may_fail system.now) ⊥ (D.Store.seen system.now)) }
 {
     let bytes = usr_database(alloc, root, system)?;
     Ok(AskedDatabase {
@@ -257,10 +243,6 @@ fn asked_in_etc<D: System>(
         ≡ bytes_at (D.Store.seen system.now) (Asked.database_path true root.now)) }
     ensures within { IfOk result (λ a. IfSome (option_map (λ b. b.items) a.hidden)
         (λ b. length b ≤ max_file)) }
-    ensures refused { D.Store.tells → IfErr result (IsUnreadAt (D.Store.seen system.now)
-        (Asked.database_path true root.now)) }
-    ensures reason { IfErr result
-        (HasReason (D.System.may_fail system.now) ⊥ (D.Store.seen system.now)) }
 {
     let hidden = usr_database(alloc, root, system)?;
     Ok(AskedDatabase {
@@ -292,10 +274,6 @@ fn asked_database<D: System>(
         ≡ hidden_database root.now (D.Store.seen system.now)) }
     ensures hidden_within { IfOk result (λ a. IfSome (option_map (λ b. b.items) a.hidden)
         (λ b. length b ≤ max_file)) }
-    ensures refused { D.Store.tells
-        → IfErr result (IsOneUnread root.now (D.Store.seen system.now)) }
-    ensures reason { IfErr result
-        (HasReason (D.System.may_fail system.now) ⊥ (D.Store.seen system.now)) }
 {
     match found_in(alloc, root, ETC_FOLDER, system)? {
         Some(found) => asked_in_etc(alloc, root, found.bytes, system),
@@ -525,13 +503,6 @@ fn reported<D: System>(
         → Follows end_of (D.System.reads system.now) (report_plan root.now json quiet
         (now_with m made.now bare (map (λ p. p.items) unread.masked.items)
         (map (λ p. p.items) unread.ignored.items))) result }
-    ensures reported { D.Store.tells → IfOk result (λ a. (m : Map) → IsDatabaseOf m made.now
-        → IsReported root.now json quiet (D.Store.seen system.now) made.now m
-        (map (λ p. p.items) unread.masked.items) (map (λ p. p.items) unread.ignored.items) bare a) }
-    ensures refused { D.Store.tells
-        → IfErr result (IsOneUnread root.now (D.Store.seen system.now)) }
-    ensures reason { IfErr result
-        (HasReason (D.System.may_fail system.now) ⊥ (D.Store.seen system.now)) }
 {
     law_one_tree();
     let asked = asked_database(alloc, root, system)?;
@@ -548,15 +519,7 @@ fn made_now<D: TextFolders>(alloc: Global, root: &str, system: &D) -> Result<Mad
         (map (λ p. p.items) now.unread.masked.items)
         (map (λ p. p.items) now.unread.ignored.items))
         (D.System.reads system.now) (made_now root.now) result }
-    ensures made { D.Store.tells → IfOk result (λ now. IsMadeNow
-        root.now (D.Store.seen system.now) now.database.items
-        (map (λ p. p.items) now.unread.masked.items)
-        (map (λ p. p.items) now.unread.ignored.items) now.bare) }
     ensures sound { IfOk result (λ now. (t : Tree) × IsDatabase now.database.items t) }
-    ensures refused { D.Store.tells
-        → IfErr result (IsNotMadeNow root.now (D.Store.seen system.now)) }
-    ensures reason { D.Store.tells → IfErr result
-        (HasReason (D.System.may_fail system.now) ⊥ (D.Store.seen system.now)) }
 {
     let selection = selected(alloc, root, system)?;
     let ignored = ignored_paths(alloc, root, system)?;
@@ -585,12 +548,6 @@ pub fn status<D: TextFolders>(
 ) -> Result<Answer, Refusal>
     ensures follows { D.Store.tells → Follows end_of (D.System.reads system.now)
         (status_plan root.now json quiet) result }
-    ensures status { D.Store.tells → IfOk result (λ a. OnOut (λ text. IsStatus
-        root.now json quiet (D.Store.seen system.now) text a.status) (texts_in a)) }
-    ensures refused { D.Store.tells
-        → IfErr result (IsStatusRefused root.now (D.Store.seen system.now)) }
-    ensures reason { D.Store.tells → IfErr result
-        (HasReason (D.System.may_fail system.now) ⊥ (D.Store.seen system.now)) }
 {
     let MadeNow {
         database,

@@ -1,13 +1,10 @@
 //! `test`: test files that are tried over a database. Nothing is written.
-ghost use Rattle.std.specs.Prelude.{◌≡◌, ◌≤◌, All, false, length, is_some, map, option_map, string_bytes, IfErr, IfOk};
-ghost use Rattle.hwdb_spec_commands.specs.Refusals.{HasReason};
+ghost use Rattle.std.specs.Prelude.{◌≡◌, ◌≤◌, All, false, length, map, option_map, string_bytes, IfErr, IfOk};
 ghost use Rattle.hwdb_check.specs.Checks.{source_of};
-ghost use Rattle.hwdb_spec_commands.specs.Asked.{IsPrinted};
 ghost use Rattle.hwdb_spec_commands.specs.Given.{any_dash};
 ghost use Rattle.hwdb_spec_commands.specs.Runs.{OnOut};
-ghost use Rattle.hwdb_spec_program.specs.Tested.{IsTested, IsVerdict};
-ghost use Rattle.hwdb_spec_program.specs.TestErrors.{AreUntried, HasTestReason, IsTestRefused, IsTrialRefusal};
-ghost use Rattle.hwdb_spec_commands.specs.Undone.{IsUnreadableIf};
+ghost use Rattle.hwdb_spec_program.specs.Tested.{IsVerdict};
+ghost use Rattle.hwdb_spec_program.specs.TestErrors.{IsTrialRefusal};
 ghost use Rattle.hwdb_plan.specs.Asking.{named};
 ghost use Rattle.hwdb_plan.specs.Files.{OfInput};
 ghost use Rattle.hwdb_plan.specs.Plans.{Follows};
@@ -44,17 +41,7 @@ pub fn test<D: System, I: Source>(
         (I.failures input.new) (λ told. Follows end_of (D.System.reads system.now)
         (test_plan told (map string_bytes given.now) (option_map (λ t. t.now) database.entry)
         root.now json) result) }
-    ensures tested { D.Store.tells → IfOk result (λ a. OnOut (λ text. IsTested json
-        (map string_bytes given.now) (option_map (λ t. t.now) database.entry) root.now
-        (I.left input.old) (D.Store.seen system.now) text a.status) (texts_in a)) }
-    ensures refused { D.Store.tells → IfErr result (IsTestRefused (map string_bytes given.now)
-        (option_map (λ t. t.now) database.entry) root.now (I.left input.old)
-        (D.Store.seen system.now)) }
     ensures unread { any_dash (map string_bytes given.now) ≡ false → input.new ≡ input.old }
-    ensures reason { D.Store.tells → IfErr result (HasTestReason (map string_bytes given.now)
-        (option_map (λ t. t.now) database.entry) root.now (D.System.may_fail system.now)
-        (D.Store.seen system.now) (I.left input.old) (I.failures input.old)
-        (I.failures input.new)) }
 {
     let texts = given_texts(alloc, given, given, system, input)?;
     let files = with_paths(alloc, given, &texts)?;
@@ -75,15 +62,6 @@ fn tried<D: System>(
         → Follows end_of (D.System.reads system.now)
         (named (option_map (λ t. t.now) database.entry) root.now
         (tested json (map source_of files.now))) result }
-    ensures tested { D.Store.tells → IfOk result (λ a. OnOut (IsPrinted
-        (option_map (λ t. t.now) database.entry) root.now
-        (IsVerdict json (map source_of files.now) a.status)
-        (D.Store.seen system.now)) (texts_in a)) }
-    ensures refused { D.Store.tells → IfErr result (AreUntried (map source_of files.now)
-        (option_map (λ t. t.now) database.entry) root.now (D.Store.seen system.now)) }
-    ensures reason { IfErr result (HasReason
-        (IsUnreadableIf (is_some (option_map (λ t. t.now) database.entry))
-        (D.System.may_fail system.now) (D.Store.seen system.now)) ⊥ (D.Store.seen system.now)) }
 {
     let found = named(alloc, root, database, system)?;
     match tried_over(alloc, json, files, &found.bytes) {

@@ -1,9 +1,8 @@
 //! `update`: the text files of both folders, compiled into the database of one.
-ghost use Rattle.std.specs.Prelude.{◌≡◌, ◌≢◌, ◌≤◌, ◌++◌, ℕ, List, length, map, option_map, string_bytes, All, IfOk, IfErr, IsErrOf};
+ghost use Rattle.std.specs.Prelude.{◌≡◌, ◌≢◌, ◌≤◌, ℕ, List, length, map, option_map, string_bytes, All, IfOk, IfErr};
 ghost use Rattle.hwdb_spec.specs.Flushing.{HandsOn};
 ghost use Rattle.hwdb_spec_commands.specs.Progress.{given_where};
 ghost use Rattle.hwdb_spec.specs.Store as spec;
-ghost use Rattle.hwdb_spec.specs.System as Folder;
 ghost use Rattle.hwdb_spec.specs.Texts.{max_file, status_of};
 ghost use Rattle.hwdb_spec.specs.Folders.{Choice, Source};
 ghost use Rattle.hwdb_plan.specs.Putting.{OldOrPut, PutsEnd, SaysThenPuts};
@@ -15,15 +14,13 @@ ghost use Rattle.hwdb_text.specs.Views.{IsStorableChoice, choice_of};
 ghost use Rattle.hwdb_compile.specs.Views.{ForFolders};
 ghost use Rattle.hwdb_text.specs.Views.{choice_in};
 ghost use Rattle.hwdb_spec_commands.specs.Runs.{files_by, told_by};
-ghost use Rattle.hwdb_spec_commands.specs.UpdateErrors.{IsUpdateRefusal, OnUnreplaced, UpdateUndone};
-ghost use Rattle.hwdb_spec_commands.specs.Done.{OldOrWritten, Updated, OldOrUpdated, OldOrUpdatedLess};
+ghost use Rattle.hwdb_spec_commands.specs.UpdateErrors.{IsUpdateRefusal, OnUnreplaced};
+ghost use Rattle.hwdb_spec_commands.specs.Done.{OldOrWritten, OldOrUpdated, OldOrUpdatedLess};
 ghost use Rattle.hwdb_spec_commands.specs.LeftOutTold.{AreTold};
-ghost use Rattle.hwdb_spec_commands.specs.Refusals.{HasReason};
-ghost use Rattle.hwdb_tool.specs.Emptying.{AfterLoss, IsUpdatedTold, PutsFiles, status_by};
+ghost use Rattle.hwdb_tool.specs.Emptying.{PutsFiles, status_by};
 ghost use Rattle.hwdb_tool.specs.Internal.{IsOfSelection};
-ghost use Rattle.hwdb_spec_commands.specs.Readable.{IsUpdateRefused, IsUpdatedLess};
 ghost use Rattle.hwdb_spec_commands.specs.LeftOut.{status_less};
-ghost use Rattle.hwdb_spec_commands.specs.Undone.{IsSelectedRefused, IsUnwritable, WasSayingCut};
+ghost use Rattle.hwdb_spec_commands.specs.Undone.{IsUnwritable};
 
 use crate::databases::database_folder;
 use crate::emptied::loss_if;
@@ -56,12 +53,6 @@ fn update_files<S: System, E: Sink>(
         (option_map (λ l. map string_bytes l.now) listed.entry) strict folder.now files.now
         (left store.old) (left store.new)
         (told_by E.taken E.failures err.old) (told_by E.taken E.failures err.new) }
-    ensures updated { let names = option_map (λ l. map string_bytes l.now) listed.entry in
-        IfOk result (λ status. AfterLoss loss.now files.now (λ before etc usr.
-        Updated etc usr names max_file strict status
-        before.bytes (E.taken err.new) (λ database. S.Store.tells → spec.InPlace folder.now database
-        (S.Store.seen store.old) (S.Store.seen store.new) (S.Store.may_leave store.new)))
-        (told_by E.taken E.failures err.old)) }
     ensures status { IfOk result (λ status. status ≤ 1) }
     ensures any_moment { S.Store.tells → ForFolders files.now (λ etc usr.
         spec.LeavesOnly S.Store.moment S.Store.left_since store.old store.new
@@ -74,19 +65,9 @@ fn update_files<S: System, E: Sink>(
 
     ensures refusals { IfErr result
         (λ e. ForFolders files.now (λ etc usr. IsUpdateRefusal etc usr max_file e)) }
-    ensures unreplaced { let names = option_map (λ l. map string_bytes l.now) listed.entry in
-        IfErr result (OnUnreplaced (λ u. AfterLoss loss.now files.now (λ before etc usr.
-        (E.failures err.new ≡ before.failures) × UpdateUndone etc usr names folder.now
-        before.bytes (E.taken err.new) S.Store.tells (S.Store.seen store.old)
-        (S.Store.seen store.new) (S.Store.may_leave store.old) (S.Store.may_leave store.new) u)
-        (told_by E.taken E.failures err.old))) }
     ensures unwritten { S.Store.tells → IfErr result (OnUnreplaced
         (λ _. IsUnwritable folder.now (S.Store.seen store.old)
         (S.Store.failures store.old) (S.Store.failures store.new))) }
-    ensures cut_short { let names = option_map (λ l. map string_bytes l.now) listed.entry in
-        IsErrOf result ToolError.Write → (store.new ≡ store.old) × ForFolders files.now
-        (λ etc usr. WasSayingCut loss.now etc usr names
-        (told_by E.taken E.failures err.old) (told_by E.taken E.failures err.new)) }
     ensures untouched { IfErr result
         (λ e. e ≢ ToolError.Write → ((u : Unreplaced) → e ≢ ToolError.Replace u)
         → (err.new ≡ err.old) × (store.new ≡ store.old)) }
@@ -140,20 +121,6 @@ fn update_selected<D: System, E: Sink>(
         (OldOrPut (D.System.reads system.old)
         (put_files root.now usr verbose (λ faults. less (status_of strict faults)) of_etc of_usr)
         (D.Store.seen system.old) (D.Store.may_leave system.old)) }
-    ensures updated { (files : spec.Contents) → IsOfSelection root.now files selection.now
-        → D.Store.tells → IfOk result (λ status. IsUpdatedTold root.now usr verbose strict status
-        files (D.Store.seen system.old) (told_by E.taken E.failures err.old) (E.taken err.new)
-        (λ database. spec.InPlace (Folder.database_folder usr root.now) database
-        (D.Store.seen system.old) (D.Store.seen system.new) (D.Store.may_leave system.new))) }
-    ensures refused { (files : spec.Contents) → IsOfSelection root.now files selection.now
-        → D.Store.tells → let left = files_by D.Store.seen D.System.may_fail
-        D.Store.may_leave D.Store.failures in IfErr result (λ r.
-        IsSelectedRefused root.now usr verbose files r
-        (left system.old) (left system.new)
-        (told_by E.taken E.failures err.old) (told_by E.taken E.failures err.new)) }
-    ensures reason { D.Store.tells → IfErr result (HasReason (D.System.may_fail system.old)
-        (IsUnwritable (Folder.database_folder usr root.now) (D.Store.seen system.old)
-        (D.Store.failures system.old) (D.Store.failures system.new)) (D.Store.seen system.old)) }
     ensures hands_on { HandsOn (E.is_flushed err.old) (E.is_flushed err.new)
         (E.failures err.old) (E.failures err.new) }
 {
@@ -215,20 +182,6 @@ pub fn update<D: System, E: Sink>(
         (OldOrPut (D.System.reads system.old)
         (update_plan root.now usr strict verbose skip words)
         (D.Store.seen system.old) (D.Store.may_leave system.old)) }
-    ensures updated { D.Store.tells → IfOk result (λ status. IsUpdatedLess root.now usr verbose
-        strict skip status (files_by D.Store.seen D.System.may_fail D.Store.may_leave
-        D.Store.failures system.old)
-        (told_by E.taken E.failures err.old) (told_by E.taken E.failures err.new)
-        (λ database. spec.InPlace (Folder.database_folder usr root.now) database
-        (D.Store.seen system.old) (D.Store.seen system.new) (D.Store.may_leave system.new))) }
-    ensures refused { D.Store.tells → let files = files_by D.Store.seen D.System.may_fail
-        D.Store.may_leave D.Store.failures in IfErr result (λ r.
-        IsUpdateRefused root.now usr verbose skip r
-        (files system.old) (files system.new)
-        (told_by E.taken E.failures err.old) (told_by E.taken E.failures err.new)) }
-    ensures reason { D.Store.tells → IfErr result (HasReason (D.System.may_fail system.old)
-        (IsUnwritable (Folder.database_folder usr root.now) (D.Store.seen system.old)
-        (D.Store.failures system.old) (D.Store.failures system.new)) (D.Store.seen system.old)) }
     ensures hands_on { HandsOn (E.is_flushed err.old) (E.is_flushed err.new)
         (E.failures err.old) (E.failures err.new) }
 {

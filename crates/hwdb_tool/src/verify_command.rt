@@ -1,22 +1,15 @@
 //! `verify`: a database that is read whole.
-ghost use Rattle.std.specs.Prelude.{◌≡◌, ℕ, [], false, true, List, Some, is_some, option_map, IfOk, IfErr};
+ghost use Rattle.std.specs.Prelude.{◌≡◌, ℕ, false, List, Some, option_map, IfOk};
 ghost use Rattle.hwdb_spec_commands.specs.Verdicts.{verdict_text};
-ghost use Rattle.hwdb_spec_commands.specs.VerifyErrors.{IsVerifyRefusal};
-ghost use Rattle.hwdb_spec_commands.specs.Refusals.{HasReason, IsInWords};
-ghost use Rattle.hwdb_spec_program.specs.GivenDatabases.{HasDatabaseReason, OfGiven, OfNamed, names_input};
-ghost use Rattle.hwdb_spec_program.specs.NamedDatabases.{IsOfVerify, IsVerifyRefused};
-ghost use Rattle.hwdb_tool.specs.Internal.{IsInputReason};
-ghost use Rattle.hwdb_tool.specs.Views.{end_of, texts_in};
-ghost use Rattle.hwdb_spec.specs.Store.{Contents};
+ghost use Rattle.hwdb_spec_commands.specs.Refusals.{IsInWords};
+ghost use Rattle.hwdb_spec_program.specs.GivenDatabases.{names_input};
+ghost use Rattle.hwdb_spec_program.specs.NamedDatabases.{IsOfVerify};
+ghost use Rattle.hwdb_tool.specs.Views.{end_of};
 ghost use Rattle.hwdb_spec_commands.specs.Told.{IsStop, Reads};
 ghost use Rattle.hwdb_spec_commands.specs.Told.Stop.{Says};
 ghost use Rattle.hwdb_plan.specs.Input.{OverInput, OverNamed};
 ghost use Rattle.hwdb_plan.specs.Verify.{summary, verify_plan, verify_stop};
 ghost use Rattle.hwdb_plan.specs.Plans.{Follows};
-ghost use Rattle.hwdb_spec_commands.specs.Asked.{IsPrinted};
-ghost use Rattle.hwdb_spec_commands.specs.Databases.{IsSummary};
-ghost use Rattle.hwdb_spec_commands.specs.Runs.{OnOut};
-ghost use Rattle.hwdb_spec_commands.specs.Undone.{IsUnreadableIf};
 ghost use Rattle.hwdb_spec.specs.declared.errors.VerifyError.{VerifyError};
 
 use crate::answer::Answer;
@@ -46,16 +39,6 @@ pub fn verify<D: System, I: Source>(
         (λ given reads. Follows end_of reads (verify_plan given root.now) result) }
     ensures unread { names_input (option_map (λ t. t.now) given.entry) ≡ false
         → input.new ≡ input.old }
-    ensures verified { D.Store.tells → IfOk result (λ a. OnOut
-        (λ text. OfNamed (option_map (λ t. t.now) given.entry) (I.left input.old)
-        (D.Store.seen system.now) (λ given seen. IsPrinted given root.now IsSummary seen text))
-        (texts_in a)) }
-    ensures refused { D.Store.tells → IfErr result
-        (λ r. OfNamed (option_map (λ t. t.now) given.entry) (I.left input.old)
-        (D.Store.seen system.now) (λ given seen. IsVerifyRefused given root.now seen r)) }
-    ensures reason { IfErr result (HasDatabaseReason (option_map (λ t. t.now) given.entry)
-        (D.System.may_fail system.now) (D.Store.seen system.now)
-        (I.left input.old) (I.failures input.old) (I.failures input.new)) }
 {
     if names_input(given) {
         verify_input(alloc, input)
@@ -70,14 +53,6 @@ fn verify_input<I: Source>(alloc: Global, input: &mut I) -> Result<Answer, Refus
     ensures follows { (root : List ℕ) (reads : Reads) → OverInput
         (I.left input.old) (I.failures input.old) (I.failures input.new) reads
         (λ path reads. Follows end_of reads (verify_plan (Some path) root) result) }
-    ensures verified { (root : List ℕ) (seen : Contents) → IfOk result (λ a. OnOut
-        (λ text. OfGiven true [] (I.left input.old) seen
-        (λ path seen. IsPrinted (Some path) root IsSummary seen text)) (texts_in a)) }
-    ensures refused { (root : List ℕ) (seen : Contents) → IfErr result
-        (λ r. OfGiven true [] (I.left input.old) seen
-        (λ path seen. IsVerifyRefused (Some path) root seen r)) }
-    ensures reason { IfErr result (IsInputReason
-        (I.left input.old) (I.failures input.old) (I.failures input.new)) }
 {
     let bytes = read_input(alloc, input)?;
     summed(alloc, INPUT, &bytes)
@@ -94,15 +69,6 @@ fn verify_stored<D: System>(
     ensures status { IfOk result (λ a. a.status ≡ 0) }
     ensures follows { D.Store.tells → Follows end_of (D.System.reads system.now)
         (verify_plan (option_map (λ t. t.now) given.entry) root.now) result }
-    ensures verified { D.Store.tells → IfOk result (λ a. OnOut
-        (IsPrinted (option_map (λ t. t.now) given.entry) root.now IsSummary
-        (D.Store.seen system.now)) (texts_in a)) }
-    ensures refused { D.Store.tells → IfErr result
-        (IsVerifyRefused (option_map (λ t. t.now) given.entry) root.now
-        (D.Store.seen system.now)) }
-    ensures reason { IfErr result (HasReason
-        (IsUnreadableIf (is_some (option_map (λ t. t.now) given.entry))
-        (D.System.may_fail system.now) (D.Store.seen system.now)) ⊥ (D.Store.seen system.now)) }
 {
     let found = named(alloc, root, given, system)?;
     summed(alloc, found.path.as_bytes(), &found.bytes)
@@ -112,9 +78,6 @@ fn verify_stored<D: System>(
 fn summed(alloc: Global, path: &[u8], bytes: &[u8]) -> Result<Answer, Refusal>
     ensures status { IfOk result (λ a. a.status ≡ 0) }
     ensures follows { (reads : Reads) → Follows end_of reads (summary path.now bytes.now) result }
-    ensures summed { IfOk result (λ a. OnOut (IsSummary bytes.now) (texts_in a)) }
-    ensures refused { IfErr result (λ r. (error : VerifyError)
-        × IsOfVerify error path.now r × IsVerifyRefusal bytes.now error) }
 {
     match hwdb_databases::verify(alloc, bytes) {
         Ok(text) => Ok(Answer::new(alloc, text, 0)),

@@ -1,23 +1,21 @@
 -- Steps of functions that follow a plan with `--text`.
-use Rattle.std.proofs.Common.{◌≡◌, ◌≢◌, ◌≤◌, ◌+◌, ◌∙◌, ◌⊎◌, ◌∷◌, ◌++◌, arith, inl, inr, ap, append-nil, length-append, sym, subst, refl, Bool, true, false, List, [], length, take, Option, None, Some, Result, Ok, Err, MatchResult, ℕ}
+use Rattle.std.proofs.Common.{◌≡◌, ◌+◌, ◌∙◌, ◌⊎◌, ◌++◌, arith, inl, inr, ap, length-append, sym, subst, refl, true, false, List, [], length, Option, None, Some, Result, Ok, Err, ℕ}
 use Rattle.std.proofs.KnownBytes.{Appends-trans}
 use Rattle.std.proofs.Math.Seq.{take-append-add}
 use Rattle.std.proofs.lemmas.List.{take-append-le}
 use Rattle.std.specs.Io.KnownBytes.{Appends}
 use Rattle.std.specs.Result.{IsErrAnd}
 use Rattle.hwdb_spec.specs.Failures.{OneFailed}
-use Rattle.hwdb_spec.specs.declared.errors.ToolError.TheVariants as error
 use Rattle.hwdb_spec_commands.specs.Asked.{database_path}
 use Rattle.hwdb_spec_commands.specs.Runs.{HasTaken, Told, WasCut}
 use Rattle.hwdb_spec_commands.specs.Told.{Reads, Stop}
 use Rattle.hwdb_spec_commands.specs.Told.Stop.{NoDatabase}
 use Rattle.hwdb_spec_commands.specs.declared.form.Form.{Form}
 use Rattle.hwdb_spec_commands.specs.declared.refusals.Refusal.{Refusal}
-use Rattle.hwdb_spec_commands.specs.declared.refusals.Refusal.TheVariants as refusal
 use Rattle.hwdb_spec_commands.specs.declared.unread.Unread.{Unread}
 use Rattle.hwdb_plan.specs.Answers.{answer_plan, answered}
 use Rattle.hwdb_plan.specs.Asking.{if_there}
-use Rattle.hwdb_plan.specs.Ended.{FailedIn, Outs, Prints, Shows, TookBoth}
+use Rattle.hwdb_plan.specs.Ended.{FailedIn, Outs, Prints, Shows}
 use Rattle.hwdb_plan.specs.Folders.{Texts, texts_of_folders}
 use Rattle.hwdb_plan.specs.Lemmas.Folders.{value_stops, value_then}
 use Rattle.hwdb_plan.specs.OverText.{Basis, basis, basis_now, basis_of, from_basis, is_first, said_after, text_plan, with_after}

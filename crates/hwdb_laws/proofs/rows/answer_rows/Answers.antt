@@ -1,4 +1,4 @@
-use Rattle.hwdb_laws.proofs.ComputedAnswerRows.{database_rows, dump_rows, file_list_rows, file_rows, hit_rows, limit_rows, line_rows, list_rows, lone_rows, name_rows, near_rows, node_rows, pattern_rows, position_rows, raw_rows, said_rows, string_rows, unsaid_rows}
+use Rattle.hwdb_laws.proofs.ComputedAnswerRows.{database_rows, dump_rows, entry_rows, file_list_rows, file_rows, hit_rows, limit_rows, line_rows, list_rows, lone_rows, name_rows, near_rows, node_rows, pattern_rows, position_rows, raw_rows, said_rows, string_rows, unsaid_rows}
 use Rattle.hwdb_laws.proofs.rows.answer_rows.Goals as goal
 
 pub returns : goal.returns
@@ -14,6 +14,7 @@ returns c = record {
   file_list = file_list_rows;
   strings = string_rows;
   dump = dump_rows;
+  entries = entry_rows;
   said = said_rows;
   unsaid = unsaid_rows;
   patterns = pattern_rows;

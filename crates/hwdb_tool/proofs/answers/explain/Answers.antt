@@ -1,5 +1,4 @@
 use Rattle.std.proofs.Common.{◌∙◌, [], ◌∷◌, subst, sym, List, ℕ}
-use Rattle.hwdb_spec.specs.Lemmas.Calls.{each_error, each_value}
 use Rattle.hwdb_spec_commands.specs.Given.{is_dash}
 use Rattle.hwdb_spec_commands.specs.Runs.{told_by}
 use Rattle.hwdb_spec_commands.specs.declared.form.Form.TheVariants.{Explain}
@@ -9,7 +8,6 @@ use Rattle.hwdb_plan.specs.Lemmas.Ends.{answer_shows}
 use Rattle.hwdb_plan.specs.Plans.{Follows}
 use Rattle.hwdb_tool.specs.Views.{end_of}
 use Rattle.hwdb_tool.specs.declared.answer.Answer.{Answer}
-use Rattle.hwdb_tool.proofs.DevicesAsBeforeLemmas.{devices_as_before}
 use Rattle.hwdb_tool.proofs.answers.explain.Goals as goal
 
 pub returns-then-is_dash-clause-follows : goal.returns-then-is_dash-clause-follows
@@ -31,43 +29,3 @@ returns-clause-follows g c = λ tells.
     (answer_shows (λ (a : Answer). a.status) (λ a. a.err.items) (λ a. a.out.items) c.explain_given-answer.result c.printed.result w (answer_plan c.args.root.now (Explain c.args.json) (c.args.device.now ∷ [])) input input
     (outs (err c.args.err.now) (out c.args.out.now)) (outs (err c.printed.new.err) (out c.printed.new.out))
     (subst (λ (d : List ℕ). Follows end_of w (answer_plan c.args.root.now (Explain c.args.json) (d ∷ [])) c.explain_given-answer.result) c.as_bytes.ensures.value (c.explain_given-answer.ensures.follows tells)) c.printed.ensures.prints)
-
-pub returns-then-is_dash-clause-answered : goal.returns-then-is_dash-clause-answered
-returns-then-is_dash-clause-answered g c = λ tells.
-    let s = c.args.system.now in
-    let input = told_by g.I.Source.left g.I.Source.failures in
-    let err = told_by g.E.Sink.taken g.E.Sink.failures in
-    let out = told_by g.O.Sink.taken g.O.Sink.failures in
-    each_value _ _ c.answer_input.result (λ n is. is.1)
-    (devices_as_before (g.D.System.reads s) (g.D.Store.seen s) (g.D.System.may_fail s) c.args.root.now (Explain c.args.json) (c.args.device.now ∷ []) (input c.args.input.now) (input c.answer_input.new.input) (outs (err c.args.err.now) (out c.args.out.now))
-    (outs (err c.answer_input.new.err) (out c.answer_input.new.out)) (g.met.D.System.agrees s tells) (is_dash c.args.device.now) c.answer_input.result (returns-then-is_dash-clause-follows g c tells)).0
-
-pub returns-then-is_dash-clause-refused : goal.returns-then-is_dash-clause-refused
-returns-then-is_dash-clause-refused g c = λ tells.
-    let s = c.args.system.now in
-    let input = told_by g.I.Source.left g.I.Source.failures in
-    let err = told_by g.E.Sink.taken g.E.Sink.failures in
-    let out = told_by g.O.Sink.taken g.O.Sink.failures in
-    each_error _ _ c.answer_input.result (λ r is. is.0)
-    (devices_as_before (g.D.System.reads s) (g.D.Store.seen s) (g.D.System.may_fail s) c.args.root.now (Explain c.args.json) (c.args.device.now ∷ []) (input c.args.input.now) (input c.answer_input.new.input) (outs (err c.args.err.now) (out c.args.out.now))
-    (outs (err c.answer_input.new.err) (out c.answer_input.new.out)) (g.met.D.System.agrees s tells) (is_dash c.args.device.now) c.answer_input.result (returns-then-is_dash-clause-follows g c tells)).1
-
-pub returns-then-is_dash-clause-reason : goal.returns-then-is_dash-clause-reason
-returns-then-is_dash-clause-reason g c = λ tells.
-    let s = c.args.system.now in
-    let input = told_by g.I.Source.left g.I.Source.failures in
-    let err = told_by g.E.Sink.taken g.E.Sink.failures in
-    let out = told_by g.O.Sink.taken g.O.Sink.failures in
-    each_error _ _ c.answer_input.result (λ r is. is.1)
-    (devices_as_before (g.D.System.reads s) (g.D.Store.seen s) (g.D.System.may_fail s) c.args.root.now (Explain c.args.json) (c.args.device.now ∷ []) (input c.args.input.now) (input c.answer_input.new.input) (outs (err c.args.err.now) (out c.args.out.now))
-    (outs (err c.answer_input.new.err) (out c.answer_input.new.out)) (g.met.D.System.agrees s tells) (is_dash c.args.device.now) c.answer_input.result (returns-then-is_dash-clause-follows g c tells)).1
-
-pub returns-clause-reason : goal.returns-clause-reason
-returns-clause-reason g c = λ tells.
-    let s = c.args.system.now in
-    let input = told_by g.I.Source.left g.I.Source.failures in
-    let err = told_by g.E.Sink.taken g.E.Sink.failures in
-    let out = told_by g.O.Sink.taken g.O.Sink.failures in
-    each_error _ _ c.printed.result (λ r is. is.1)
-    (devices_as_before (g.D.System.reads s) (g.D.Store.seen s) (g.D.System.may_fail s) c.args.root.now (Explain c.args.json) (c.args.device.now ∷ []) (input c.args.input.now) (input c.args.input.now) (outs (err c.args.err.now) (out c.args.out.now))
-    (outs (err c.printed.new.err) (out c.printed.new.out)) (g.met.D.System.agrees s tells) (is_dash c.args.device.now) c.printed.result (returns-clause-follows g c tells)).1

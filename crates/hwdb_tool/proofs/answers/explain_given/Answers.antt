@@ -10,7 +10,6 @@ use Rattle.hwdb_plan.specs.Dump.{database_stop}
 use Rattle.hwdb_plan.specs.Lemmas.Steps.{stopped}
 use Rattle.hwdb_tool.specs.Views.{end_of}
 use Rattle.hwdb_tool.specs.declared.databases.FoundDatabase.{FoundDatabase}
-use Rattle.hwdb_tool.proofs.AnswersAsBeforeLemmas.{answers_as_before}
 use Rattle.hwdb_tool.proofs.LookupPlanLemmas.{answered_ends, unanswered_ends}
 use Rattle.hwdb_tool.proofs.answers.explain_given.Goals as goal
 
@@ -34,9 +33,3 @@ returns-clause-follows g c = λ tells.
     unanswered_ends (g.D.System.reads c.args.system.now) (asked c.args.root.now) (string_bytes f.path) f.bytes.items (c.in_ok-found.ensures.follows tells) (Explain c.args.json) (c.args.device.now ∷ []) c.in-Err.error c.refused_database.result
     (subst (λ (b : List ℕ). IsDatabaseRefusal b c.in-Err.error) c.deref.ensures.value c.in-Err.ensures.refusals)
     (subst (λ (p : List ℕ). IsStop (database_stop p c.in-Err.error) c.refused_database.result) c.as_bytes.ensures.value c.refused_database.ensures.stops)
-
-pub returns-clause-refused : goal.returns-clause-refused
-returns-clause-refused g c = λ tells.
-    let s = c.args.system.now in
-    (answers_as_before (g.D.System.reads s) (g.D.Store.seen s) (g.D.System.may_fail s) c.args.root.now (Explain c.args.json) (c.args.device.now ∷ []) (g.met.D.System.agrees s tells) (Err c.refused_database.result)
-    (returns-clause-follows g c tells)).1

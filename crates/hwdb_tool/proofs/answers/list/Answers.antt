@@ -9,7 +9,6 @@ use Rattle.hwdb_plan.specs.Asking.{asked}
 use Rattle.hwdb_plan.specs.Dump.{database_stop}
 use Rattle.hwdb_plan.specs.Ended.{outs}
 use Rattle.hwdb_plan.specs.List.{listed}
-use Rattle.hwdb_tool.proofs.AnswersAsBeforeLemmas.{list_as_before}
 use Rattle.hwdb_tool.proofs.LookupPlanLemmas.{listed_shows, listed_stops, unread_shows}
 use Rattle.hwdb_tool.proofs.answers.list.Goals as goal
 
@@ -49,17 +48,3 @@ returns-clause-follows g c = λ tells input err.
 
 abbrev nobody : Told
 nobody = record { bytes = None; failures = 0 }
-
-pub returns-in-Ok-clause-answered : goal.returns-in-Ok-clause-answered
-returns-in-Ok-clause-answered g c = λ tells.
-    let s = c.args.system.now in
-    let told = told_by g.O.Sink.taken g.O.Sink.failures in
-    (list_as_before (g.D.System.reads s) (g.D.Store.seen s) (g.D.System.may_fail s) c.args.root.now c.args.json c.args.device.now (option_map (λ t. t.now) c.args.after) c.args.limit nobody nobody
-    (outs nobody (told c.args.out.now)) (outs nobody (told c.print_list.new.out)) (g.met.D.System.agrees s tells) (Ok 0) (returns-in-Ok-clause-follows g c tells nobody nobody)).0.1
-
-pub returns-clause-refused : goal.returns-clause-refused
-returns-clause-refused g c = λ tells.
-    let s = c.args.system.now in
-    let told = told_by g.O.Sink.taken g.O.Sink.failures in
-    (list_as_before (g.D.System.reads s) (g.D.Store.seen s) (g.D.System.may_fail s) c.args.root.now c.args.json c.args.device.now (option_map (λ t. t.now) c.args.after) c.args.limit nobody nobody
-    (outs nobody (told c.args.out.now)) (outs nobody (told c.print_list.new.out)) (g.met.D.System.agrees s tells) (Err c.refused_database.result) (returns-clause-follows g c tells nobody nobody)).1

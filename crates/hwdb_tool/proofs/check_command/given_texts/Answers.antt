@@ -1,12 +1,8 @@
 use Rattle.std.proofs.Common.{map, string_bytes, subst, sym, true, Vec, Global, List, [], ℕ}
 use Rattle.std.proofs.lemmas.Result.{IfErr-weaker}
-use Rattle.hwdb_spec_commands.specs.Given.{any_dash}
-use Rattle.hwdb_spec.specs.Lemmas.Calls.{given_error}
-use Rattle.hwdb_spec_commands.specs.Reasons.{HasFilesReason}
 use Rattle.hwdb_plan.specs.Files.{ReachesFiles, read_files}
 use Rattle.hwdb_plan.specs.Lemmas.Files.{files_end, input_ends}
 use Rattle.hwdb_tool.proofs.CheckLemmas.{IsShort, given_texts_are, told_of}
-use Rattle.hwdb_tool.proofs.GivenLemmas.{files_reason, input_read, whole_reason}
 use Rattle.hwdb_tool.proofs.check_command.given_texts.Goals as goal
 
 pub returns-in_err-text-clause-told : goal.returns-in_err-text-clause-told
@@ -38,26 +34,3 @@ returns-clause-files g c = λ tells.
     let told = told_of given input _ _ c.deref.ensures.value c.in_ok-text.ensures.whole in
     let short = subst (λ (t : List ℕ). IsShort t) (sym c.deref.ensures.value) c.in_ok-text.ensures.within in
     given_texts_are given input (g.D.Store.seen c.args.system.now) c.deref.result.now c.read_given.result told (c.read_given.ensures.read tells) (c.read_given.ensures.within short)
-
-pub returns-in_err-text-clause-reason : goal.returns-in_err-text-clause-reason
-returns-in_err-text-clause-reason g c = λ tells.
-    let given = map string_bytes c.args.given.now in
-    let fails = g.D.System.may_fail c.args.system.now in
-    let seen = g.D.Store.seen c.args.system.now in
-    let input = g.I.Source.left c.args.input.now in
-    let before = g.I.Source.failures c.args.input.now in
-    let now = g.I.Source.failures c.input_text.new.input in
-    let r = c.in_err-text.field-0.0 in
-    given_error r (HasFilesReason true given fails seen input before now) c.from_residual.result c.from_residual.ensures.1
-    (whole_reason given fails seen input before now r c.in_err-text.ensures.reason)
-
-pub returns-clause-reason : goal.returns-clause-reason
-returns-clause-reason g c = λ tells.
-    let given = map string_bytes c.args.given.now in
-    let fails = g.D.System.may_fail c.args.system.now in
-    let seen = g.D.Store.seen c.args.system.now in
-    let input = g.I.Source.left c.args.input.now in
-    let before = g.I.Source.failures c.args.input.now in
-    let now = g.I.Source.failures c.input_text.new.input in
-    IfErr-weaker c.read_given.result _ _
-    (λ r is. files_reason given fails seen input before now r (input_read (any_dash given) input _ c.in_ok-text.ensures.whole c.in_ok-text.ensures.within) is) (c.read_given.ensures.reason tells)

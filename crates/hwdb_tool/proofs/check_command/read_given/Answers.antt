@@ -1,20 +1,13 @@
 use Rattle.std.proofs.Common.{All, Global, List, String, Vec, [], ap, drop, inr, length, map, rules, string_bytes, subst, sym, take, ◌+◌, ◌++◌, ◌∙◌, ◌∷◌, ◌≡◌, ◌≤◌, ◌⊎◌, false, Some, ℕ}
 use Rattle.std.proofs.lemmas.List.{drop_all, map-append, take_all}
 use Rattle.std.proofs.lemmas.List.Elements.{All-more, All-nil, All-push}
-use Rattle.hwdb_spec_commands.specs.Refusals.{IsUnread, IsUnreadAt}
-use Rattle.hwdb_spec_commands.specs.declared.refusals.Refusal.TheVariants.{Plain}
-use Rattle.hwdb_spec.specs.declared.errors.ToolError.TheVariants.{Memory}
-use Rattle.hwdb_spec_commands.specs.Given.{is_dash}
 use Rattle.hwdb_spec.specs.Texts.{max_file}
 use Rattle.hwdb_tool.specs.Internal.{bytes_given}
-use Rattle.hwdb_spec_commands.specs.Reasons.{IsFileReason, IsReadGiven}
-use Rattle.hwdb_spec_commands.specs.Undone.{IsGivenUnread, told_path}
-use Rattle.hwdb_tool.proofs.CheckLemmas.{first_given, given_unread, read_given, texts_given_more}
-use Rattle.hwdb_tool.proofs.GivenLemmas.{of_given}
+use Rattle.hwdb_spec_commands.specs.Reasons.{IsReadGiven}
+use Rattle.hwdb_tool.proofs.CheckLemmas.{read_given, texts_given_more}
 use Rattle.hwdb_plan.specs.Lemmas.Files.{AreRead, all_read, are_bytes, more_read, none_read, not_bytes, stops_reading}
 use Rattle.hwdb_tool.proofs.FileLemmas.{next_path, paths_more}
 use Rattle.hwdb_tool.proofs.check_command.read_given.Goals as goal
-use Rattle.hwdb_spec.specs.Lemmas.Calls.{given_error}
 
 pub returns-in_err-bytes-clause-told : goal.returns-in_err-bytes-clause-told
 returns-in_err-bytes-clause-told g c = λ tells.
@@ -33,25 +26,6 @@ returns-in_err-bytes-clause-told g c = λ tells.
     (next_path given k path c.path-item.is c.loop-path-test.true ∙ ap (λ (p : List ℕ). p ∷ map string_bytes (drop (k + 1) given)) (sym c.as_str-path.ensures.value)) (c.loop-path.invariant.told tells))
     (not_bytes w words text c.is_named-named.result.0 q (c.is_named-named.ensures.named c.loop-path.invariant.among) r (c.in_err-bytes.ensures.told tells) c.in_err-bytes.ensures.text)
     c.from_residual.ensures.1
-
-pub returns-in_err-bytes-clause-refused : goal.returns-in_err-bytes-clause-refused
-returns-in_err-bytes-clause-refused g c =
-    given_error c.in_err-bytes.field-0.0 (IsGivenUnread (map string_bytes c.args.given.now)) c.from_residual.result c.from_residual.ensures.1
-    (given_unread c.args.given.now c.loop-path.path-index c.path-item.result _ c.path-item.is c.loop-path-test.true
-    (subst (λ p. IsUnread (told_path p) c.in_err-bytes.field-0.0) c.as_str-path.ensures.value c.in_err-bytes.ensures.refused))
-
-pub returns-in_err-bytes-clause-reason : goal.returns-in_err-bytes-clause-reason
-returns-in_err-bytes-clause-reason g c = λ tells.
-    let seen = g.D.Store.seen c.args.system.now in
-    let given = map string_bytes c.args.given.now in
-    let path = string_bytes c.path-item.result in
-    let r = c.in_err-bytes.field-0.0 in
-    given_error r (IsFileReason given (g.D.System.may_fail c.args.system.now) seen) c.from_residual.result c.from_residual.ensures.1 (
-      of_given seen given path r
-          (λ plain. first_given seen c.args.given.now c.loop-path.path-index c.path-item.result c.path-item.is c.loop-path-test.true (c.loop-path.invariant.files tells) plain)
-          (subst (λ p. (r ≡ Plain Memory) ⊎ ((is_dash p ≡ false) × IsUnreadAt seen p r)) c.as_str-path.ensures.value (c.in_err-bytes.ensures.file tells)),
-      c.in_err-bytes.ensures.reason,
-    )
 
 pub loop-path-init : goal.loop-path-init
 loop-path-init g c =

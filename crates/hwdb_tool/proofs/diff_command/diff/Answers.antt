@@ -2,14 +2,9 @@ use Rattle.std.proofs.Common.{inl, inr, map, string_bytes, sym, ap, true, false,
 use Rattle.std.proofs.lemmas.Result.{IfErr-weaker}
 use Rattle.hwdb_check.specs.Checks.{source_of}
 use Rattle.hwdb_spec_commands.specs.Given.{any_dash}
-use Rattle.hwdb_spec_program.specs.ComparedDatabases.{HasDiffReason, IsCompared, IsDiffRefused}
-use Rattle.hwdb_spec_commands.specs.Comparisons.{comparison_form, devices_named, has_changed}
-use Rattle.hwdb_spec_commands.specs.Runs.{OnOut}
-use Rattle.hwdb_tool.specs.SideSteps.{IsPairError}
-use Rattle.hwdb_tool.specs.Views.{texts_in, end_of}
+use Rattle.hwdb_tool.specs.Views.{end_of}
 use Rattle.hwdb_tool.proofs.FileLemmas.{are_files}
-use Rattle.hwdb_tool.proofs.ComparisonLemmas.{all_compared, compared_reason, not_compared}
-use Rattle.hwdb_tool.proofs.InputSideLemmas.{at_start, compared_any, no_dash, none_named, one_dash, pair_any}
+use Rattle.hwdb_tool.proofs.InputSideLemmas.{no_dash, none_named, one_dash}
 use Rattle.hwdb_tool.proofs.diff_command.diff.Goals as goal
 use Rattle.hwdb_plan.specs.Diff.{change_of, diff_plan, sides_compared}
 use Rattle.hwdb_plan.specs.Files.{given_files}
@@ -21,80 +16,6 @@ use Rattle.hwdb_spec.specs.Folders.{Source}
 use Rattle.hwdb_spec_commands.specs.declared.unread.Unread.{Unread}
 use Rattle.hwdb_spec_commands.specs.declared.unread.Unread.TheVariants.{Memory}
 use Rattle.hwdb_spec_program.specs.GivenDatabases.{names_twice, twice_text}
-use Rattle.hwdb_spec.specs.Lemmas.Calls.{each_value, given_error}
-
-pub returns-then-names_twice-clause-refused : goal.returns-then-names_twice-clause-refused
-returns-then-names_twice-clause-refused g c = λ tells. inl (sym c.names_twice.ensures ∙ c.if-names_twice.true, c.refused_twice.ensures)
-
-pub returns-then-names_twice-clause-reason : goal.returns-then-names_twice-clause-reason
-returns-then-names_twice-clause-reason g c = λ tells. inr (inl (sym c.names_twice.ensures ∙ c.if-names_twice.true, c.refused_twice.ensures))
-
-pub returns-clause-diffed : goal.returns-clause-diffed
-returns-clause-diffed g c = λ tells.
-    let given = map string_bytes c.args.given.now in
-    let seen = g.D.Store.seen c.args.system.now in
-    let input = g.I.Source.left c.args.input.now in
-    let fails = g.D.System.may_fail c.args.system.now in
-    let old_path = c.args.old_path.now in
-    let new_path = c.args.new_path.now in
-    let before = g.I.Source.failures c.args.input.now in
-    let now = g.I.Source.failures c.compared.new.input in
-    let once = sym c.names_twice.ensures ∙ c.if-names_twice.false in
-    let files = c.deref-2.result.now in
-    let are = c.in_ok-texts.ensures.files tells (map source_of files) (are_files files given _ (ap (map (λ f. f.path.now)) c.deref-2.ensures.value ∙ c.in_ok-files.ensures.paths)
-    (ap (map (λ f. f.bytes.now)) c.deref-2.ensures.value ∙ c.in_ok-files.ensures.bytes ∙ ap (map (λ t. t.items)) c.deref.ensures.value)) in
-    let of = comparison_form c.args.stat c.args.json (devices_named (map source_of files)) in
-    let differ = has_changed (devices_named (map source_of files)) in
-    let done = at_start (any_dash given) (λ i. IfOk c.compared.result (λ a. OnOut (λ text. IsCompared of differ old_path new_path (g.I.Source.left i) seen text a.status) (texts_in a))) c.args.input.now c.given_texts.new.input
-    c.in_ok-texts.ensures.unread
-    (λ dash. each_value _ _ c.compared.result
-    (λ a is. (is.0, compared_any old_path new_path seen (g.I.Source.left c.given_texts.new.input) input (no_dash given old_path new_path once dash) of differ _ a.status is.1)))
-    (c.compared.ensures.compared tells (one_dash given old_path new_path once)) in
-    all_compared given old_path new_path input seen (map source_of files) are once c.args.stat c.args.json c.compared.result done
-
-pub returns-clause-refused : goal.returns-clause-refused
-returns-clause-refused g c = λ tells.
-    let given = map string_bytes c.args.given.now in
-    let seen = g.D.Store.seen c.args.system.now in
-    let input = g.I.Source.left c.args.input.now in
-    let fails = g.D.System.may_fail c.args.system.now in
-    let old_path = c.args.old_path.now in
-    let new_path = c.args.new_path.now in
-    let before = g.I.Source.failures c.args.input.now in
-    let now = g.I.Source.failures c.compared.new.input in
-    let once = sym c.names_twice.ensures ∙ c.if-names_twice.false in
-    let files = c.deref-2.result.now in
-    let are = c.in_ok-texts.ensures.files tells (map source_of files) (are_files files given _ (ap (map (λ f. f.path.now)) c.deref-2.ensures.value ∙ c.in_ok-files.ensures.paths)
-    (ap (map (λ f. f.bytes.now)) c.deref-2.ensures.value ∙ c.in_ok-files.ensures.bytes ∙ ap (map (λ t. t.items)) c.deref.ensures.value)) in
-    let error : IfErr c.compared.result (IsPairError fails seen input before now old_path new_path) =
-    at_start (any_dash given) (λ i. IfErr c.compared.result (IsPairError fails seen (g.I.Source.left i) (g.I.Source.failures i) now old_path new_path)) c.args.input.now c.given_texts.new.input
-    c.in_ok-texts.ensures.unread
-    (λ dash. IfErr-weaker c.compared.result _ _
-    (λ r e. pair_any old_path new_path seen (g.I.Source.left c.given_texts.new.input) input (no_dash given old_path new_path once dash) fails (g.I.Source.failures c.given_texts.new.input) now before now r e))
-    (c.compared.ensures.refused tells (one_dash given old_path new_path once)) in
-    not_compared given old_path new_path input seen (map source_of files) are once fails before now c.compared.result error
-
-pub returns-clause-reason : goal.returns-clause-reason
-returns-clause-reason g c = λ tells.
-    let given = map string_bytes c.args.given.now in
-    let seen = g.D.Store.seen c.args.system.now in
-    let input = g.I.Source.left c.args.input.now in
-    let fails = g.D.System.may_fail c.args.system.now in
-    let old_path = c.args.old_path.now in
-    let new_path = c.args.new_path.now in
-    let before = g.I.Source.failures c.args.input.now in
-    let now = g.I.Source.failures c.compared.new.input in
-    let once = sym c.names_twice.ensures ∙ c.if-names_twice.false in
-    let files = c.deref-2.result.now in
-    let are = c.in_ok-texts.ensures.files tells (map source_of files) (are_files files given _ (ap (map (λ f. f.path.now)) c.deref-2.ensures.value ∙ c.in_ok-files.ensures.paths)
-    (ap (map (λ f. f.bytes.now)) c.deref-2.ensures.value ∙ c.in_ok-files.ensures.bytes ∙ ap (map (λ t. t.items)) c.deref.ensures.value)) in
-    let error : IfErr c.compared.result (IsPairError fails seen input before now old_path new_path) =
-    at_start (any_dash given) (λ i. IfErr c.compared.result (IsPairError fails seen (g.I.Source.left i) (g.I.Source.failures i) now old_path new_path)) c.args.input.now c.given_texts.new.input
-    c.in_ok-texts.ensures.unread
-    (λ dash. IfErr-weaker c.compared.result _ _
-    (λ r e. pair_any old_path new_path seen (g.I.Source.left c.given_texts.new.input) input (no_dash given old_path new_path once dash) fails (g.I.Source.failures c.given_texts.new.input) now before now r e))
-    (c.compared.ensures.refused tells (one_dash given old_path new_path once)) in
-    compared_reason given old_path new_path input seen (map source_of files) are once fails before now c.compared.result error
 
 pub returns-clause-unread : goal.returns-clause-unread
 returns-clause-unread g c = λ none.
@@ -106,18 +27,6 @@ returns-in_err-texts-clause-unread g c = λ none. c.in_err-texts.ensures.unread 
 
 pub returns-in_err-files-clause-unread : goal.returns-in_err-files-clause-unread
 returns-in_err-files-clause-unread g c = λ none. c.in_ok-texts.ensures.unread (none_named (map string_bytes c.args.given.now) c.args.old_path.now c.args.new_path.now none).2
-
-pub returns-in_err-texts-clause-refused : goal.returns-in_err-texts-clause-refused
-returns-in_err-texts-clause-refused g c = λ tells.
-    let r = c.in_err-texts.field-0.0 in
-    given_error r (IsDiffRefused (map string_bytes c.args.given.now) c.args.old_path.now c.args.new_path.now (g.I.Source.left c.args.input.now) (g.D.Store.seen c.args.system.now)) c.from_residual.result c.from_residual.ensures.1
-    (inr (sym c.names_twice.ensures ∙ c.if-names_twice.false, inl c.in_err-texts.ensures.refused))
-
-pub returns-in_err-texts-clause-reason : goal.returns-in_err-texts-clause-reason
-returns-in_err-texts-clause-reason g c = λ tells.
-    let r = c.in_err-texts.field-0.0 in
-    given_error r (HasDiffReason (map string_bytes c.args.given.now) c.args.old_path.now c.args.new_path.now (g.D.System.may_fail c.args.system.now) (g.D.Store.seen c.args.system.now) (g.I.Source.left c.args.input.now) (g.I.Source.failures c.args.input.now)
-    (g.I.Source.failures c.given_texts.new.input)) c.from_residual.result c.from_residual.ensures.1 (inr (inr (inl (c.in_err-texts.ensures.refused, c.in_err-texts.ensures.reason tells))))
 
 -- ---- its plan
 abbrev texts_of : Vec (Vec ℕ Global) Global → List (List ℕ)

@@ -1,18 +1,15 @@
 use Rattle.std.proofs.Common.{List, ℕ, inl, inr, ⊎_elim, ◌∙◌, ap, arith, refl, Err, Ok, [], subst, sym, map, string_bytes}
+use Rattle.hwdb_spec_commands.specs.Runs.{AreKept, files_by, told_by}
 use Rattle.hwdb_spec_commands.specs.declared.job.WordsFault.TheVariants as words_fault
-use Rattle.hwdb_spec_commands.specs.Runs.{AreKept, World, files_by, told_by}
+use Rattle.hwdb_spec_commands.specs.Refusals.{Refused}
+use Rattle.hwdb_tool.proofs.UsageLemmas.{usage_line}
 use Rattle.hwdb_spec.specs.Store.{LeavesOnly}
 use Rattle.hwdb_spec_commands.specs.SysfsAnswers.{sight_by}
-use Rattle.hwdb_spec.specs.declared.errors.ToolError.TheVariants.{Memory, Write}
-use Rattle.hwdb_spec_commands.specs.Refusals.{Refused}
+use Rattle.hwdb_spec.specs.declared.errors.ToolError.TheVariants.{Memory}
 use Rattle.hwdb_spec_commands.specs.declared.refusals.Refusal.TheVariants.{Plain}
-use Rattle.hwdb_spec_commands.specs.declared.refusals.Refusal.{Refusal}
-use Rattle.hwdb_spec_program.specs.Program.{IsDone, OldOrAskedFor, OldOrDone, asks_text, root_of}
-use Rattle.hwdb_spec_program.specs.TaskRefusals.{IsJobNotDone}
+use Rattle.hwdb_spec_program.specs.Program.{OldOrAskedFor, OldOrDone}
 use Rattle.hwdb_tool.proofs.MomentLemmas.{leaves_more, leaves_old}
-use Rattle.hwdb_tool.proofs.CutLemmas.{cut_keeps_from}
 use Rattle.hwdb_tool.proofs.FlushLemmas.{handed_on, handed_on_twice}
-use Rattle.hwdb_tool.proofs.UsageLemmas.{usage_line}
 use Rattle.hwdb_tool.proofs.ReportLemmas.{help_is_told, refused_reported, status_is, usage_is_told}
 use Rattle.hwdb_plan.specs.Ended.{outs}
 use Rattle.hwdb_spec_program.specs.ProgramPlan.{OldOrAsked, ShowsPlan, UpdatesIfAsked, error_status, program_plan, update_of}
@@ -20,76 +17,6 @@ use Rattle.clap.specs.Simple.{subcommand_of}
 use Rattle.hwdb_spec_commands.specs.CommandLine.{hwdb_app}
 use Rattle.hwdb_tool.proofs.UpdatingLemmas.{crash_asked, crash_before, kept_so, leaves_kept, updates_asked}
 use Rattle.hwdb_tool.proofs.dispatch.program.Goals as goal
-
-pub returns-in-Ok-enter_root-clause-refused : goal.returns-in-Ok-enter_root-clause-refused
-returns-in-Ok-enter_root-clause-refused g c = λ tells is.
-    let F = files_by g.D.Store.seen g.D.System.may_fail g.D.Store.may_leave g.D.Store.failures in
-    let V = sight_by g.D.DeviceFiles.answers in
-    let I = told_by g.I.Source.left g.I.Source.failures in
-    let O = told_by g.O.Sink.taken g.O.Sink.failures in
-    let E = told_by g.E.Sink.taken g.E.Sink.failures in
-    let at : g.row.D.Denot → World = λ s. record { files = F s; input = I c.args.input.now; out = O c.args.out.now; err = E c.args.err.now; devices = V s } in
-    let left : World = record { files = F c.run_job.new.system; input = I c.run_job.new.input; out = O c.run_job.new.out; err = E c.run_job.new.err; devices = V c.run_job.new.system } in
-    inr (inl record {
-      job = c.in-Ok.job;
-      asked = c.in-Ok.ensures.job;
-      faultless = c.in-Ok.ensures.whole;
-      refusal = c.in-Err-run_job.refusal;
-      err_then = E c.run_job.new.err;
-      refused = subst (λ (s : g.row.D.Denot). IsJobNotDone c.in-Ok.job (at s) left c.in-Err-run_job.refusal) (c.enter_root.ensures.same tells) (c.in-Err-run_job.ensures.refused tells);
-      said = c.refuse_job.ensures.line is;
-      says = ⊎_elim (λ none. absurd (let h = none in omega (arith, is, h))) (λ same. same ∙ c.refused_status.ensures.is) c.refuse_job.ensures.status;
-    })
-
-pub returns-in-Ok-clause-refused : goal.returns-in-Ok-clause-refused
-returns-in-Ok-clause-refused g c = λ tells is.
-    let F = files_by g.D.Store.seen g.D.System.may_fail g.D.Store.may_leave g.D.Store.failures in
-    inr (inr (inr record {
-      job = c.in-Ok.job;
-      asked = c.in-Ok.ensures.job;
-      faultless = c.in-Ok.ensures.whole;
-      refusal = c.in-Err.refusal;
-      unread = c.in-Err.ensures.refused;
-      reason = c.in-Err.ensures.reason;
-      kept = subst (λ (s : g.row.D.Denot). AreKept (F c.args.system.now) (F s)) (sym (c.enter_root.ensures.same tells)) (record { same = λ p. refl; no_more = λ p v l. l });
-      said = record { said = c.in-Err.refusal; of = inl refl; words = c.refuse_for.ensures.line.0; one_line = c.refuse_for.ensures.line.1; line = c.refuse_for.ensures.line.2 };
-      out = refl;
-      says = refl;
-    }))
-
-pub returns-clause-refused : goal.returns-clause-refused
-returns-clause-refused g c = λ tells is. inr (inr (inl record {
-  fault = words_fault.Memory;
-  of = tt;
-  told = (record { said = Plain Memory; of = inl refl; words = []; one_line = refl; line = c.refuse_memory.ensures.line }, refl);
-  kept = record { same = λ p. refl; no_more = λ p v l. l };
-  says = refl;
-}))
-
-pub returns-in-Ok-enter_root-clause-done : goal.returns-in-Ok-enter_root-clause-done
-returns-in-Ok-enter_root-clause-done g c = λ tells is.
-    let job = c.in-Ok.job in
-    let F = files_by g.D.Store.seen g.D.System.may_fail g.D.Store.may_leave g.D.Store.failures in
-    let V = sight_by g.D.DeviceFiles.answers in
-    let I = told_by g.I.Source.left g.I.Source.failures in
-    let O = told_by g.O.Sink.taken g.O.Sink.failures in
-    let E = told_by g.E.Sink.taken g.E.Sink.failures in
-    let at : g.row.D.Denot → World = λ s. record { files = F s; input = I c.args.input.now; out = O c.args.out.now; err = E c.args.err.now; devices = V s } in
-    let left : World = record { files = F c.run_job.new.system; input = I c.run_job.new.input; out = O c.run_job.new.out; err = E c.run_job.new.err; devices = V c.run_job.new.system } in
-    let now : World = record { files = F c.run_job.new.system; input = I c.run_job.new.input; out = O c.run_job.new.out; err = E c.refuse_job.new.err; devices = V c.run_job.new.system } in
-    let over = subst (λ (s : g.row.D.Denot). IsJobNotDone job (at s) left c.in-Err-run_job.refusal) (c.enter_root.ensures.same tells) (c.in-Err-run_job.ensures.refused tells) in
-    let plain = subst (λ (r : Refusal). IsJobNotDone job (at c.args.system.now) left r) (c.refuse_job.ensures.said is) over in
-    let same = subst (λ (e : _). IsJobNotDone job (at c.args.system.now)
-    (record { files = F c.run_job.new.system; input = I c.run_job.new.input; out = O c.run_job.new.out; err = E e; devices = V c.run_job.new.system }) (Plain Write)) (sym (c.refuse_job.ensures.quiet is)) plain in
-    inr (inr (inl record {
-      job = job;
-      asked = c.in-Ok.ensures.job;
-      faultless = c.in-Ok.ensures.whole;
-      refused = same;
-      kept = cut_keeps_from (root_of job) job.usr job.strict (at c.args.system.now) now (asks_text job) job.task same;
-      reader = c.refuse_job.ensures.gone is;
-      writes = λ update. subst g.O.Outlet.reader_gone (c.run_job.ensures.update update) (c.refuse_job.ensures.gone is);
-    }))
 
 pub returns-in-Ok-run_job-clause-any_moment : goal.returns-in-Ok-run_job-clause-any_moment
 returns-in-Ok-run_job-clause-any_moment g c = λ tells.
@@ -119,20 +46,6 @@ returns-in-Ok-clause-any_moment g c = λ tells.
     let outcomes = OldOrAskedFor (g.D.System.may_fail before) (map string_bytes c.args.words.now) (g.D.Store.seen before) (g.D.Store.may_leave before) in
     subst (λ (s : g.row.D.Denot). LeavesOnly g.D.Store.moment g.D.Store.left_since before s outcomes) (sym (c.enter_root.ensures.same tells))
     (leaves_old g.D.Store.moment g.D.Store.left_since before outcomes (λ p v l. inl (g.met.D.Store.only_now before p v l)))
-
-pub returns-in-Err-Usage-clause-refused : goal.returns-in-Err-Usage-clause-refused
-returns-in-Err-Usage-clause-refused g c = λ tells is.
-    let before = told_by g.E.Sink.taken g.E.Sink.failures c.args.err.now in
-    let now = told_by g.E.Sink.taken g.E.Sink.failures c.write_text-in-Err-Usage.new.sink in
-    let line = usage_line c.as_bytes-in-Err-Usage.result.now c.write_text-in-Err-Usage.result before.bytes now.bytes before.failures now.failures
-    c.write_text-in-Err-Usage.ensures.took c.write_text-in-Err-Usage.ensures.cut_short in
-    inr (inr (inl record {
-      fault = words_fault.Usage c.in-Err-Usage.text;
-      of = rw c.in-Err-Usage.field-0-is at c.in-Err-Usage.ensures.told;
-      told = (subst (λ t. Refused t before.bytes now.bytes before.failures now.failures) c.as_bytes-in-Err-Usage.ensures.value line, refl);
-      kept = record { same = λ p. refl; no_more = λ p v l. l };
-      says = refl;
-    }))
 
 pub returns-in-Ok-run_job-clause-err_handed_on : goal.returns-in-Ok-run_job-clause-err_handed_on
 returns-in-Ok-run_job-clause-err_handed_on g c = handed_on _ _ _ _ c.run_job.ensures.err_hands_on
@@ -276,31 +189,25 @@ returns-clause-any_crash g c = λ tells.
     let old = c.args.system.now in
     crash_before (update_of (map string_bytes c.args.words.now)) g.D.Store.moment g.D.Store.left_since old (g.D.System.reads old) (g.D.Store.seen old) (g.D.Store.may_leave old) (g.met.D.Store.only_now old)
 
-pub returns-in-Ok-run_job-clause-done : goal.returns-in-Ok-run_job-clause-done
-returns-in-Ok-run_job-clause-done g c = λ tells zero.
-    let F = files_by g.D.Store.seen g.D.System.may_fail g.D.Store.may_leave g.D.Store.failures in
-    let V = sight_by g.D.DeviceFiles.answers in
-    let I = told_by g.I.Source.left g.I.Source.failures in
-    let O = told_by g.O.Sink.taken g.O.Sink.failures in
-    let E = told_by g.E.Sink.taken g.E.Sink.failures in
-    let at : g.row.D.Denot → World = λ s. record { files = F s; input = I c.args.input.now; out = O c.args.out.now; err = E c.args.err.now; devices = V s } in
-    let left : World = record { files = F c.run_job.new.system; input = I c.run_job.new.input; out = O c.run_job.new.out; err = E c.run_job.new.err; devices = V c.run_job.new.system } in
-    let done = subst (λ (s : g.row.D.Denot). IsDone c.in-Ok.job c.in-Ok-run_job.status (at s) left) (c.enter_root.ensures.same tells) (c.in-Ok-run_job.ensures.done tells) in
-    inl record {
-      job = c.in-Ok.job;
-      asked = c.in-Ok.ensures.job;
-      faultless = c.in-Ok.ensures.whole;
-      done = subst (λ (n : ℕ). IsDone c.in-Ok.job n (at c.args.system.now) left) zero done;
-    }
+pub returns-clause-untold : goal.returns-clause-untold
+returns-clause-untold g c = λ tells faulty is. record {
+  fault = words_fault.Memory;
+  of = tt;
+  told = (record { said = Plain Memory; of = inl refl; words = []; one_line = refl; line = c.refuse_memory.ensures.line }, refl);
+  kept = record { same = λ p. refl; no_more = λ p v l. l };
+  says = refl;
+}
 
-pub returns-in-Ok-run_job-clause-refused : goal.returns-in-Ok-run_job-clause-refused
-returns-in-Ok-run_job-clause-refused g c = λ tells some.
-    let F = files_by g.D.Store.seen g.D.System.may_fail g.D.Store.may_leave g.D.Store.failures in
-    let V = sight_by g.D.DeviceFiles.answers in
-    let I = told_by g.I.Source.left g.I.Source.failures in
-    let O = told_by g.O.Sink.taken g.O.Sink.failures in
-    let E = told_by g.E.Sink.taken g.E.Sink.failures in
-    let at : g.row.D.Denot → World = λ s. record { files = F s; input = I c.args.input.now; out = O c.args.out.now; err = E c.args.err.now; devices = V s } in
-    let left : World = record { files = F c.run_job.new.system; input = I c.run_job.new.input; out = O c.run_job.new.out; err = E c.run_job.new.err; devices = V c.run_job.new.system } in
-    let done = subst (λ (s : g.row.D.Denot). IsDone c.in-Ok.job c.in-Ok-run_job.status (at s) left) (c.enter_root.ensures.same tells) (c.in-Ok-run_job.ensures.done tells) in
-    inl record { job = c.in-Ok.job; asked = c.in-Ok.ensures.job; faultless = c.in-Ok.ensures.whole; done = done }
+pub returns-in-Err-Usage-clause-untold : goal.returns-in-Err-Usage-clause-untold
+returns-in-Err-Usage-clause-untold g c = λ tells faulty is.
+    let before = told_by g.E.Sink.taken g.E.Sink.failures c.args.err.now in
+    let now = told_by g.E.Sink.taken g.E.Sink.failures c.write_text-in-Err-Usage.new.sink in
+    let line = usage_line c.as_bytes-in-Err-Usage.result.now c.write_text-in-Err-Usage.result before.bytes now.bytes before.failures now.failures
+    c.write_text-in-Err-Usage.ensures.took c.write_text-in-Err-Usage.ensures.cut_short in
+    record {
+      fault = words_fault.Usage c.in-Err-Usage.text;
+      of = rw c.in-Err-Usage.field-0-is at c.in-Err-Usage.ensures.told;
+      told = (subst (λ t. Refused t before.bytes now.bytes before.failures now.failures) c.as_bytes-in-Err-Usage.ensures.value line, refl);
+      kept = record { same = λ p. refl; no_more = λ p v l. l };
+      says = refl;
+    }

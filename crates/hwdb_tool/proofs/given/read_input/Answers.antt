@@ -1,7 +1,7 @@
 use Rattle.std.proofs.Common.{ap, refl, Err, Ok, ◌∙◌}
 use Rattle.hwdb_spec.specs.Lemmas.Calls.{failed_call}
 use Rattle.hwdb_spec.specs.Texts.{max_file}
-use Rattle.hwdb_tool.proofs.NamedInputLemmas.{error_told, whole_so, whole_unread, within_of}
+use Rattle.hwdb_tool.proofs.NamedInputLemmas.{error_told, within_of}
 use Rattle.hwdb_tool.proofs.given.read_input.Goals as goal
 
 pub returns-in-Ok-clause-told : goal.returns-in-Ok-clause-told
@@ -11,11 +11,3 @@ pub returns-in-Err-clause-told : goal.returns-in-Err-clause-told
 returns-in-Err-clause-told g c =
     error_told (g.I.Source.left c.args.input.now) (g.I.Source.failures c.args.input.now) (g.I.Source.failures c.read_all.new.source) c.in-Err.error c.cause.result c.refusal_of.result
     (λ e. failed_call _ _ (c.in-Err.ensures.failures.0 e)) (λ e. c.read_all.ensures.too_long (c.in-Err.is ∙ ap Err e)) c.refusal_of.ensures.stops
-
-pub returns-in-Err-clause-refused : goal.returns-in-Err-clause-refused
-returns-in-Err-clause-refused g c = whole_unread c.in-Err.error c.refusal_of.result c.refusal_of.ensures.is
-
-pub returns-in-Err-clause-reason : goal.returns-in-Err-clause-reason
-returns-in-Err-clause-reason g c =
-    whole_so (g.I.Source.left c.args.input.now) (g.I.Source.failures c.args.input.now) (g.I.Source.failures c.read_all.new.source) c.in-Err.error c.refusal_of.result
-    (λ e. failed_call _ _ (c.in-Err.ensures.failures.0 e)) (λ e. c.read_all.ensures.too_long (c.in-Err.is ∙ ap Err e)) c.refusal_of.ensures.is

@@ -1,33 +1,15 @@
 use Rattle.std.proofs.Common.{◌+◌, ◌∙◌, ◌∷◌, ap, drop, map, string_bytes, subst, Err, Global, List, Ok, String, Vec, ℕ}
 use Rattle.std.proofs.lemmas.List.{drop_all}
-use Rattle.hwdb_spec_commands.specs.CheckedFiles.{StandsFor, is_file}
 use Rattle.hwdb_spec_commands.specs.Given.{any_dash, is_dash}
-use Rattle.hwdb_spec_commands.specs.GivenFolders.{AreFoldersUnread, IsFolderUnread}
 use Rattle.hwdb_plan.specs.GivenFolders.{files_for}
 use Rattle.hwdb_plan.specs.Lemmas.GivenFolders.{FilesAreNamed, all_named, naming_stops, none_named, one_named}
 use Rattle.hwdb_plan.specs.Plans.{ReachesValue}
 use Rattle.hwdb_tool.proofs.FileLemmas.{next_path}
-use Rattle.hwdb_tool.proofs.GivenFolderLemmas.{member_plain, memory_unread, none_more, one_unread, stand_next}
+use Rattle.hwdb_tool.proofs.GivenFolderLemmas.{member_plain, none_more}
 use Rattle.hwdb_tool.proofs.given_folders.named_files.Goals as goal
-use Rattle.hwdb_spec.specs.Lemmas.Calls.{given_error}
-
-pub returns-in_err-own-clause-refused : goal.returns-in_err-own-clause-refused
-returns-in_err-own-clause-refused g c = λ tells.
-    let seen = g.D.Store.seen c.args.system.now in
-    let given = c.args.given.now in
-    let e = c.in_err-own.field-0.0 in
-    given_error e (AreFoldersUnread seen (map string_bytes given)) c.from_residual.result c.from_residual.ensures.1
-    (one_unread seen given c.loop-path.path-index c.path-item.result (map string_bytes c.loop-path.paths.items) e c.path-item.is c.loop-path-test.true
-    (c.loop-path.invariant.files tells) (subst (λ p. IsFolderUnread seen p e) c.as_str.ensures.value (c.in_err-own.ensures.refused tells)))
-
-pub returns-in_err-put_all-clause-refused : goal.returns-in_err-put_all-clause-refused
-returns-in_err-put_all-clause-refused g c = λ tells.
-    memory_unread (g.D.Store.seen c.args.system.now) c.args.given.now c.loop-path.path-index c.path-item.result (map string_bytes c.loop-path.paths.items) c.from_residual-in_err-put_all.result
-    c.path-item.is c.loop-path-test.true (c.loop-path.invariant.files tells) c.from_residual-in_err-put_all.ensures.1
 
 pub loop-path-preserved : goal.loop-path-preserved
 loop-path-preserved g c =
-    let seen = g.D.Store.seen c.args.system.now in
     let given = c.args.given.now in
     let own = c.in_ok-own.own.items in
     let w = g.D.System.reads c.args.system.now in
@@ -38,9 +20,6 @@ loop-path-preserved g c =
     let here : g.D.Store.tells → FilesAreNamed w all (path ∷ map string_bytes (drop (k + 1) given)) (map string_bytes c.loop-path.paths.items) =
     λ tells. subst (λ (l : List (List ℕ)). FilesAreNamed w all l (map string_bytes c.loop-path.paths.items)) (next_path given k c.path-item.result c.path-item.is c.loop-path-test.true) (c.loop-path.invariant.told tells) in
     record {
-      files = λ tells. stand_next seen given c.loop-path.path-index c.path-item.result c.loop-path.paths.items own c.put_all.new.paths.items c.path-item.is c.loop-path-test.true
-          (c.loop-path.invariant.files tells)
-          (subst (λ p. StandsFor (is_file seen p) seen p (map string_bytes own)) c.as_str.ensures.value (c.in_ok-own.ensures.files tells)) c.in_ok-put_all.ensures;
       told = λ tells.
           one_named w items all path (map string_bytes (drop (k + 1) given)) (map string_bytes c.loop-path.paths.items) (here tells) c.in_ok-own.own (map string_bytes c.put_all.new.paths.items)
           (subst (λ p. ReachesValue items w (files_for p) (Ok c.in_ok-own.own)) c.as_str.ensures.value (c.in_ok-own.ensures.told tells)) c.in_ok-put_all.ensures;
@@ -72,7 +51,6 @@ returns-clause-told g c = λ tells.
 
 pub loop-path-init : goal.loop-path-init
 loop-path-init g c = record {
-  files = λ tells. ap (map string_bytes) c.new-paths.ensures.items;
   told = λ tells. none_named (g.D.System.reads c.args.system.now) (map string_bytes c.args.given.now) (map string_bytes c.new-paths.result.items) (ap (map string_bytes) c.new-paths.ensures.items);
   plain = λ none. ap (λ (l : List (String Global)). any_dash (map string_bytes l)) c.new-paths.ensures.items;
 }

@@ -1,68 +1,14 @@
 use Rattle.std.proofs.Common.{ap, false, inl, inr, refl, string_bytes, subst, sym, Err, None, true}
-use Rattle.hwdb_spec_commands.specs.Asked.{database_path}
-use Rattle.hwdb_spec_commands.specs.Queries.{IsOfInput, IsStreamRefused}
+use Rattle.hwdb_spec_commands.specs.Queries.{IsOfInput}
 use Rattle.hwdb_spec_commands.specs.Refusals.{IsOfCause}
-use Rattle.hwdb_spec_commands.specs.Reasons.{HasAskedReason}
 use Rattle.hwdb_spec_commands.specs.Runs.{told_by}
-use Rattle.hwdb_spec_commands.specs.declared.refusals.Refusal.TheVariants.{Plain}
-use Rattle.hwdb_spec.specs.declared.errors.ToolError.TheVariants.{Memory}
-use Rattle.hwdb_spec.specs.Lemmas.Calls.{failed_call, given_error}
+use Rattle.hwdb_spec.specs.Lemmas.Calls.{failed_call}
 use Rattle.hwdb_plan.specs.Answers as plans
 use Rattle.hwdb_plan.specs.Asking.{asked}
 use Rattle.hwdb_plan.specs.Ended.{outs}
-use Rattle.hwdb_tool.proofs.AnswerLemmas.{if_bad, stream_reason, streamed, unfound_asked}
+use Rattle.hwdb_tool.proofs.AnswerLemmas.{if_bad, streamed}
 use Rattle.hwdb_tool.proofs.LookupPlanLemmas.{streamed_done, streamed_stops, unread_shows}
 use Rattle.hwdb_tool.proofs.input_devices.answer_input.Goals as goal
-
-pub returns-in_err-watch-clause-refused : goal.returns-in_err-watch-clause-refused
-returns-in_err-watch-clause-refused g c = λ tells.
-    let told = told_by g.O.Sink.taken g.O.Sink.failures c.args.out.now in
-    given_error (Plain Memory) (λ r. IsStreamRefused c.args.root.now c.args.form (g.I.Source.left c.args.input.now) (g.D.Store.seen c.args.system.now) r told told)
-    c.from_residual.result c.from_residual.ensures.1 (inl ((database_path false c.args.root.now, inl refl, tt), refl))
-
-pub returns-in-Ok-clause-answered : goal.returns-in-Ok-clause-answered
-returns-in-Ok-clause-answered g c = λ tells.
-    let asked = c.in_ok-path.ensures.asked tells in
-    streamed (g.I.Source.left c.args.input.now) c.args.root.now c.args.form (g.D.Store.seen c.args.system.now) c.in_ok-path.field-0.bytes.items
-    (g.O.Sink.taken c.args.out.now) (g.O.Sink.taken c.run_renewed.new.out) (g.O.Sink.failures c.args.out.now) (g.O.Sink.failures c.run_renewed.new.out)
-    asked c.in_ok-path.ensures.within (c.in-Ok.ensures.printed (tells, asked, c.in_ok-watch.ensures tells)) c.in-Ok.ensures.writes
-
-pub returns-clause-refused : goal.returns-clause-refused
-returns-clause-refused g c = λ tells.
-    let asked = c.in_ok-path.ensures.asked tells in
-    inr record {
-      path = string_bytes c.in_ok-path.field-0.path;
-      bytes = c.in_ok-path.field-0.bytes.items;
-      at = c.in_ok-path.ensures.path tells;
-      asked = asked;
-      held = c.in_ok-path.ensures.held tells;
-      within = c.in_ok-path.ensures.within;
-      error = c.in-Err.error;
-      is = subst (λ p. IsOfInput c.in-Err.error p c.refusal_of.result) c.as_bytes.ensures.value c.refusal_of.ensures.is;
-      refused = c.in-Err.ensures.refusals;
-      line = c.in-Err.ensures.line;
-      untouched = if_bad c.in-Err.error (λ both. ap g.O.Sink.taken both.1) c.in-Err.ensures.untouched;
-      printed = c.in-Err.ensures.before (tells, asked, c.in_ok-watch.ensures tells);
-      failed = c.in-Err.ensures.writes.0;
-      unfailed = c.in-Err.ensures.writes.1;
-    }
-
-pub returns-in_err-path-clause-reason : goal.returns-in_err-path-clause-reason
-returns-in_err-path-clause-reason g c = λ tells.
-    let root = c.args.root.now in
-    let fails = g.D.System.may_fail c.args.system.now in
-    let seen = g.D.Store.seen c.args.system.now in
-    let failures = g.I.Source.failures c.args.input.now in
-    let r = c.in_err-path.field-0.0 in
-    given_error r (HasAskedReason true root fails seen (g.I.Source.left c.args.input.now) failures failures) c.from_residual-in_err-path.result c.from_residual-in_err-path.ensures.1
-    (inl (unfound_asked root seen r (c.in_err-path.ensures.refused tells), c.in_err-path.ensures.reason))
-
-pub returns-clause-reason : goal.returns-clause-reason
-returns-clause-reason g c = λ tells.
-    stream_reason c.args.root.now (g.D.Store.seen c.args.system.now) (g.D.System.may_fail c.args.system.now) (g.I.Source.left c.args.input.now)
-    (g.I.Source.failures c.args.input.now) (g.I.Source.failures c.run_renewed.new.input) c.in-Err.error (string_bytes c.in_ok-path.field-0.path) c.refusal_of.result
-    (c.in_ok-path.ensures.path tells) (subst (λ p. IsOfInput c.in-Err.error p c.refusal_of.result) c.as_bytes.ensures.value c.refusal_of.ensures.is)
-    c.in-Err.ensures.reads.0 (λ w. c.in-Err.ensures.too_long (ap Err w))
 
 pub returns-in-Ok-clause-quiet : goal.returns-in-Ok-clause-quiet
 returns-in-Ok-clause-quiet g c = λ tells.

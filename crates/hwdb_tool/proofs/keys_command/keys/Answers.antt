@@ -10,9 +10,11 @@ answer_is : (status : ℕ) (err out text : List ℕ) → status ≡ keys_status 
 answer_is status err out text is none same =
     ap (λ (n : ℕ). Answers n err out) is ∙ ap (λ (e : List ℕ). Answers (keys_status out) e out) none ∙ ap keys_end same
 
-pub returns-clause-follows : goal.returns-clause-follows
+pub returns : goal.returns
 unfolding Ends
-returns-clause-follows c = λ reads.
-    let a = c.new.result in
-    answer_is a.status a.err.items a.out.items _ (c.new.ensures.status ∙ c.status_of-status.ensures.is ∙ ap keys_status (c.deref.ensures.value ∙ sym c.new.ensures.out))
-    c.new.ensures.err (c.new.ensures.out ∙ c.in_ok-text.ensures)
+returns c = record {
+  follows = λ reads.
+      let a = c.new.result in
+      answer_is a.status a.err.items a.out.items _ (c.new.ensures.status ∙ c.status_of-status.ensures.is ∙ ap keys_status (c.deref.ensures.value ∙ sym c.new.ensures.out))
+      c.new.ensures.err (c.new.ensures.out ∙ c.in_ok-text.ensures);
+}

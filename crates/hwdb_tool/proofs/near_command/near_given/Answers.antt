@@ -12,21 +12,6 @@ use Rattle.hwdb_tool.proofs.FileLemmas.{are_files}
 use Rattle.hwdb_tool.proofs.PlanLemmas.{near_files_end}
 use Rattle.hwdb_tool.proofs.near_command.near_given.Goals as goal
 
-pub returns-clause-near : goal.returns-clause-near
-returns-clause-near g c = λ tells.
-    let given = map string_bytes c.args.given.now in
-    let files = c.deref-2.result.now in
-    let are = are_files files given _ (ap (map (λ f. f.path.now)) c.deref-2.ensures.value ∙ c.in_ok-files.ensures.paths)
-    (ap (map (λ f. f.bytes.now)) c.deref-2.ensures.value ∙ c.in_ok-files.ensures.bytes ∙ ap (map (λ t. t.items)) c.deref.ensures.value) in
-    let same : map Views.source_of c.deref-3.result.now ≡ map Checks.source_of files = ap (map Views.source_of) c.deref-3.ensures.value ∙ c.in_ok-compared.ensures in (
-      c.new.ensures.err,
-      (
-        map Checks.source_of files,
-        c.in_ok-texts.ensures.files tells (map Checks.source_of files) are,
-        c.new.ensures.out ∙ c.in_ok-told.ensures ∙ ap (λ (xs : List Source). near_form c.args.json c.args.device.now c.args.limit (patterns_from 1 xs)) same,
-      ),
-    )
-
 pub returns-in_err-texts-clause-follows : goal.returns-in_err-texts-clause-follows
 returns-in_err-texts-clause-follows g c = λ tells.
     let told = c.in_err-texts.ensures.told tells in

@@ -2,18 +2,13 @@ use Rattle.std.proofs.Common.{List, Ok, Err, ap, inl, inr, map, refl, string_byt
 use Rattle.hwdb_compile.specs.Views.{ForFolders}
 use Rattle.hwdb_text.specs.Views.{bytes_in, choice_in}
 use Rattle.hwdb_text.specs.declared.choice.ChosenFile.{ChosenFile}
-use Rattle.hwdb_spec.specs.Lemmas.Calls.{given_error}
 use Rattle.hwdb_spec.specs.Folders.{Source}
-use Rattle.hwdb_spec_commands.specs.OverText.{AreTextsRefused, text_besides}
-use Rattle.hwdb_spec_commands.specs.Refusals.{HasReason}
-use Rattle.hwdb_spec_commands.specs.StatusErrors.{IsNotCompiled}
-use Rattle.hwdb_spec.specs.declared.errors.ToolError.TheVariants.{Memory}
-use Rattle.hwdb_spec_commands.specs.declared.refusals.Refusal.TheVariants.{Plain}
+use Rattle.hwdb_spec_commands.specs.OverText.{text_besides}
 use Rattle.hwdb_text.specs.Views.{choice_of}
 use Rattle.hwdb_tool.specs.Internal.{AreReadOf}
 use Rattle.hwdb_tool.specs.Statuses.{AreMadeOf}
 use Rattle.hwdb_tool.proofs.FolderLemmas.{all_read, are_read}
-use Rattle.hwdb_tool.proofs.StatusLemmas.{made_from, not_made}
+use Rattle.hwdb_tool.proofs.StatusLemmas.{made_from}
 use Rattle.hwdb_plan.specs.Lemmas.OverText.{basis_made, made_stop, texts_stop}
 use Rattle.hwdb_plan.specs.Lemmas.Sides.{memory_reached}
 use Rattle.hwdb_plan.specs.Lemmas.Update.{handed_on}
@@ -47,56 +42,6 @@ returns-clause-made g c = λ tells.
       said read.of_etc read.of_usr read.are (read.named ∙ ap (map string_bytes) (sym c.deref-5.ensures.value)),
     )
 
-pub returns-in_err-selection-clause-refused : goal.returns-in_err-selection-clause-refused
-returns-in_err-selection-clause-refused g c = λ tells.
-    given_error c.in_err-selection.field-0.0 (AreTextsRefused c.args.root.now (g.D.Store.seen c.args.system.now)) c.from_residual.result c.from_residual.ensures.1
-    (inl (c.in_err-selection.ensures.refused tells))
-
-pub returns-in_err-selection-clause-reason : goal.returns-in_err-selection-clause-reason
-returns-in_err-selection-clause-reason g c = λ tells.
-    given_error c.in_err-selection.field-0.0 (HasReason (g.D.System.may_fail c.args.system.now) ⊥ (g.D.Store.seen c.args.system.now)) c.from_residual.result c.from_residual.ensures.1
-    (c.in_err-selection.ensures.reason tells)
-
-pub returns-in_err-files-clause-refused : goal.returns-in_err-files-clause-refused
-returns-in_err-files-clause-refused g c = λ tells.
-    given_error (Plain Memory) (AreTextsRefused c.args.root.now (g.D.Store.seen c.args.system.now)) c.from_residual-in_err-files.result c.from_residual-in_err-files.ensures.1
-    (inl (inl refl))
-
-pub returns-in_err-made-clause-refused : goal.returns-in_err-made-clause-refused
-returns-in_err-made-clause-refused g c = λ tells.
-    let root = c.args.root.now in
-    let seen = g.D.Store.seen c.args.system.now in
-    let chosen = map choice_of c.in_ok-selection.selection.chosen.items in
-    let texts = map (λ t. t.items) c.in_ok-selection.selection.texts.items in
-    let listed = map string_bytes c.in_ok-selection.selection.listed.items in
-    let files = c.in_ok-files.files.items in
-    let r = c.in_err-made.field-0.0 in
-    let read : AreReadOf root seen listed files =
-    are_read root seen listed chosen texts files (c.in_ok-selection.ensures.selected tells)
-    (c.in_ok-files.ensures.choices ∙ ap (map choice_of) c.deref.ensures.value) (c.in_ok-files.ensures.bytes ∙ ap (map (λ t. t.items)) c.deref-2.ensures.value) in
-    given_error r (AreTextsRefused root seen) c.from_residual-in_err-made.result c.from_residual-in_err-made.ensures.1
-    (inr (not_made root seen listed files read (all_read root seen listed chosen texts (c.in_ok-selection.ensures.selected tells)) r
-    (subst (λ (l : List ChosenFile). ForFolders l (λ etc usr. IsNotCompiled etc usr r)) c.deref-3.ensures.value c.in_err-made.ensures.refused)))
-
-pub returns-in_err-made-clause-reason : goal.returns-in_err-made-clause-reason
-returns-in_err-made-clause-reason g c = λ tells.
-    let r = c.in_err-made.field-0.0 in
-    let Reason = HasReason (g.D.System.may_fail c.args.system.now) ⊥ (g.D.Store.seen c.args.system.now) in
-    given_error r Reason c.from_residual-in_err-made.result c.from_residual-in_err-made.ensures.1
-    (subst Reason (sym c.in_err-made.ensures.plain.1) tt)
-
-pub returns-in_err-besides-clause-refused : goal.returns-in_err-besides-clause-refused
-returns-in_err-besides-clause-refused g c = λ tells.
-    given_error c.in_err-besides.field-0.0 (AreTextsRefused c.args.root.now (g.D.Store.seen c.args.system.now)) c.from_residual-in_err-besides.result c.from_residual-in_err-besides.ensures.1
-    (inl (inl c.in_err-besides.ensures.memory))
-
-pub returns-in_err-besides-clause-reason : goal.returns-in_err-besides-clause-reason
-returns-in_err-besides-clause-reason g c = λ tells.
-    let Reason = HasReason (g.D.System.may_fail c.args.system.now) ⊥ (g.D.Store.seen c.args.system.now) in
-    given_error c.in_err-besides.field-0.0 Reason c.from_residual-in_err-besides.result c.from_residual-in_err-besides.ensures.1
-    (subst Reason (sym c.in_err-besides.ensures.memory) tt)
-
--- ---- its plan
 abbrev basis_in : Basis → Answered
 basis_in m = basis m.besides.items m.database.items
 

@@ -1,5 +1,4 @@
 use Rattle.std.proofs.Common.{◌∙◌, map, string_bytes, subst, sym}
-use Rattle.hwdb_spec.specs.Lemmas.Calls.{each_error, each_value}
 use Rattle.hwdb_spec_commands.specs.Given.{is_input}
 use Rattle.hwdb_spec_commands.specs.Runs.{told_by}
 use Rattle.hwdb_spec_commands.specs.declared.form.Form.TheVariants.{Query}
@@ -7,7 +6,6 @@ use Rattle.hwdb_plan.specs.Answers.{answer_plan, devices_plan}
 use Rattle.hwdb_plan.specs.Ended.{ShowsEnd, outs}
 use Rattle.hwdb_plan.specs.Lemmas.Ends.{answer_shows}
 use Rattle.hwdb_tool.specs.declared.answer.Answer.{Answer}
-use Rattle.hwdb_tool.proofs.DevicesAsBeforeLemmas.{devices_as_before}
 use Rattle.hwdb_tool.proofs.query_command.query.Goals as goal
 
 pub returns-then-is_input-clause-follows : goal.returns-then-is_input-clause-follows
@@ -28,43 +26,3 @@ returns-clause-follows g c = λ tells.
     (sym c.if-is_input.false ∙ c.is_input.ensures)
     (answer_shows (λ (a : Answer). a.status) (λ a. a.err.items) (λ a. a.out.items) c.query_given-answer.result c.printed.result w (answer_plan c.args.root.now (Query c.args.json) (map string_bytes c.args.devices.now)) input input
     (outs (err c.args.err.now) (out c.args.out.now)) (outs (err c.printed.new.err) (out c.printed.new.out)) (c.query_given-answer.ensures.follows tells) c.printed.ensures.prints)
-
-pub returns-then-is_input-clause-answered : goal.returns-then-is_input-clause-answered
-returns-then-is_input-clause-answered g c = λ tells.
-    let s = c.args.system.now in
-    let input = told_by g.I.Source.left g.I.Source.failures in
-    let err = told_by g.E.Sink.taken g.E.Sink.failures in
-    let out = told_by g.O.Sink.taken g.O.Sink.failures in
-    each_value _ _ c.answer_input.result (λ n is. is.1)
-    (devices_as_before (g.D.System.reads s) (g.D.Store.seen s) (g.D.System.may_fail s) c.args.root.now (Query c.args.json) (map string_bytes c.args.devices.now) (input c.args.input.now) (input c.answer_input.new.input) (outs (err c.args.err.now) (out c.args.out.now))
-    (outs (err c.answer_input.new.err) (out c.answer_input.new.out)) (g.met.D.System.agrees s tells) (is_input (map string_bytes c.args.devices.now)) c.answer_input.result (returns-then-is_input-clause-follows g c tells)).0
-
-pub returns-then-is_input-clause-refused : goal.returns-then-is_input-clause-refused
-returns-then-is_input-clause-refused g c = λ tells.
-    let s = c.args.system.now in
-    let input = told_by g.I.Source.left g.I.Source.failures in
-    let err = told_by g.E.Sink.taken g.E.Sink.failures in
-    let out = told_by g.O.Sink.taken g.O.Sink.failures in
-    each_error _ _ c.answer_input.result (λ r is. is.0)
-    (devices_as_before (g.D.System.reads s) (g.D.Store.seen s) (g.D.System.may_fail s) c.args.root.now (Query c.args.json) (map string_bytes c.args.devices.now) (input c.args.input.now) (input c.answer_input.new.input) (outs (err c.args.err.now) (out c.args.out.now))
-    (outs (err c.answer_input.new.err) (out c.answer_input.new.out)) (g.met.D.System.agrees s tells) (is_input (map string_bytes c.args.devices.now)) c.answer_input.result (returns-then-is_input-clause-follows g c tells)).1
-
-pub returns-then-is_input-clause-reason : goal.returns-then-is_input-clause-reason
-returns-then-is_input-clause-reason g c = λ tells.
-    let s = c.args.system.now in
-    let input = told_by g.I.Source.left g.I.Source.failures in
-    let err = told_by g.E.Sink.taken g.E.Sink.failures in
-    let out = told_by g.O.Sink.taken g.O.Sink.failures in
-    each_error _ _ c.answer_input.result (λ r is. is.1)
-    (devices_as_before (g.D.System.reads s) (g.D.Store.seen s) (g.D.System.may_fail s) c.args.root.now (Query c.args.json) (map string_bytes c.args.devices.now) (input c.args.input.now) (input c.answer_input.new.input) (outs (err c.args.err.now) (out c.args.out.now))
-    (outs (err c.answer_input.new.err) (out c.answer_input.new.out)) (g.met.D.System.agrees s tells) (is_input (map string_bytes c.args.devices.now)) c.answer_input.result (returns-then-is_input-clause-follows g c tells)).1
-
-pub returns-clause-reason : goal.returns-clause-reason
-returns-clause-reason g c = λ tells.
-    let s = c.args.system.now in
-    let input = told_by g.I.Source.left g.I.Source.failures in
-    let err = told_by g.E.Sink.taken g.E.Sink.failures in
-    let out = told_by g.O.Sink.taken g.O.Sink.failures in
-    each_error _ _ c.printed.result (λ r is. is.1)
-    (devices_as_before (g.D.System.reads s) (g.D.Store.seen s) (g.D.System.may_fail s) c.args.root.now (Query c.args.json) (map string_bytes c.args.devices.now) (input c.args.input.now) (input c.args.input.now) (outs (err c.args.err.now) (out c.args.out.now))
-    (outs (err c.printed.new.err) (out c.printed.new.out)) (g.met.D.System.agrees s tells) (is_input (map string_bytes c.args.devices.now)) c.printed.result (returns-clause-follows g c tells)).1

@@ -1,15 +1,8 @@
 use Rattle.std.proofs.Common.{List, ap, inl, inr, map, string_bytes, subst, sym, true, false, ◌==◌, ◌∙◌, ◌≡◌, length, ℕ, ⊎_elim, Ok, Err}
 use Rattle.std.proofs.lemmas.List.{length-map}
 use Rattle.hwdb_spec_commands.specs.CheckedFiles.{folder_of}
-use Rattle.hwdb_spec.specs.Lemmas.Calls.{each_error, each_value, given_error}
-use Rattle.hwdb_spec_commands.specs.Reading.{AreUnread}
-use Rattle.hwdb_spec.specs.Selected.{AreSelected}
-use Rattle.hwdb_spec_commands.specs.Sides.{HasTexts, IsSide}
-use Rattle.hwdb_spec_commands.specs.Sides.Kind.{Root}
 use Rattle.hwdb_text.specs.Views.{choice_of}
 use Rattle.hwdb_text.specs.declared.choice.Chosen.{Chosen}
-use Rattle.hwdb_tool.specs.SideSteps.{IsSideError}
-use Rattle.hwdb_tool.proofs.SideReadLemmas.{side_memory, texts_of}
 use Rattle.hwdb_plan.specs.Folders.{Texts, texts_of_folders}
 use Rattle.hwdb_plan.specs.Lemmas.Folders.{value_stops, value_then}
 use Rattle.hwdb_plan.specs.Lemmas.Sides.{no_root, some_root}
@@ -19,88 +12,43 @@ use Rattle.hwdb_system.specs.Selections.{texts_in}
 use Rattle.hwdb_tool.proofs.SidePlanLemmas.{items}
 use Rattle.hwdb_tool.proofs.sides.folder_at.Goals as goal
 
-pub returns-in_err-selection-clause-refused : goal.returns-in_err-selection-clause-refused
-returns-in_err-selection-clause-refused g c = λ tells folder.
-    let fails = g.D.System.may_fail c.args.system.now in
-    let seen = g.D.Store.seen c.args.system.now in
-    let r = c.in_err-selection.field-0.0 in
-    let unread = subst (λ p. AreUnread p seen r) c.folder_of.ensures (c.in_err-selection.ensures.refused tells) in
-    given_error r (IsSideError fails seen c.args.path.now) c.from_residual.result c.from_residual.ensures.1
-    (inr (inr (inr (inl (inl (folder.none, unread, c.in_err-selection.ensures.reason tells))))))
-
-pub returns-then-are_none-clause-side : goal.returns-then-are_none-clause-side
-returns-then-are_none-clause-side g c = λ tells folder.
-    let seen = g.D.Store.seen c.args.system.now in
-    let s = c.in_ok-selection.selection in
-    let root = folder_of c.args.path.now in
-    let selected = subst (λ p. AreSelected p seen (map string_bytes s.listed.items) (map choice_of s.chosen.items) (map (λ t. t.items) s.texts.items)) c.folder_of.ensures (c.in_ok-selection.ensures.selected tells) in
-    let none : (length (map choice_of s.chosen.items) == 0) ≡ true = ap (λ (n : ℕ). n == 0) (length-map s.chosen.items choice_of) ∙ ap (λ (l : List Chosen). length l == 0) (sym c.deref.ensures.value) ∙ sym c.are_none.ensures ∙ c.if-are_none.true in
-    c.own_texts.ensures.side tells folder (texts_of root seen (map string_bytes s.listed.items) (map choice_of s.chosen.items) (map (λ t. t.items) s.texts.items) true selected none)
-
-pub returns-then-are_none-clause-refused : goal.returns-then-are_none-clause-refused
-returns-then-are_none-clause-refused g c = λ tells folder.
-    let seen = g.D.Store.seen c.args.system.now in
-    let s = c.in_ok-selection.selection in
-    let root = folder_of c.args.path.now in
-    let selected = subst (λ p. AreSelected p seen (map string_bytes s.listed.items) (map choice_of s.chosen.items) (map (λ t. t.items) s.texts.items)) c.folder_of.ensures (c.in_ok-selection.ensures.selected tells) in
-    let none : (length (map choice_of s.chosen.items) == 0) ≡ true = ap (λ (n : ℕ). n == 0) (length-map s.chosen.items choice_of) ∙ ap (λ (l : List Chosen). length l == 0) (sym c.deref.ensures.value) ∙ sym c.are_none.ensures ∙ c.if-are_none.true in
-    c.own_texts.ensures.refused tells folder (texts_of root seen (map string_bytes s.listed.items) (map choice_of s.chosen.items) (map (λ t. t.items) s.texts.items) true selected none)
-
-pub returns-clause-side : goal.returns-clause-side
-returns-clause-side g c = λ tells folder.
-    let seen = g.D.Store.seen c.args.system.now in
-    let s = c.in_ok-selection.selection in
-    let path = c.args.path.now in
-    let root = folder_of path in
-    let selected = subst (λ p. AreSelected p seen (map string_bytes s.listed.items) (map choice_of s.chosen.items) (map (λ t. t.items) s.texts.items)) c.folder_of.ensures (c.in_ok-selection.ensures.selected tells) in
-    let some : (length (map choice_of s.chosen.items) == 0) ≡ false = ap (λ (n : ℕ). n == 0) (length-map s.chosen.items choice_of) ∙ ap (λ (l : List Chosen). length l == 0) (sym c.deref.ensures.value) ∙ sym c.are_none.ensures ∙ c.if-are_none.false in
-    let has : HasTexts root seen true = texts_of root seen (map string_bytes s.listed.items) (map choice_of s.chosen.items) (map (λ t. t.items) s.texts.items) false selected some in
-    each_value _ (λ b. IsSide path seen b.items) c.root_bytes.result (λ b made. record { kind = Root; is = (folder.none, has); are = made }) (c.root_bytes.ensures.made root seen selected)
-
-pub returns-clause-refused : goal.returns-clause-refused
-returns-clause-refused g c = λ tells folder.
-    let fails = g.D.System.may_fail c.args.system.now in
-    let seen = g.D.Store.seen c.args.system.now in
-    let s = c.in_ok-selection.selection in
-    let path = c.args.path.now in
-    let root = folder_of path in
-    let selected = subst (λ p. AreSelected p seen (map string_bytes s.listed.items) (map choice_of s.chosen.items) (map (λ t. t.items) s.texts.items)) c.folder_of.ensures (c.in_ok-selection.ensures.selected tells) in
-    let some : (length (map choice_of s.chosen.items) == 0) ≡ false = ap (λ (n : ℕ). n == 0) (length-map s.chosen.items choice_of) ∙ ap (λ (l : List Chosen). length l == 0) (sym c.deref.ensures.value) ∙ sym c.are_none.ensures ∙ c.if-are_none.false in
-    let has : HasTexts root seen true = texts_of root seen (map string_bytes s.listed.items) (map choice_of s.chosen.items) (map (λ t. t.items) s.texts.items) false selected some in
-    each_error _ (IsSideError fails seen path) c.root_bytes.result
-    (λ r not. ⊎_elim (λ memory. side_memory fails seen path r memory) (λ un. inr (inr (inr (inl (inr ((folder.none, has), un)))))) not) (c.root_bytes.ensures.refused root seen selected)
-
 abbrev made : (path : List ℕ) (names : List (List ℕ)) → Texts → (List ℕ → Plan) → Plan
 made path names texts next = root_made path names texts.chosen texts.texts next
 
-pub returns-in_err-selection-clause-told : goal.returns-in_err-selection-clause-told
-returns-in_err-selection-clause-told g c = λ tells.
-    let w = g.D.System.reads c.args.system.now in
-    let path = c.args.path.now in
-    let r = c.in_err-selection.field-0.0 in
-    value_stops w texts_in items (texts_of_folders (folder_of path)) (made path (map string_bytes c.args.names.now)) r c.from_residual.result
-    (subst (λ p. ReachesValue texts_in w (texts_of_folders p) (Err r)) c.folder_of.ensures (c.in_err-selection.ensures.told tells)) c.from_residual.ensures.1
+pub returns-in_err-selection : goal.returns-in_err-selection
+returns-in_err-selection g c = record {
+  told = λ tells.
+      let w = g.D.System.reads c.args.system.now in
+      let path = c.args.path.now in
+      let r = c.in_err-selection.field-0.0 in
+      value_stops w texts_in items (texts_of_folders (folder_of path)) (made path (map string_bytes c.args.names.now)) r c.from_residual.result
+      (subst (λ p. ReachesValue texts_in w (texts_of_folders p) (Err r)) c.folder_of.ensures (c.in_err-selection.ensures.told tells)) c.from_residual.ensures.1;
+}
 
-pub returns-then-are_none-clause-told : goal.returns-then-are_none-clause-told
-returns-then-are_none-clause-told g c = λ tells.
-    let w = g.D.System.reads c.args.system.now in
-    let path = c.args.path.now in
-    let names = map string_bytes c.args.names.now in
-    let s = c.in_ok-selection.selection in
-    let none : (length (map choice_of s.chosen.items) == 0) ≡ true = ap (λ (n : ℕ). n == 0) (length-map s.chosen.items choice_of) ∙ ap (λ (l : List Chosen). length l == 0) (sym c.deref.ensures.value) ∙ sym c.are_none.ensures ∙ c.if-are_none.true in
-    value_then w texts_in items (texts_of_folders (folder_of path)) (made path names) s c.own_texts.result
-    (subst (λ p. ReachesValue texts_in w (texts_of_folders p) (Ok s)) c.folder_of.ensures (c.in_ok-selection.ensures.told tells))
-    (no_root w items path names (map choice_of s.chosen.items) (map (λ t. t.items) s.texts.items) c.own_texts.result none (c.own_texts.ensures.told tells))
+pub returns-then-are_none : goal.returns-then-are_none
+returns-then-are_none g c = record {
+  told = λ tells.
+      let w = g.D.System.reads c.args.system.now in
+      let path = c.args.path.now in
+      let names = map string_bytes c.args.names.now in
+      let s = c.in_ok-selection.selection in
+      let none : (length (map choice_of s.chosen.items) == 0) ≡ true = ap (λ (n : ℕ). n == 0) (length-map s.chosen.items choice_of) ∙ ap (λ (l : List Chosen). length l == 0) (sym c.deref.ensures.value) ∙ sym c.are_none.ensures ∙ c.if-are_none.true in
+      value_then w texts_in items (texts_of_folders (folder_of path)) (made path names) s c.own_texts.result
+      (subst (λ p. ReachesValue texts_in w (texts_of_folders p) (Ok s)) c.folder_of.ensures (c.in_ok-selection.ensures.told tells))
+      (no_root w items path names (map choice_of s.chosen.items) (map (λ t. t.items) s.texts.items) c.own_texts.result none (c.own_texts.ensures.told tells));
+}
 
-pub returns-clause-told : goal.returns-clause-told
-returns-clause-told g c = λ tells.
-    let w = g.D.System.reads c.args.system.now in
-    let seen = g.D.Store.seen c.args.system.now in
-    let path = c.args.path.now in
-    let names = map string_bytes c.args.names.now in
-    let s = c.in_ok-selection.selection in
-    let some : (length (map choice_of s.chosen.items) == 0) ≡ false = ap (λ (n : ℕ). n == 0) (length-map s.chosen.items choice_of) ∙ ap (λ (l : List Chosen). length l == 0) (sym c.deref.ensures.value) ∙ sym c.are_none.ensures ∙ c.if-are_none.false in
-    value_then w texts_in items (texts_of_folders (folder_of path)) (made path names) s c.root_bytes.result
-    (subst (λ p. ReachesValue texts_in w (texts_of_folders p) (Ok s)) c.folder_of.ensures (c.in_ok-selection.ensures.told tells))
-    (some_root w items path names (map choice_of s.chosen.items) (map (λ t. t.items) s.texts.items) c.root_bytes.result some
-    (c.root_bytes.ensures.told w c.folder_of.result.now seen (c.in_ok-selection.ensures.selected tells)))
+pub returns : goal.returns
+returns g c = record {
+  told = λ tells.
+      let w = g.D.System.reads c.args.system.now in
+      let seen = g.D.Store.seen c.args.system.now in
+      let path = c.args.path.now in
+      let names = map string_bytes c.args.names.now in
+      let s = c.in_ok-selection.selection in
+      let some : (length (map choice_of s.chosen.items) == 0) ≡ false = ap (λ (n : ℕ). n == 0) (length-map s.chosen.items choice_of) ∙ ap (λ (l : List Chosen). length l == 0) (sym c.deref.ensures.value) ∙ sym c.are_none.ensures ∙ c.if-are_none.false in
+      value_then w texts_in items (texts_of_folders (folder_of path)) (made path names) s c.root_bytes.result
+      (subst (λ p. ReachesValue texts_in w (texts_of_folders p) (Ok s)) c.folder_of.ensures (c.in_ok-selection.ensures.told tells))
+      (some_root w items path names (map choice_of s.chosen.items) (map (λ t. t.items) s.texts.items) c.root_bytes.result some
+      (c.root_bytes.ensures.told w c.folder_of.result.now seen (c.in_ok-selection.ensures.selected tells)));
+}

@@ -1,10 +1,5 @@
 use Rattle.std.proofs.Common.{List, inl, map, string_bytes, subst, sym, true, Some, Global, Ok, Err, Option, String, Vec, ℕ}
 use Rattle.std.specs.Prelude.{option_map}
-use Rattle.hwdb_spec_commands.specs.GivenFolders.{IsUnlistedFolder}
-use Rattle.hwdb_spec.specs.Lemmas.Calls.{given_error}
-use Rattle.hwdb_spec_commands.specs.Reading.{IsFolderAt}
-use Rattle.hwdb_tool.specs.SideSteps.{IsFolderOf, IsSideError}
-use Rattle.hwdb_tool.proofs.SideReadLemmas.{file_or_not, folder_found}
 use Rattle.hwdb_plan.specs.Folders.{if_listed}
 use Rattle.hwdb_plan.specs.Lemmas.Folders.{folder_asked, value_stops, value_then}
 use Rattle.hwdb_plan.specs.Plans.{Plan, ReachesValue}
@@ -15,67 +10,41 @@ use Rattle.hwdb_spec_commands.specs.Told.{IsListedTo}
 use Rattle.hwdb_tool.proofs.SidePlanLemmas.{items}
 use Rattle.hwdb_tool.proofs.sides.plain_side.Goals as goal
 
-pub returns-in_err-found-clause-refused : goal.returns-in_err-found-clause-refused
-returns-in_err-found-clause-refused g c = λ tells plain.
-    let fails = g.D.System.may_fail c.args.system.now in
-    let seen = g.D.Store.seen c.args.system.now in
-    let r = c.in_err-found.field-0.0 in
-    given_error r (IsSideError fails seen c.args.path.now) c.from_residual.result c.from_residual.ensures.1
-    (inl (subst (λ p. IsUnlistedFolder seen p r) c.folder_of.ensures (c.in_err-found.ensures.folder tells), c.in_err-found.ensures.reason))
-
-pub returns-in-Some-clause-side : goal.returns-in-Some-clause-side
-returns-in-Some-clause-side g c = λ tells plain.
-    let seen = g.D.Store.seen c.args.system.now in
-    let found = subst (λ o. IsFolderAt c.folder_of.result.now seen (option_map (λ names. map string_bytes names.items) o)) c.in-Some.is (c.in_ok-found.ensures.names tells) in
-    c.folder_at.ensures.side tells (subst (λ l. IsFolderOf c.args.path.now seen (map string_bytes l)) (sym c.deref.ensures.value) (folder_found seen c.args.path.now _ _ c.folder_of.ensures plain found.0 found.1))
-
-pub returns-in-Some-clause-refused : goal.returns-in-Some-clause-refused
-returns-in-Some-clause-refused g c = λ tells plain.
-    let seen = g.D.Store.seen c.args.system.now in
-    let found = subst (λ o. IsFolderAt c.folder_of.result.now seen (option_map (λ names. map string_bytes names.items) o)) c.in-Some.is (c.in_ok-found.ensures.names tells) in
-    c.folder_at.ensures.refused tells (subst (λ l. IsFolderOf c.args.path.now seen (map string_bytes l)) (sym c.deref.ensures.value) (folder_found seen c.args.path.now _ _ c.folder_of.ensures plain found.0 found.1))
-
-pub returns-in-None-clause-side : goal.returns-in-None-clause-side
-returns-in-None-clause-side g c = λ tells plain.
-    let seen = g.D.Store.seen c.args.system.now in
-    let found = subst (λ o. IsFolderAt c.folder_of.result.now seen (option_map (λ names. map string_bytes names.items) o)) c.in-None.is (c.in_ok-found.ensures.names tells) in
-    c.file_at.ensures.side tells (file_or_not seen c.args.path.now _ true c.folder_of.ensures plain found)
-
-pub returns-in-None-clause-refused : goal.returns-in-None-clause-refused
-returns-in-None-clause-refused g c = λ tells plain.
-    let seen = g.D.Store.seen c.args.system.now in
-    let found = subst (λ o. IsFolderAt c.folder_of.result.now seen (option_map (λ names. map string_bytes names.items) o)) c.in-None.is (c.in_ok-found.ensures.names tells) in
-    c.file_at.ensures.refused tells (file_or_not seen c.args.path.now _ true c.folder_of.ensures plain found)
-
 abbrev found_in : Option (Vec (String Global) Global) → Option (List (List ℕ))
 found_in found = option_map (λ names. map string_bytes names.items) found
 
 abbrev asks : (path : List ℕ) → (Option (List (List ℕ)) → Plan) → Plan
 asks path next = Folder (folder_of path) (if_listed (folder_of path) next)
 
-pub returns-in_err-found-clause-told : goal.returns-in_err-found-clause-told
-returns-in_err-found-clause-told g c = λ tells.
-    let w = g.D.System.reads c.args.system.now in
-    let path = c.args.path.now in
-    let r = c.in_err-found.field-0.0 in
-    value_stops w found_in items (asks path) (bytes_if path) r c.from_residual.result
-    (folder_asked w found_in (folder_of path) (Err r) (subst (λ p. IsListedTo found_in (w.folder p) p (Err r)) c.folder_of.ensures (c.in_err-found.ensures.told tells))) c.from_residual.ensures.1
+pub returns-in_err-found : goal.returns-in_err-found
+returns-in_err-found g c = record {
+  told = λ tells.
+      let w = g.D.System.reads c.args.system.now in
+      let path = c.args.path.now in
+      let r = c.in_err-found.field-0.0 in
+      value_stops w found_in items (asks path) (bytes_if path) r c.from_residual.result
+      (folder_asked w found_in (folder_of path) (Err r) (subst (λ p. IsListedTo found_in (w.folder p) p (Err r)) c.folder_of.ensures (c.in_err-found.ensures.told tells))) c.from_residual.ensures.1;
+}
 
-pub returns-in-Some-clause-told : goal.returns-in-Some-clause-told
-returns-in-Some-clause-told g c = λ tells.
-    let w = g.D.System.reads c.args.system.now in
-    let path = c.args.path.now in
-    let found = c.in_ok-found.found in
-    value_then w found_in items (asks path) (bytes_if path) found c.folder_at.result
-    (folder_asked w found_in (folder_of path) (Ok found) (subst (λ p. IsListedTo found_in (w.folder p) p (Ok found)) c.folder_of.ensures (c.in_ok-found.ensures.told tells)))
-    (subst (λ (o : Option (Vec (String Global) Global)). ReachesValue items w (bytes_if path (found_in o)) c.folder_at.result) (sym c.in-Some.is)
-    (subst (λ l. ReachesValue items w (bytes_if path (Some (map string_bytes l))) c.folder_at.result) c.deref.ensures.value (c.folder_at.ensures.told tells)))
+pub returns-in-Some : goal.returns-in-Some
+returns-in-Some g c = record {
+  told = λ tells.
+      let w = g.D.System.reads c.args.system.now in
+      let path = c.args.path.now in
+      let found = c.in_ok-found.found in
+      value_then w found_in items (asks path) (bytes_if path) found c.folder_at.result
+      (folder_asked w found_in (folder_of path) (Ok found) (subst (λ p. IsListedTo found_in (w.folder p) p (Ok found)) c.folder_of.ensures (c.in_ok-found.ensures.told tells)))
+      (subst (λ (o : Option (Vec (String Global) Global)). ReachesValue items w (bytes_if path (found_in o)) c.folder_at.result) (sym c.in-Some.is)
+      (subst (λ l. ReachesValue items w (bytes_if path (Some (map string_bytes l))) c.folder_at.result) c.deref.ensures.value (c.folder_at.ensures.told tells)));
+}
 
-pub returns-in-None-clause-told : goal.returns-in-None-clause-told
-returns-in-None-clause-told g c = λ tells.
-    let w = g.D.System.reads c.args.system.now in
-    let path = c.args.path.now in
-    let found = c.in_ok-found.found in
-    value_then w found_in items (asks path) (bytes_if path) found c.file_at.result
-    (folder_asked w found_in (folder_of path) (Ok found) (subst (λ p. IsListedTo found_in (w.folder p) p (Ok found)) c.folder_of.ensures (c.in_ok-found.ensures.told tells)))
-    (subst (λ (o : Option (Vec (String Global) Global)). ReachesValue items w (bytes_if path (found_in o)) c.file_at.result) (sym c.in-None.is) (c.file_at.ensures.told tells))
+pub returns-in-None : goal.returns-in-None
+returns-in-None g c = record {
+  told = λ tells.
+      let w = g.D.System.reads c.args.system.now in
+      let path = c.args.path.now in
+      let found = c.in_ok-found.found in
+      value_then w found_in items (asks path) (bytes_if path) found c.file_at.result
+      (folder_asked w found_in (folder_of path) (Ok found) (subst (λ p. IsListedTo found_in (w.folder p) p (Ok found)) c.folder_of.ensures (c.in_ok-found.ensures.told tells)))
+      (subst (λ (o : Option (Vec (String Global) Global)). ReachesValue items w (bytes_if path (found_in o)) c.file_at.result) (sym c.in-None.is) (c.file_at.ensures.told tells));
+}

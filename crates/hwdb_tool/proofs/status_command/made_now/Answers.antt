@@ -1,17 +1,10 @@
 use Rattle.std.proofs.Common.{List, length, ap, inl, inr, map, refl, string_bytes, subst, sym, ◌∙◌, Vec, Global, ℕ, true, false}
-use Rattle.hwdb_compile.specs.Views.{ForFolders}
 use Rattle.hwdb_text.specs.Views.{choice_in, bytes_in, choice_of}
 use Rattle.hwdb_text.specs.declared.choice.ChosenFile.{ChosenFile}
-use Rattle.hwdb_spec_commands.specs.Refusals.{HasReason}
 use Rattle.hwdb_spec_commands.specs.Status.{masked_paths, is_bare}
-use Rattle.hwdb_spec_commands.specs.StatusErrors.{IsNotCompiled}
-use Rattle.hwdb_spec.specs.declared.errors.ToolError.TheVariants.{Memory}
-use Rattle.hwdb_spec_commands.specs.declared.refusals.Refusal.TheVariants.{Plain}
 use Rattle.hwdb_text.specs.Views.{choice_of}
-use Rattle.hwdb_tool.specs.Internal.{AreReadOf}
-use Rattle.hwdb_tool.specs.Statuses.{AreMadeOf, IsNotMadeNow, IsNow, now_with}
-use Rattle.hwdb_tool.proofs.FolderLemmas.{all_read, are_read}
-use Rattle.hwdb_tool.proofs.StatusLemmas.{bare_files, not_made}
+use Rattle.hwdb_tool.specs.Statuses.{IsNow, now_with}
+use Rattle.hwdb_tool.proofs.StatusLemmas.{bare_files}
 use Rattle.hwdb_tool.proofs.status_command.made_now.Goals as goal
 use Rattle.hwdb_plan.specs.Sides.{taken_from}
 use Rattle.hwdb_plan.specs.Status.{Now}
@@ -20,84 +13,7 @@ use Rattle.hwdb_tool.specs.declared.status_command.MadeNow.{MadeNow}
 use Rattle.hwdb_tool.proofs.SidePlanLemmas.{are_taken}
 use Rattle.hwdb_tool.proofs.StatusPlanLemmas.{ignored_end, made_end, memory_end, texts_end, uncompiled_end}
 use Rattle.hwdb_spec.specs.Tree.{map_of_files}
-use Rattle.hwdb_spec.specs.Lemmas.Calls.{given_error}
 
-pub returns-clause-made : goal.returns-clause-made
-returns-clause-made g c = λ tells.
-    let root = c.args.root.now in
-    let seen = g.D.Store.seen c.args.system.now in
-    let chosen = map choice_of c.in_ok-selection.selection.chosen.items in
-    let texts = map (λ t. t.items) c.in_ok-selection.selection.texts.items in
-    let listed = map string_bytes c.in_ok-selection.selection.listed.items in
-    let files = c.in_ok-files.files.items in
-    record {
-      listed = listed;
-      files = files;
-      read = are_read root seen listed chosen texts files (c.in_ok-selection.ensures.selected tells)
-          (c.in_ok-files.ensures.choices ∙ ap (map choice_of) c.deref.ensures.value) (c.in_ok-files.ensures.bytes ∙ ap (map (λ t. t.items)) c.deref-2.ensures.value);
-      all = all_read root seen listed chosen texts (c.in_ok-selection.ensures.selected tells);
-      is = subst (λ (l : List ChosenFile). ForFolders l (λ etc usr. AreMadeOf etc usr c.in_ok-made.made.database.items)) c.deref-3.ensures.value c.in_ok-made.ensures.made;
-      masks = c.in_ok-masked.ensures
-          ∙ ap (λ l. masked_paths (map string_bytes l) (map choice_in c.deref-4.result.now)) c.deref-5.ensures.value
-          ∙ ap (λ (l : List ChosenFile). masked_paths listed (map choice_in l)) c.deref-4.ensures.value;
-      others = c.in_ok-ignored.ensures.paths tells;
-      none = bare_files files (length c.as_slice.result.now) c.is_empty.result (ap length c.as_slice.ensures.value) c.is_empty.ensures;
-    }
-
-pub returns-in_err-selection-clause-refused : goal.returns-in_err-selection-clause-refused
-returns-in_err-selection-clause-refused g c = λ tells.
-    given_error c.in_err-selection.field-0.0 (IsNotMadeNow c.args.root.now (g.D.Store.seen c.args.system.now)) c.from_residual.result c.from_residual.ensures.1
-    (inl (c.in_err-selection.ensures.refused tells))
-
-pub returns-in_err-selection-clause-reason : goal.returns-in_err-selection-clause-reason
-returns-in_err-selection-clause-reason g c = λ tells.
-    given_error c.in_err-selection.field-0.0 (HasReason (g.D.System.may_fail c.args.system.now) ⊥ (g.D.Store.seen c.args.system.now)) c.from_residual.result c.from_residual.ensures.1
-    (c.in_err-selection.ensures.reason tells)
-
-pub returns-in_err-ignored-clause-refused : goal.returns-in_err-ignored-clause-refused
-returns-in_err-ignored-clause-refused g c = λ tells.
-    given_error c.in_err-ignored.field-0.0 (IsNotMadeNow c.args.root.now (g.D.Store.seen c.args.system.now)) c.from_residual-in_err-ignored.result c.from_residual-in_err-ignored.ensures.1
-    (inl (c.in_err-ignored.ensures.refused tells))
-
-pub returns-in_err-ignored-clause-reason : goal.returns-in_err-ignored-clause-reason
-returns-in_err-ignored-clause-reason g c = λ tells.
-    given_error c.in_err-ignored.field-0.0 (HasReason (g.D.System.may_fail c.args.system.now) ⊥ (g.D.Store.seen c.args.system.now)) c.from_residual-in_err-ignored.result c.from_residual-in_err-ignored.ensures.1
-    c.in_err-ignored.ensures.reason
-
-pub returns-in_err-files-clause-refused : goal.returns-in_err-files-clause-refused
-returns-in_err-files-clause-refused g c = λ tells.
-    given_error (Plain Memory) (IsNotMadeNow c.args.root.now (g.D.Store.seen c.args.system.now)) c.from_residual-in_err-files.result c.from_residual-in_err-files.ensures.1
-    (inl (inl refl))
-
-pub returns-in_err-made-clause-refused : goal.returns-in_err-made-clause-refused
-returns-in_err-made-clause-refused g c = λ tells.
-    let root = c.args.root.now in
-    let seen = g.D.Store.seen c.args.system.now in
-    let chosen = map choice_of c.in_ok-selection.selection.chosen.items in
-    let texts = map (λ t. t.items) c.in_ok-selection.selection.texts.items in
-    let listed = map string_bytes c.in_ok-selection.selection.listed.items in
-    let files = c.in_ok-files.files.items in
-    let r = c.in_err-made.field-0.0 in
-    let read : AreReadOf root seen listed files =
-    are_read root seen listed chosen texts files (c.in_ok-selection.ensures.selected tells)
-    (c.in_ok-files.ensures.choices ∙ ap (map choice_of) c.deref.ensures.value) (c.in_ok-files.ensures.bytes ∙ ap (map (λ t. t.items)) c.deref-2.ensures.value) in
-    given_error r (IsNotMadeNow root seen) c.from_residual-in_err-made.result c.from_residual-in_err-made.ensures.1
-    (inr (not_made root seen listed files read (all_read root seen listed chosen texts (c.in_ok-selection.ensures.selected tells)) r
-    (subst (λ (l : List ChosenFile). ForFolders l (λ etc usr. IsNotCompiled etc usr r)) c.deref-3.ensures.value c.in_err-made.ensures.refused)))
-
-pub returns-in_err-made-clause-reason : goal.returns-in_err-made-clause-reason
-returns-in_err-made-clause-reason g c = λ tells.
-    let r = c.in_err-made.field-0.0 in
-    let Reason = HasReason (g.D.System.may_fail c.args.system.now) ⊥ (g.D.Store.seen c.args.system.now) in
-    given_error r Reason c.from_residual-in_err-made.result c.from_residual-in_err-made.ensures.1
-    (subst Reason (sym c.in_err-made.ensures.plain.1) tt)
-
-pub returns-in_err-masked-clause-refused : goal.returns-in_err-masked-clause-refused
-returns-in_err-masked-clause-refused g c = λ tells.
-    given_error (Plain Memory) (IsNotMadeNow c.args.root.now (g.D.Store.seen c.args.system.now)) c.from_residual-in_err-masked.result c.from_residual-in_err-masked.ensures.1
-    (inl (inl refl))
-
--- ---- its plan
 abbrev paths_of : Vec (Vec ℕ Global) Global → List (List ℕ)
 paths_of v = map (λ p. p.items) v.items
 

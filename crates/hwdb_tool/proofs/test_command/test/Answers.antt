@@ -1,60 +1,13 @@
 use Rattle.std.proofs.Common.{inl, inr, map, string_bytes, ap, ◌∙◌, Global, Vec, ℕ}
 use Rattle.std.specs.Prelude.{option_map}
 use Rattle.hwdb_check.specs.Checks.{source_of}
-use Rattle.hwdb_spec_program.specs.TestErrors.{HasTestReason}
 use Rattle.hwdb_plan.specs.Asking.{named}
 use Rattle.hwdb_plan.specs.Files.{given_files}
 use Rattle.hwdb_plan.specs.Lemmas.Files.{files_go, files_stopped}
 use Rattle.hwdb_plan.specs.Test.{tested}
 use Rattle.hwdb_tool.specs.Views.{end_of}
 use Rattle.hwdb_tool.proofs.FileLemmas.{are_files}
-use Rattle.hwdb_tool.proofs.TrialLemmas.{all_tested, not_tested, tested_reason}
 use Rattle.hwdb_tool.proofs.test_command.test.Goals as goal
-use Rattle.hwdb_spec.specs.Lemmas.Calls.{given_error}
-
-pub returns-clause-tested : goal.returns-clause-tested
-returns-clause-tested g c = λ tells.
-    let given = map string_bytes c.args.given.now in
-    let path = option_map (λ t. t.now) c.args.database in
-    let seen = g.D.Store.seen c.args.system.now in
-    let input = g.I.Source.left c.args.input.now in
-    let files = c.deref-2.result.now in
-    let are = c.in_ok-texts.ensures.files tells (map source_of files) (are_files files given _ (ap (map (λ f. f.path.now)) c.deref-2.ensures.value ∙ c.in_ok-files.ensures.paths)
-    (ap (map (λ f. f.bytes.now)) c.deref-2.ensures.value ∙ c.in_ok-files.ensures.bytes ∙ ap (map (λ t. t.items)) c.deref.ensures.value)) in
-    all_tested given path c.args.root.now input seen (map source_of files) are c.args.json c.tried.result (c.tried.ensures.tested tells)
-
-pub returns-clause-refused : goal.returns-clause-refused
-returns-clause-refused g c = λ tells.
-    let given = map string_bytes c.args.given.now in
-    let path = option_map (λ t. t.now) c.args.database in
-    let seen = g.D.Store.seen c.args.system.now in
-    let input = g.I.Source.left c.args.input.now in
-    let files = c.deref-2.result.now in
-    let are = c.in_ok-texts.ensures.files tells (map source_of files) (are_files files given _ (ap (map (λ f. f.path.now)) c.deref-2.ensures.value ∙ c.in_ok-files.ensures.paths)
-    (ap (map (λ f. f.bytes.now)) c.deref-2.ensures.value ∙ c.in_ok-files.ensures.bytes ∙ ap (map (λ t. t.items)) c.deref.ensures.value)) in
-    not_tested given path c.args.root.now input seen (map source_of files) are c.tried.result (c.tried.ensures.refused tells)
-
-pub returns-clause-reason : goal.returns-clause-reason
-returns-clause-reason g c = λ tells.
-    let given = map string_bytes c.args.given.now in
-    let path = option_map (λ t. t.now) c.args.database in
-    let fails = g.D.System.may_fail c.args.system.now in
-    let seen = g.D.Store.seen c.args.system.now in
-    let input = g.I.Source.left c.args.input.now in
-    let before = g.I.Source.failures c.args.input.now in
-    let now = g.I.Source.failures c.given_texts.new.input in
-    let files = c.deref-2.result.now in
-    let are = c.in_ok-texts.ensures.files tells (map source_of files) (are_files files given _ (ap (map (λ f. f.path.now)) c.deref-2.ensures.value ∙ c.in_ok-files.ensures.paths)
-    (ap (map (λ f. f.bytes.now)) c.deref-2.ensures.value ∙ c.in_ok-files.ensures.bytes ∙ ap (map (λ t. t.items)) c.deref.ensures.value)) in
-    tested_reason given path c.args.root.now input seen (map source_of files) are fails before now c.tried.result (c.tried.ensures.refused tells) c.tried.ensures.reason
-
-pub returns-in_err-texts-clause-reason : goal.returns-in_err-texts-clause-reason
-returns-in_err-texts-clause-reason g c = λ tells.
-    let given = map string_bytes c.args.given.now in
-    let path = option_map (λ t. t.now) c.args.database in
-    let r = c.in_err-texts.field-0.0 in
-    given_error r (HasTestReason given path c.args.root.now (g.D.System.may_fail c.args.system.now) (g.D.Store.seen c.args.system.now) (g.I.Source.left c.args.input.now) (g.I.Source.failures c.args.input.now) (g.I.Source.failures c.given_texts.new.input))
-    c.from_residual.result c.from_residual.ensures.1 (inr (inl (c.in_err-texts.ensures.refused, c.in_err-texts.ensures.reason tells)))
 
 pub returns-in_err-texts-clause-follows : goal.returns-in_err-texts-clause-follows
 returns-in_err-texts-clause-follows g c = λ tells.

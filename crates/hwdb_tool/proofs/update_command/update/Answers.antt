@@ -5,59 +5,9 @@ use Rattle.hwdb_plan.specs.Putting.{PutsEnd}
 use Rattle.hwdb_plan.specs.Update.{put_readable, update_plan}
 use Rattle.hwdb_tool.proofs.UpdatePlanLemmas.{given_puts, update_ended, update_unread, update_unsaid, leaves_then}
 use Rattle.hwdb_spec_commands.specs.Runs.{HasTaken, WasCut, files_by, told_by}
-use Rattle.hwdb_spec_commands.specs.Readable.{IsUpdateRefused}
 use Rattle.hwdb_tool.proofs.FlushLemmas.{hands_on_twice}
-use Rattle.hwdb_tool.proofs.FolderLemmas.{all_read}
 use Rattle.hwdb_tool.proofs.MomentLemmas.{leaves_less, leaves_old}
 use Rattle.hwdb_tool.proofs.update_command.update.Goals as goal
-use Rattle.hwdb_spec.specs.Lemmas.Calls.{given_error}
-
-pub returns-in_err-readable-clause-refused : goal.returns-in_err-readable-clause-refused
-returns-in_err-readable-clause-refused g c = λ tells.
-    let F = files_by g.D.Store.seen g.D.System.may_fail g.D.Store.may_leave g.D.Store.failures in
-    let T = told_by g.E.Sink.taken g.E.Sink.failures in
-    given_error c.in_err-readable.field-0.0 (λ r. IsUpdateRefused c.args.root.now c.args.usr c.args.verbose c.args.skip r (F c.args.system.now) (F c.args.system.now) (T c.args.err.now) (T c.args.err.now))
-    c.from_residual.result c.from_residual.ensures.1
-    (inl (c.in_err-readable.ensures.refused tells, record { same = λ p. refl; no_more = λ p v l. l }, refl))
-
-pub returns-in_err-say-clause-refused : goal.returns-in_err-say-clause-refused
-returns-in_err-say-clause-refused g c = λ tells.
-    let F = files_by g.D.Store.seen g.D.System.may_fail g.D.Store.may_leave g.D.Store.failures in
-    let T = told_by g.E.Sink.taken g.E.Sink.failures in
-    let less = c.in_ok-readable.ensures.selected tells in
-    given_error c.in_err-say.field-0.0 (λ r. IsUpdateRefused c.args.root.now c.args.usr c.args.verbose c.args.skip r (F c.args.system.now) (F c.args.system.now) (T c.args.err.now) (T c.say.new.err))
-    c.from_residual-in_err-say.result c.from_residual-in_err-say.ensures.1
-    (inr record {
-      left_out = less.left_out;
-      are = less.are;
-      said = c.in_ok-readable.readable.said.items;
-      lines = less.told;
-      read = all_read c.args.root.now (without less.left_out c.args.root.now (g.D.Store.seen c.args.system.now)) _ _ _ less.selected;
-      refused = inl (
-        inr (c.in_err-say.ensures.refused.0, subst (λ t. WasCut t (T c.args.err.now) (T c.say.new.err)) c.deref.ensures.value c.in_err-say.ensures.refused.1),
-        record { same = λ p. refl; no_more = λ p v l. l },
-      );
-    })
-
-pub returns-in_err-status-clause-refused : goal.returns-in_err-status-clause-refused
-returns-in_err-status-clause-refused g c = λ tells.
-    let F = files_by g.D.Store.seen g.D.System.may_fail g.D.Store.may_leave g.D.Store.failures in
-    let T = told_by g.E.Sink.taken g.E.Sink.failures in
-    let less = c.in_ok-readable.ensures.selected tells in
-    given_error c.in_err-status.field-0.0 (λ r. IsUpdateRefused c.args.root.now c.args.usr c.args.verbose c.args.skip r (F c.args.system.now) (F c.update_selected.new.system) (T c.args.err.now) (T c.update_selected.new.err))
-    c.from_residual-in_err-status.result c.from_residual-in_err-status.ensures.1
-    (inr record {
-      left_out = less.left_out;
-      are = less.are;
-      said = c.in_ok-readable.readable.said.items;
-      lines = less.told;
-      read = all_read c.args.root.now (without less.left_out c.args.root.now (g.D.Store.seen c.args.system.now)) _ _ _ less.selected;
-      refused = inr (
-        T c.say.new.err,
-        subst (λ t. HasTaken t (T c.args.err.now) (T c.say.new.err)) c.deref.ensures.value c.in_ok-say.ensures.took,
-        c.in_err-status.ensures.refused (without less.left_out c.args.root.now (g.D.Store.seen c.args.system.now)) less.selected tells,
-      );
-    })
 
 pub returns-in_err-status-clause-any_moment : goal.returns-in_err-status-clause-any_moment
 returns-in_err-status-clause-any_moment g c = λ tells.
@@ -74,28 +24,6 @@ returns-clause-any_moment g c = λ tells.
     leaves_less g.D.Store.moment g.D.Store.left_since c.args.system.now c.update_selected.new.system (g.D.System.may_fail c.args.system.now) c.args.root.now c.args.usr c.args.skip
     seen (g.D.Store.may_leave c.args.system.now) less.left_out less.are
     (c.in_ok-status.ensures.any_moment (without less.left_out c.args.root.now seen) less.selected tells)
-
-pub returns-clause-updated : goal.returns-clause-updated
-returns-clause-updated g c = λ tells.
-    let T = told_by g.E.Sink.taken g.E.Sink.failures in
-    let less = c.in_ok-readable.ensures.selected tells in
-    let done = c.in_ok-status.ensures.updated (without less.left_out c.args.root.now (g.D.Store.seen c.args.system.now)) less.selected tells in
-    record {
-      left_out = less.left_out;
-      are = less.are;
-      said = c.in_ok-readable.readable.said.items;
-      lines = less.told;
-      read = all_read c.args.root.now (without less.left_out c.args.root.now (g.D.Store.seen c.args.system.now)) _ _ _ less.selected;
-      err_said = T c.say.new.err;
-      told = subst (λ t. HasTaken t (T c.args.err.now) (T c.say.new.err)) c.deref.ensures.value c.in_ok-say.ensures.took;
-      loss = done.loss;
-      err_then = done.err_then;
-      told_loss = done.told;
-      plainly = c.in_ok-status.status;
-      updated = done.updated;
-      lost = done.lost;
-      answer = c.status_less.ensures.is c.args.root.now less.left_out (subst (AreTold c.args.root.now less.left_out) (sym c.deref-2.ensures.value) less.told);
-    }
 
 pub returns-in_err-status-clause-hands_on : goal.returns-in_err-status-clause-hands_on
 returns-in_err-status-clause-hands_on g c = hands_on_twice _ _ _ _ _ _ c.in_ok-say.ensures.took.unfailed c.in_ok-say.ensures.hands_on c.in_err-status.ensures.hands_on

@@ -1,7 +1,6 @@
 use Rattle.std.proofs.Common.{◌≡◌, ◌∙◌, ◌++◌, ap, refl, append_assoc, subst, map, option_map, string_bytes, List, ℕ, inl, inr, ⊎_elim}
 use Rattle.std.specs.Io.KnownBytes.{Appends}
 use Rattle.hwdb_compile.specs.Views.{fault_of}
-use Rattle.hwdb_spec.specs.Outputs.{CutShort}
 use Rattle.hwdb_spec_commands.specs.Progress.{progress_text, update_text}
 use Rattle.hwdb_spec.specs.Texts.{faults_text, status_of}
 use Rattle.hwdb_spec_commands.specs.Done.{OldOrWritten}
@@ -12,68 +11,8 @@ use Rattle.hwdb_spec.specs.Folders.{faults_of_files}
 use Rattle.hwdb_spec.specs.Lemmas.Calls.{each_value}
 use Rattle.hwdb_tool.proofs.UpdatePlanLemmas.{no_memory, put_ended, uncompiled, leaves_put}
 use Rattle.hwdb_spec_commands.specs.Summary.{depth}
-use Rattle.hwdb_tool.proofs.EmptyingLemmas.{after_loss, placed_of, took_loss, took_rest}
 use Rattle.hwdb_tool.proofs.MomentLemmas.{leaves_more}
-use Rattle.hwdb_tool.proofs.UpdateLemmas.{unreplaced_of}
 use Rattle.hwdb_tool.proofs.update_command.update_files.Goals as goal
-
-pub returns-clause-unreplaced : goal.returns-clause-unreplaced
-returns-clause-unreplaced g c =
-    let names = option_map (λ l. map string_bytes l.now) c.args.listed in
-    let compiled = c.in_ok-compiled.compiled in
-    let loss = c.args.loss.now in
-    let before = told_by g.E.Sink.taken g.E.Sink.failures c.args.err.now in
-    let taken : List ℕ → Type 0 = λ t. Appends (g.E.Sink.taken c.args.err.now) (g.E.Sink.taken c.put_in_place.new.err) t in
-    unreplaced_of c.put_in_place.result g.S.Store.tells _ _ _ _ c.put_in_place.ensures.unreplaced c.put_in_place.ensures.seen c.put_in_place.ensures.left
-    (λ u told seen left. (
-      after_loss before loss,
-      took_loss before loss,
-      λ etc usr of.
-          let faults = faults_text (map fault_of compiled.faults.items) in
-          let made = c.in_ok-compiled.ensures.checked etc usr of in
-          let deep = depth made.0 in
-          let text : c.deref-2.result.now ++ faults ≡ loss ++ update_text names etc usr deep =
-          ap (λ l. l ++ faults) (c.deref-2.ensures.value ∙ c.in_ok-extend_from_slice.ensures.items ∙ ap (λ l. l ++ c.deref.result.now) c.in_ok-said.ensures.items)
-          ∙ append_assoc loss c.deref.result.now faults
-          ∙ ap (λ l. loss ++ (l ++ faults))
-          (c.deref.ensures.value ∙ c.in_ok-told.ensures etc usr of made)
-          ∙ ap (λ fs. loss ++ (progress_text names etc usr deep ++ faults_text fs)) (c.in_ok-compiled.ensures.faults etc usr of) in (
-            told.0.unfailed,
-            record {
-              database = compiled.database.items;
-              written = c.in_ok-compiled.ensures.database etc usr of;
-              compiled = made;
-              told = took_rest (g.E.Sink.taken c.args.err.now) (g.E.Sink.taken c.put_in_place.new.err) loss (update_text names etc usr deep) (subst taken text told.0.whole);
-              seen = seen;
-              left = left;
-            },
-          ),
-    ))
-
-pub returns-clause-cut_short : goal.returns-clause-cut_short
-returns-clause-cut_short g c = λ w.
-    let names = option_map (λ l. map string_bytes l.now) c.args.listed in
-    let compiled = c.in_ok-compiled.compiled in
-    let loss = c.args.loss.now in
-    let cut = c.put_in_place.ensures.cut_short w in (
-      cut.1,
-      λ etc usr of.
-          let faults = faults_text (map fault_of compiled.faults.items) in
-          let made = c.in_ok-compiled.ensures.checked etc usr of in
-          let deep = depth made.0 in
-          let text : c.deref-2.result.now ++ faults ≡ loss ++ update_text names etc usr deep =
-          ap (λ l. l ++ faults) (c.deref-2.ensures.value ∙ c.in_ok-extend_from_slice.ensures.items ∙ ap (λ l. l ++ c.deref.result.now) c.in_ok-said.ensures.items)
-          ∙ append_assoc loss c.deref.result.now faults
-          ∙ ap (λ l. loss ++ (l ++ faults))
-          (c.deref.ensures.value ∙ c.in_ok-told.ensures etc usr of made)
-          ∙ ap (λ fs. loss ++ (progress_text names etc usr deep ++ faults_text fs)) (c.in_ok-compiled.ensures.faults etc usr of) in
-          record {
-            database = compiled.database.items;
-            written = c.in_ok-compiled.ensures.database etc usr of;
-            compiled = made;
-            cut = subst (λ t. CutShort t (g.E.Sink.taken c.args.err.now) (g.E.Sink.taken c.put_in_place.new.err) (g.E.Sink.failures c.args.err.now) (g.E.Sink.failures c.put_in_place.new.err)) text cut.0;
-          },
-    )
 
 pub returns-clause-any_moment : goal.returns-clause-any_moment
 returns-clause-any_moment g c = λ tells etc usr of.
@@ -86,39 +25,6 @@ returns-clause-any_moment g c = λ tells etc usr of.
     (λ new. inr (inl (database, c.in_ok-compiled.ensures.database etc usr of, c.in_ok-compiled.ensures.checked etc usr of, new.0, new.1)))
     (λ part. inr (inr part)) other) now)
     (c.put_in_place.ensures.any_moment tells)
-
-pub returns-clause-updated : goal.returns-clause-updated
-returns-clause-updated g c =
-    let names = option_map (λ l. map string_bytes l.now) c.args.listed in
-    let compiled = c.in_ok-compiled.compiled in
-    let loss = c.args.loss.now in
-    let before = told_by g.E.Sink.taken g.E.Sink.failures c.args.err.now in
-    let taken : List ℕ → Type 0 = λ t. Appends (g.E.Sink.taken c.args.err.now) (g.E.Sink.taken c.put_in_place.new.err) t in
-    placed_of c.put_in_place.result _ g.S.Store.tells _ _ _ c.put_in_place.ensures.told c.put_in_place.ensures.placed c.put_in_place.ensures.status
-    (λ status told placed answer. (
-      after_loss before loss,
-      took_loss before loss,
-      λ etc usr of.
-          let faults = faults_text (map fault_of compiled.faults.items) in
-          let made = c.in_ok-compiled.ensures.checked etc usr of in
-          let deep = depth made.0 in
-          let text : c.deref-2.result.now ++ faults ≡ loss ++ update_text names etc usr deep =
-          ap (λ l. l ++ faults) (c.deref-2.ensures.value ∙ c.in_ok-extend_from_slice.ensures.items ∙ ap (λ l. l ++ c.deref.result.now) c.in_ok-said.ensures.items)
-          ∙ append_assoc loss c.deref.result.now faults
-          ∙ ap (λ l. loss ++ (l ++ faults))
-          (c.deref.ensures.value ∙ c.in_ok-told.ensures etc usr of made)
-          ∙ ap (λ fs. loss ++ (progress_text names etc usr deep ++ faults_text fs)) (c.in_ok-compiled.ensures.faults etc usr of) in
-          record {
-            accepted = c.in_ok-compiled.ensures.accepted etc usr of;
-            database = compiled.database.items;
-            written = c.in_ok-compiled.ensures.database etc usr of;
-            compiled = made;
-            within = c.in_ok-compiled.ensures.within;
-            told = took_rest (g.E.Sink.taken c.args.err.now) (g.E.Sink.taken c.put_in_place.new.err) loss (update_text names etc usr deep) (subst taken text told.whole);
-            stored = placed;
-            answer = answer ∙ ap (status_of c.args.strict) (c.in_ok-compiled.ensures.faults etc usr of);
-          },
-    ))
 
 pub returns-in_err-compiled-clause-follows : goal.returns-in_err-compiled-clause-follows
 returns-in_err-compiled-clause-follows g c = λ tells w less shown is etc usr of.

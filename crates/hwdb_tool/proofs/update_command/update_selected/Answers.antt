@@ -1,27 +1,19 @@
 use Rattle.std.proofs.Common.{◌≡◌, ◌∙◌, ap, inl, inr, length, map, option_map, string_bytes, refl, subst, sym, Err, List, Ok, Option, ℕ}
 use Rattle.std.specs.Io.KnownBytes.{Appends}
-use Rattle.hwdb_spec_commands.specs.Progress.{given_where, update_text}
-use Rattle.hwdb_text.specs.Views.{choice_in, choice_of}
-use Rattle.hwdb_compile.specs.Views.{ForFolders}
+use Rattle.hwdb_spec_commands.specs.Progress.{given_where}
+use Rattle.hwdb_text.specs.Views.{choice_of}
 use Rattle.hwdb_spec.specs.declared.errors.ToolError.TheVariants.{Memory}
 use Rattle.hwdb_spec.specs.Folders.{chosen_of}
-use Rattle.hwdb_spec_commands.specs.Runs.{HasTaken, files_by, told_by}
+use Rattle.hwdb_spec_commands.specs.Runs.{files_by, told_by}
 use Rattle.hwdb_spec_commands.specs.Status.{is_bare}
-use Rattle.hwdb_spec.specs.declared.errors.Unreplaced.{Unreplaced}
-use Rattle.hwdb_spec_commands.specs.UpdateErrors.{OnUnreplaced, UpdateUndone}
-use Rattle.hwdb_spec.specs.Store.{InPlace, database_name, path_in, LeavesOnly}
-use Rattle.hwdb_spec_commands.specs.Summary.{depth}
+use Rattle.hwdb_spec.specs.Store.{database_name, path_in, LeavesOnly}
 use Rattle.hwdb_spec.specs.System.{database_folder}
-use Rattle.hwdb_tool.specs.Emptying.{AfterLoss}
 use Rattle.hwdb_tool.specs.Internal.{AreReadOf}
 use Rattle.hwdb_spec_commands.specs.Refusals.{IsOfUpdate}
-use Rattle.hwdb_spec_commands.specs.Undone.{IsSelectedRefused, IsUnwritable, WasSayingCut}
-use Rattle.hwdb_spec_commands.specs.Asked.{database_path}
 use Rattle.hwdb_spec_commands.specs.declared.refusals.Refusal.TheVariants.{Plain}
 use Rattle.hwdb_tool.proofs.FolderLemmas.{are_read}
 use Rattle.hwdb_tool.proofs.MomentLemmas.{leaves_old_or_updated}
 use Rattle.hwdb_tool.proofs.StatusLemmas.{bare_files}
-use Rattle.hwdb_tool.proofs.UpdateLemmas.{update_reason, update_refused}
 use Rattle.hwdb_compile.specs.Views.{AreChosenOf}
 use Rattle.hwdb_plan.specs.Put.{put_plan}
 use Rattle.hwdb_plan.specs.Putting.{PutsEnd, OldOrPut}
@@ -32,70 +24,6 @@ use Rattle.hwdb_spec_commands.specs.Progress.{listing}
 use Rattle.hwdb_tool.specs.Emptying.{status_by}
 use Rattle.hwdb_tool.proofs.UpdatePlanLemmas.{files_chosen, puts_early, puts_then, shown_error, unput, leaves_then}
 use Rattle.hwdb_tool.proofs.update_command.update_selected.Goals as goal
-use Rattle.hwdb_spec.specs.Lemmas.Calls.{given_error}
-
-pub returns-in_err-files-clause-refused : goal.returns-in_err-files-clause-refused
-returns-in_err-files-clause-refused g c = λ files selected tells.
-    let F = files_by g.D.Store.seen g.D.System.may_fail g.D.Store.may_leave g.D.Store.failures in
-    let T = told_by g.E.Sink.taken g.E.Sink.failures in
-    given_error (Plain Memory) (λ r. IsSelectedRefused c.args.root.now c.args.usr c.args.verbose files r (F c.args.system.now) (F c.args.system.now) (T c.args.err.now) (T c.args.err.now))
-    c.from_residual.result c.from_residual.ensures.1 (inl (refl, record { same = λ p. refl; no_more = λ p v l. l }, refl))
-
-pub returns-in_err-folder-clause-refused : goal.returns-in_err-folder-clause-refused
-returns-in_err-folder-clause-refused g c = λ files selected tells.
-    let F = files_by g.D.Store.seen g.D.System.may_fail g.D.Store.may_leave g.D.Store.failures in
-    let T = told_by g.E.Sink.taken g.E.Sink.failures in
-    given_error (Plain Memory) (λ r. IsSelectedRefused c.args.root.now c.args.usr c.args.verbose files r (F c.args.system.now) (F c.args.system.now) (T c.args.err.now) (T c.args.err.now))
-    c.from_residual-in_err-folder.result c.from_residual-in_err-folder.ensures.1 (inl (refl, record { same = λ p. refl; no_more = λ p v l. l }, refl))
-
-pub returns-in_err-path_in-clause-refused : goal.returns-in_err-path_in-clause-refused
-returns-in_err-path_in-clause-refused g c = λ files selected tells.
-    let F = files_by g.D.Store.seen g.D.System.may_fail g.D.Store.may_leave g.D.Store.failures in
-    let T = told_by g.E.Sink.taken g.E.Sink.failures in
-    given_error (Plain Memory) (λ r. IsSelectedRefused c.args.root.now c.args.usr c.args.verbose files r (F c.args.system.now) (F c.args.system.now) (T c.args.err.now) (T c.args.err.now))
-    c.from_residual-in_err-path_in.result c.from_residual-in_err-path_in.ensures.1 (inl (refl, record { same = λ p. refl; no_more = λ p v l. l }, refl))
-
-pub returns-in-Ok-clause-updated : goal.returns-in-Ok-clause-updated
-returns-in-Ok-clause-updated g c = λ files selected tells.
-    let root = c.args.root.now in
-    let seen = g.D.Store.seen c.args.system.now in
-    let chosen = c.args.selection.now.chosen.items in
-    let texts = c.args.selection.now.texts.items in
-    let listed = map string_bytes c.args.selection.now.listed.items in
-    let names : option_map (λ l. map string_bytes l.now) c.listing.result ≡ given_where c.args.verbose listed =
-    c.listing.ensures ∙ ap (λ l. given_where c.args.verbose (map string_bytes l)) c.deref-5.ensures.value in
-    let folder : c.as_str-2.result.now ≡ database_folder c.args.usr root = c.as_str-2.ensures.value ∙ c.in_ok-folder.ensures in
-    let read : AreReadOf root files listed c.in_ok-files.files.items =
-    are_read root files listed (map choice_of chosen) (map (λ t. t.items) texts) c.in_ok-files.files.items selected
-    (c.in_ok-files.ensures.choices ∙ ap (map choice_of) c.deref.ensures.value) (c.in_ok-files.ensures.bytes ∙ ap (map (λ t. t.items)) c.deref-2.ensures.value) in
-    let given : AreReadOf root files listed c.deref-3.result.now = subst (AreReadOf root files listed) (sym c.deref-3.ensures.value) read in
-    let T = told_by g.E.Sink.taken g.E.Sink.failures in
-    let after = c.in-Ok.ensures.updated in
-    let done = after.2 given.of_etc given.of_usr given.are in
-    let bare = bare_files c.in_ok-files.files.items (length c.as_slice.result.now) c.is_empty.result (ap length c.as_slice.ensures.value) c.is_empty.ensures
-    ∙ ap (λ l. is_bare (map choice_in l)) (sym c.deref-3.ensures.value) ∙ ap is_bare given.are.choices in
-    record {
-      loss = c.in_ok-loss.loss.items;
-      err_then = after.0;
-      told = subst (λ l. HasTaken l (T c.args.err.now) after.0) c.deref-4.ensures.value after.1;
-      updated = record {
-        of_etc = given.of_etc;
-        of_usr = given.of_usr;
-        in_etc = given.in_etc;
-        in_usr = given.in_usr;
-        updated = record {
-          accepted = done.accepted;
-          database = done.database;
-          written = done.written;
-          compiled = done.compiled;
-          within = done.within;
-          told = subst (λ l. Appends after.0.bytes (g.E.Sink.taken c.update_files.new.err) (update_text l given.of_etc given.of_usr (depth done.compiled.0))) (names ∙ ap (given_where c.args.verbose) (sym given.named)) done.told;
-          stored = subst (λ f. InPlace f done.database seen (g.D.Store.seen c.update_files.new.store) (g.D.Store.may_leave c.update_files.new.store)) folder (done.stored tells);
-          answer = done.answer;
-        };
-      };
-      lost = c.in_ok-loss.ensures.loss (chosen_of given.of_etc given.of_usr) bare tells;
-    }
 
 pub returns-in-Ok-clause-any_moment : goal.returns-in-Ok-clause-any_moment
 returns-in-Ok-clause-any_moment g c = λ files selected tells.
@@ -126,80 +54,6 @@ returns-clause-any_moment g c = λ files selected tells.
     let given : AreReadOf root files listed c.deref-3.result.now = subst (AreReadOf root files listed) (sym c.deref-3.ensures.value) read in
     leaves_old_or_updated g.D.Store.moment g.D.Store.left_since c.args.system.now c.update_files.new.store root c.as_str-2.result.now c.args.usr listed c.deref-3.result.now
     files seen (g.D.Store.may_leave c.args.system.now) folder given (c.update_files.ensures.any_moment tells)
-
-pub returns-clause-refused : goal.returns-clause-refused
-returns-clause-refused g c = λ files selected tells.
-    let root = c.args.root.now in
-    let seen = g.D.Store.seen c.args.system.now in
-    let chosen = c.args.selection.now.chosen.items in
-    let texts = c.args.selection.now.texts.items in
-    let listed = map string_bytes c.args.selection.now.listed.items in
-    let names : option_map (λ l. map string_bytes l.now) c.listing.result ≡ given_where c.args.verbose listed =
-    c.listing.ensures ∙ ap (λ l. given_where c.args.verbose (map string_bytes l)) c.deref-5.ensures.value in
-    let folder : c.as_str-2.result.now ≡ database_folder c.args.usr root = c.as_str-2.ensures.value ∙ c.in_ok-folder.ensures in
-    let read : AreReadOf root files listed c.in_ok-files.files.items =
-    are_read root files listed (map choice_of chosen) (map (λ t. t.items) texts) c.in_ok-files.files.items selected
-    (c.in_ok-files.ensures.choices ∙ ap (map choice_of) c.deref.ensures.value) (c.in_ok-files.ensures.bytes ∙ ap (map (λ t. t.items)) c.deref-2.ensures.value) in
-    let given : AreReadOf root files listed c.deref-3.result.now = subst (AreReadOf root files listed) (sym c.deref-3.ensures.value) read in
-    let at : c.into_bytes-path.result.items ≡ database_path c.args.usr root =
-    ap (λ v. v.items) c.into_bytes-path.ensures.value ∙ c.in_ok-path_in.ensures ∙ ap (λ f. path_in f database_name) (c.as_str.ensures.value ∙ c.in_ok-folder.ensures) in
-    let F = files_by g.D.Store.seen g.D.System.may_fail g.D.Store.may_leave g.D.Store.failures in
-    let T = told_by g.E.Sink.taken g.E.Sink.failures in
-    let bare = bare_files c.in_ok-files.files.items (length c.as_slice.result.now) c.is_empty.result (ap length c.as_slice.ensures.value) c.is_empty.ensures
-    ∙ ap (λ l. is_bare (map choice_in l)) (sym c.deref-3.ensures.value) ∙ ap is_bare given.are.choices in
-    let now = g.E.Sink.taken c.update_files.new.err in
-    let failures = g.E.Sink.failures c.update_files.new.err in
-    let Left : (loss : List ℕ) (names : Option (List (List ℕ))) (folder : List ℕ) → Unreplaced → Type 0 =
-    λ loss names folder u. AfterLoss loss c.deref-3.result.now (λ before e r. (failures ≡ before.failures)
-    × UpdateUndone e r names folder before.bytes now g.D.Store.tells seen (g.D.Store.seen c.update_files.new.store) (g.D.Store.may_leave c.args.system.now) (g.D.Store.may_leave c.update_files.new.store) u) (T c.args.err.now) in
-    let loss = c.in_ok-loss.loss.items in
-    let shown = option_map (λ l. map string_bytes l.now) c.listing.result in
-    update_refused F T c.args.system.now c.update_files.new.store c.args.err.now c.update_files.new.err root c.args.usr c.args.verbose files listed c.deref-3.result.now
-    g.D.Store.tells tells given loss (c.in_ok-loss.ensures.loss (chosen_of given.of_etc given.of_usr) bare tells) c.in-Err.error c.of_update.result
-    (subst (λ p. IsOfUpdate c.in-Err.error p c.of_update.result) at c.of_update.ensures)
-    c.in-Err.ensures.refusals
-    (subst (λ n. OnUnreplaced (Left loss n (database_folder c.args.usr root)) c.in-Err.error) names
-    (subst (λ f. OnUnreplaced (Left loss shown f) c.in-Err.error) folder
-    (subst (λ l. OnUnreplaced (Left l shown c.as_str-2.result.now) c.in-Err.error) c.deref-4.ensures.value c.in-Err.ensures.unreplaced)))
-    (λ is. let cut = c.in-Err.ensures.cut_short (ap Err is) in (
-      cut.0,
-      subst (λ n. ForFolders c.deref-3.result.now (λ e u. WasSayingCut loss e u n (T c.args.err.now) (T c.update_files.new.err))) names
-          (subst (λ l. ForFolders c.deref-3.result.now (λ e u. WasSayingCut l e u shown (T c.args.err.now) (T c.update_files.new.err))) c.deref-4.ensures.value cut.1),
-    ))
-    c.in-Err.ensures.untouched
-
-pub returns-clause-reason : goal.returns-clause-reason
-returns-clause-reason g c = λ tells.
-    let seen = g.D.Store.seen c.args.system.now in
-    let before = g.D.Store.failures c.args.system.now in
-    let now = g.D.Store.failures c.update_files.new.store in
-    update_reason (g.D.System.may_fail c.args.system.now) (IsUnwritable (database_folder c.args.usr c.args.root.now) seen before now) seen c.in-Err.error _ c.of_update.result c.of_update.ensures
-    (subst (λ f. OnUnreplaced (λ _. IsUnwritable f seen before now) c.in-Err.error) (c.as_str-2.ensures.value ∙ c.in_ok-folder.ensures) (c.in-Err.ensures.unwritten tells))
-
-pub returns-in_err-loss-clause-refused : goal.returns-in_err-loss-clause-refused
-returns-in_err-loss-clause-refused g c = λ files selected tells.
-    let root = c.args.root.now in
-    let chosen = c.args.selection.now.chosen.items in
-    let texts = c.args.selection.now.texts.items in
-    let listed = map string_bytes c.args.selection.now.listed.items in
-    let read : AreReadOf root files listed c.in_ok-files.files.items =
-    are_read root files listed (map choice_of chosen) (map (λ t. t.items) texts) c.in_ok-files.files.items selected
-    (c.in_ok-files.ensures.choices ∙ ap (map choice_of) c.deref.ensures.value) (c.in_ok-files.ensures.bytes ∙ ap (map (λ t. t.items)) c.deref-2.ensures.value) in
-    let bare = bare_files c.in_ok-files.files.items (length c.as_slice.result.now) c.is_empty.result (ap length c.as_slice.ensures.value) c.is_empty.ensures
-    ∙ ap is_bare read.are.choices in
-    let F = files_by g.D.Store.seen g.D.System.may_fail g.D.Store.may_leave g.D.Store.failures in
-    let T = told_by g.E.Sink.taken g.E.Sink.failures in
-    given_error c.in_err-loss.field-0.0 (λ r. IsSelectedRefused c.args.root.now c.args.usr c.args.verbose files r (F c.args.system.now) (F c.args.system.now) (T c.args.err.now) (T c.args.err.now))
-    c.from_residual-in_err-loss.result c.from_residual-in_err-loss.ensures.1
-    (inr (inl record {
-      of_etc = read.of_etc;
-      of_usr = read.of_usr;
-      in_etc = read.in_etc;
-      in_usr = read.in_usr;
-      unseen = c.in_err-loss.ensures.refused (chosen_of read.of_etc read.of_usr) bare tells;
-      kept = record { same = λ p. refl; no_more = λ p v l. l };
-      untouched = refl;
-    }))
 
 pub returns-in_err-files-clause-follows : goal.returns-in_err-files-clause-follows
 returns-in_err-files-clause-follows g c = λ tells of_etc of_usr less of.

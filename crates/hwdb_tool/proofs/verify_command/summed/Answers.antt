@@ -10,6 +10,3 @@ returns-in-Ok-clause-follows c = λ w.
 
 pub returns-in-Err-clause-follows : goal.returns-in-Err-clause-follows
 returns-in-Err-clause-follows c = λ w. unsummed w c.args.path.now c.args.bytes.now c.in-Err.error c.refusal_of.result c.in-Err.ensures.errors c.refusal_of.ensures.stops
-
-pub returns-in-Err-clause-refused : goal.returns-in-Err-clause-refused
-returns-in-Err-clause-refused c = (c.in-Err.error, c.refusal_of.ensures.refusal, c.in-Err.ensures.errors)
