@@ -5,7 +5,7 @@ use Rattle.hwdb_spec.specs.Answers.{effective_of, is_after, last_assignments, la
 use Rattle.hwdb_spec.specs.Assignment.{ascending, assignment_cmp, position_cmp, put, put_all}
 use Rattle.hwdb_spec.specs.Explanations.{explained}
 use Rattle.hwdb_spec.specs.Folders.{first_of}
-use Rattle.hwdb_spec.specs.Format.{value_at}
+use Rattle.hwdb_spec.specs.Format.{number_at, text_at as bytes_to_zero, value_at}
 use Rattle.hwdb_spec.specs.Lines.{numbered, pieces, trimmed}
 use Rattle.hwdb_spec.specs.Patterns.{bracket_at, byte_then, classes, item_at, items_from, matches, piece_then, some_ending, token_at, tokens_from}
 use Rattle.hwdb_spec.specs.Records.{behind, first_section, sections_from}
@@ -97,5 +97,5 @@ unfolding pieces numbered trimmed first_section sections_from behind records_fro
 lone_rows = (refl, refl)
 
 pub entry_rows : EntryRows
-unfolding value_at
+unfolding value_at bytes_to_zero number_at
 entry_rows = refl

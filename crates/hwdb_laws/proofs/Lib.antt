@@ -23,3 +23,4 @@ pub mod PlannedErrorLemmas
 pub mod ProgramRunLemmas
 pub mod PlannedJobLemmas
 pub mod PlannedUpdateLemmas
+pub mod ToldLemmas

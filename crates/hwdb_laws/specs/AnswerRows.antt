@@ -211,7 +211,7 @@ offset at = at ∷ 0 ∷ 0 ∷ 0 ∷ 0 ∷ 0 ∷ 0 ∷ 0 ∷ []
 -- strings come after it here, each with a byte 0 at its end.
 abbrev pub entry_bytes : List ℕ
 entry_bytes =
-    offset 32 ++ (offset 35 ++ (offset 37 ++ (7 ∷ 1 ∷ 0 ∷ 0 ∷ 2 ∷ 0 ∷ 0 ∷ 0 ∷ (codes " K" ++ (0 ∷ (codes "1" ++ (0 ∷ (codes "f" ++ (0 ∷ []))))))))
+    offset 32 ++ (offset 35 ++ (offset 37 ++ (7 ∷ 1 ∷ 0 ∷ 0 ∷ 2 ∷ 0 ∷ 0 ∷ 0 ∷ (codes " K" ++ (0 ∷ (codes "1" ++ (0 ∷ (codes "f" ++ (0 ∷ [])))))))))
 
 abbrev pub EntryRows : Type 0
 EntryRows = value_at entry_bytes 0 ≡ record { priority = 2; line = 263; key = codes " K"; value = codes "1"; path = codes "f" }

@@ -22,3 +22,4 @@ pub mod PlannedErrors
 pub mod ProgramRuns
 pub mod PlannedJobs
 pub mod PlannedUpdates
+pub mod ToldOnce
