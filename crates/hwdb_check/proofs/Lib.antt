@@ -21,3 +21,4 @@ pub mod MendLemmas
 pub mod PieceLemmas
 pub mod KeptLemmas
 pub mod FollowLemmas
+pub mod FixLemmas

@@ -272,7 +272,13 @@ fn push_sarif(alloc: Global, text: &mut Vec<u8>, found: &Finding<'_>) -> Result<
         kind: found.kind,
         text: &message,
     };
-    push_result(alloc, text, &result)
+    push_result(
+        alloc,
+        text,
+        &result,
+        column_of(found.source.len()),
+        found.fix,
+    )
 }
 
 /// Adds what is printed of it.

@@ -204,7 +204,7 @@ pub fn fix_for(
         ≡ told format (with_fix f (Fixes.fix kind (line_of 0 clean.now) source.now))) }
 {
     match format {
-        Format::Json => fix(alloc, kind, source, clean),
-        Format::Text | Format::Github | Format::Sarif => Ok(None),
+        Format::Json | Format::Sarif => fix(alloc, kind, source, clean),
+        Format::Text | Format::Github => Ok(None),
     }
 }

@@ -1,9 +1,10 @@
 //! Findings as a log in SARIF.
-ghost use Rattle.std.specs.Prelude.{◌≡◌, ◌++◌, ◌∷◌, [], IfOk, OnOk, codes, drop, flat_map};
+ghost use Rattle.std.specs.Prelude.{◌≡◌, ◌++◌, ◌∷◌, [], IfOk, OnOk, Some, codes, drop, flat_map};
+ghost use Rattle.std.specs.Option.{option_map};
 ghost use Rattle.hex.specs.Hex.{encode_upper};
 ghost use Rattle.hwdb_spec.specs.Lines.{byte};
 ghost use Rattle.json.specs.Tree.{json_tokens};
-ghost use Rattle.hwdb_spec_commands.specs.Json.{json_text, object_of, text_json};
+ghost use Rattle.hwdb_spec_commands.specs.Json.{object_of, text_json};
 ghost use Rattle.hwdb_spec_commands.specs.Logs;
 
 use crate::annotations::Annotation;
@@ -109,8 +110,7 @@ fn put_object(json: &mut Writer, text: &[u8]) -> Result<(), AllocError>
 
 /// A text as an object.
 fn object_of(alloc: Global, text: &[u8]) -> Result<Vec<u8>, AllocError>
-    ensures { IfOk result (λ json. json.items
-        ≡ json_text (object_of ((codes "text", text_json text.now) ∷ []))) }
+    ensures { IfOk result (λ json. json.items ≡ Logs.text_object text.now) }
 {
     let mut json = Writer::new(Vec::new(alloc));
     put_object(&mut json, text)?;
@@ -151,30 +151,135 @@ fn push_severity(text: &mut Vec<u8>, severity: &str) -> Result<(), AllocError>
     push_text(text, "\",")
 }
 
-/// Adds where it is, and the end of its line.
-fn push_rest(text: &mut Vec<u8>, found: &Annotation<'_>) -> Result<(), AllocError>
+/// Adds the line that a fix replaces.
+fn push_deleted(text: &mut Vec<u8>, line: u64, after: u64) -> Result<(), AllocError>
+    ensures { OnOk result (text.new.items ≡ text.old.items ++ Logs.deleted_part line after) }
+{
+    push_text(
+        text,
+        "\"},\"replacements\":[{\"deletedRegion\":{\"startLine\":",
+    )?;
+    push_count(text, line)?;
+    push_text(text, ",\"startColumn\":1,\"endColumn\":")?;
+    push_count(text, after)
+}
+
+/// Adds a text as an object.
+fn push_object(alloc: Global, text: &mut Vec<u8>, more: &[u8]) -> Result<(), AllocError>
+    ensures { OnOk result (text.new.items ≡ text.old.items ++ Logs.text_object more.now) }
+{
+    let object = object_of(alloc, more)?;
+    text.extend_from_slice(&object)?;
+    Ok(())
+}
+
+/// Adds the line that comes in its place.
+fn push_inserted(alloc: Global, text: &mut Vec<u8>, meant: &[u8]) -> Result<(), AllocError>
+    ensures { OnOk result (text.new.items ≡ text.old.items ++ Logs.inserted_part meant.now) }
+{
+    push_text(text, "},\"insertedContent\":")?;
+    push_object(alloc, text, meant)?;
+    push_text(text, "}]}]}]")
+}
+
+/// Adds the file that a fix changes.
+fn push_changed(text: &mut Vec<u8>, path: &[u8]) -> Result<(), AllocError>
+    ensures { OnOk result (text.new.items ≡ text.old.items ++ Logs.changed_part path.now) }
+{
+    push_text(
+        text,
+        ",\"fixes\":[{\"artifactChanges\":[{\"artifactLocation\":{\"uri\":\"",
+    )?;
+    push_uri(text, path)
+}
+
+/// Adds the fix of a line, which ends before a column.
+fn push_fix(
+    alloc: Global,
+    text: &mut Vec<u8>,
+    found: &Annotation<'_>,
+    after: u64,
+    meant: &[u8],
+) -> Result<(), AllocError>
+    ensures { OnOk result (text.new.items ≡ text.old.items
+        ++ Logs.fix_part found.now.path.now found.now.line after meant.now) }
+{
+    push_changed(text, found.path)?;
+    push_deleted(text, found.line, after)?;
+    push_inserted(alloc, text, meant)
+}
+
+/// The same, if the line as it was likely meant is UTF-8.
+fn push_fix_if(
+    alloc: Global,
+    text: &mut Vec<u8>,
+    found: &Annotation<'_>,
+    after: u64,
+    meant: &[u8],
+) -> Result<(), AllocError>
+    ensures { OnOk result (text.new.items ≡ text.old.items
+        ++ Logs.fixes_member found.now.path.now found.now.line after (Some meant.now)) }
+{
+    match str::from_utf8(meant) {
+        Ok(_) => push_fix(alloc, text, found, after, meant),
+        Err(_) => Ok(()),
+    }
+}
+
+/// Adds the line as it was likely meant, if that is sure.
+fn push_fixes(
+    alloc: Global,
+    text: &mut Vec<u8>,
+    found: &Annotation<'_>,
+    after: u64,
+    fix: &Option<Vec<u8>>,
+) -> Result<(), AllocError>
+    ensures { OnOk result (text.new.items ≡ text.old.items
+        ++ Logs.fixes_member found.now.path.now found.now.line after
+        (option_map (λ t. t.items) fix.now)) }
+{
+    match fix {
+        Some(meant) => push_fix_if(alloc, text, found, after, meant),
+        None => Ok(()),
+    }
+}
+
+/// Adds where it is, its fix, and the end of its line.
+fn push_rest(
+    alloc: Global,
+    text: &mut Vec<u8>,
+    found: &Annotation<'_>,
+    after: u64,
+    fix: &Option<Vec<u8>>,
+) -> Result<(), AllocError>
     ensures { OnOk result (text.new.items ≡ text.old.items ++ (byte "," ∷ (Logs.place_member
-        found.now.path.now found.now.line found.now.column ++ codes "}\n"))) }
+        found.now.path.now found.now.line found.now.column
+        ++ (Logs.fixes_member found.now.path.now found.now.line after
+        (option_map (λ t. t.items) fix.now) ++ codes "}\n")))) }
 {
     text.push(b',')?;
     push_place(text, found)?;
+    push_fixes(alloc, text, found, after, fix)?;
     push_text(text, "}\n")
 }
 
-/// Adds the result of a finding, after a comma, on a line of its own.
+/// Adds the result of a finding, after a comma, on a line of its own. The line of the file ends before a column, and was likely
+/// meant as `fix`.
 pub fn push_result(
     alloc: Global,
     text: &mut Vec<u8>,
     found: &Annotation<'_>,
+    after: u64,
+    fix: &Option<Vec<u8>>,
 ) -> Result<(), AllocError>
     ensures { OnOk result (text.new.items ≡ text.old.items ++ Logs.result_line
         found.now.severity.now found.now.path.now found.now.line found.now.column
-        found.now.kind.now found.now.text.now) }
+        found.now.kind.now found.now.text.now after (option_map (λ t. t.items) fix.now)) }
 {
     push_kind(text, found.kind)?;
     push_severity(text, found.severity)?;
     push_message(alloc, text, found.text)?;
-    push_rest(text, found)
+    push_rest(alloc, text, found, after, fix)
 }
 
 /// The bytes after the first one.

@@ -1,6 +1,6 @@
 -- What `check` prints of the faults and warnings of one file: of each a report, a line of JSON, a workflow command of GitHub, or a result in
 -- SARIF. Our choice.
-use Rattle.std.specs.Prelude.{Bool, true, false, ℕ, List, Option, None, Some, [], ◌∷◌, ◌++◌, ◌+◌, ◌-◌, ◌^◌, if◌then◌else◌, codes, filter, flat_map, nat_lt}
+use Rattle.std.specs.Prelude.{Bool, true, false, ℕ, List, Option, None, Some, [], ◌∷◌, ◌++◌, ◌+◌, ◌-◌, ◌^◌, if◌then◌else◌, codes, filter, flat_map, length, nat_lt}
 use Rattle.std.specs.Fmt.{decimal}
 use Rattle.json.specs.Json.{Json}
 use Rattle.hwdb_spec_commands.specs.Annotations.{annotation}
@@ -81,7 +81,7 @@ abbrev pub told : Format → Finding → List ℕ
 told Reports f = report f
 told JsonLines f = json_line (finding_json f)
 told Github f = annotation (severity_name f.fault) (shown_name f.path) f.line (column f.place) f.kind (message f)
-told Sarif f = result_line (severity_name f.fault) f.path f.line (column f.place) f.kind (message f)
+told Sarif f = result_line (severity_name f.fault) f.path f.line (column f.place) f.kind (message f) (column (length f.source)) f.fix
 
 -- ---- faults and warnings
 

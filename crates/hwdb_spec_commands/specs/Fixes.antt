@@ -1,5 +1,5 @@
--- Lines as they were likely meant, of which a warning is told: `check --format json` has them as `fix`. There is one only if it is sure, as
--- the hint writes it. Our choice.
+-- Lines as they were likely meant, of which a warning is told: `check --format json` has them as `fix`, and a log in SARIF under `fixes`.
+-- There is one only if it is sure, as the hint writes it. Our choice.
 use Rattle.std.specs.Prelude.{Bool, true, false, ◌==◌, ℕ, List, [], ◌∷◌, ◌++◌, Option, None, Some, if◌then◌else◌, drop, filter, length, map, not, take}
 use Rattle.std.specs.List.{prefix_len}
 use Rattle.std.specs.Option.{option_map}

@@ -1,7 +1,8 @@
 -- Findings as a log that tools of code review read: SARIF 2.1.0, of OASIS. Its names are those of sections 3.13 (the log), 3.14 (a run),
--- 3.27 (a result), 3.29 (a place) and 3.30 (a region). How it is laid out is our choice.
-use Rattle.std.specs.Prelude.{Bool, ℕ, List, [], ◌∷◌, ◌++◌, ◌||◌, codes, drop, flat_map, if◌then◌else◌}
+-- 3.27 (a result), 3.29 (a place), 3.30 (a region) and 3.55 to 3.57 (a fix). How it is laid out is our choice.
+use Rattle.std.specs.Prelude.{Bool, ℕ, List, Option, None, Some, [], ◌∷◌, ◌++◌, ◌||◌, codes, drop, flat_map, if◌then◌else◌}
 use Rattle.std.specs.Fmt.{decimal}
+use Rattle.std.specs.Str.{is_utf8}
 use Rattle.hex.specs.Hex.{encode_upper}
 use Rattle.hwdb_spec.specs.Lines.{byte, has}
 use Rattle.hwdb_spec.specs.Patterns.{in_span}
@@ -28,9 +29,35 @@ abbrev pub place_member : (path : List ℕ) (line column : ℕ) → List ℕ
 place_member path line column =
     codes "\"locations\":[{\"physicalLocation\":{\"artifactLocation\":{\"uri\":\"" ++ (flat_map uri_byte path ++ (line_part line ++ column_part column))
 
+-- a text as an object
+abbrev pub text_object : (text : List ℕ) → List ℕ
+text_object text = json_text (object_of ((codes "text", text_json text) ∷ []))
+
 -- what is found, and what to do about it
 abbrev pub message_member : (text : List ℕ) → List ℕ
-message_member text = codes "\"message\":" ++ json_text (object_of ((codes "text", text_json text) ∷ []))
+message_member text = codes "\"message\":" ++ text_object text
+
+-- the line that a fix replaces, as a region from its first column to the one after its last byte
+abbrev pub deleted_part : (line after : ℕ) → List ℕ
+deleted_part line after =
+    codes "\"},\"replacements\":[{\"deletedRegion\":{\"startLine\":" ++ (decimal line ++ (codes ",\"startColumn\":1,\"endColumn\":" ++ decimal after))
+
+-- the line that comes in its place
+abbrev pub inserted_part : (text : List ℕ) → List ℕ
+inserted_part text = codes "},\"insertedContent\":" ++ (text_object text ++ codes "}]}]}]")
+
+-- the file that a fix changes, after a comma
+abbrev pub changed_part : (path : List ℕ) → List ℕ
+changed_part path = codes ",\"fixes\":[{\"artifactChanges\":[{\"artifactLocation\":{\"uri\":\"" ++ flat_map uri_byte path
+
+-- one fix, which changes one line of one file
+abbrev pub fix_part : (path : List ℕ) (line after : ℕ) (text : List ℕ) → List ℕ
+fix_part path line after text = changed_part path ++ (deleted_part line after ++ inserted_part text)
+
+-- The line as it was likely meant, after a comma, if that is sure. A line that isn't UTF-8 has none: it is no text of a log.
+abbrev pub fixes_member : (path : List ℕ) (line after : ℕ) (fix : Option (List ℕ)) → List ℕ
+fixes_member path line after None = []
+fixes_member path line after (Some text) = if is_utf8 text then fix_part path line after text else []
 
 -- the kind of a finding, after a comma; kinds and severities are words that need no escape
 abbrev pub kind_part : (kind : List ℕ) → List ℕ
@@ -40,10 +67,13 @@ kind_part kind = codes ",{\"ruleId\":\"" ++ kind
 abbrev pub severity_part : (severity : List ℕ) → List ℕ
 severity_part severity = codes "\",\"level\":\"" ++ (severity ++ codes "\",")
 
--- a result of the log, after a comma, on a line of its own
-abbrev pub result_line : (severity path : List ℕ) (line column : ℕ) (kind text : List ℕ) → List ℕ
-result_line severity path line column kind text =
-    kind_part kind ++ (severity_part severity ++ (message_member text ++ (byte "," ∷ (place_member path line column ++ codes "}\n"))))
+-- A result of the log, after a comma, on a line of its own. Its line of the file ends before the column `after`, and was likely meant
+-- as `fix`.
+abbrev pub result_line : (severity path : List ℕ) (line column : ℕ) (kind text : List ℕ) (after : ℕ) (fix : Option (List ℕ)) → List ℕ
+result_line severity path line column kind text after fix =
+    kind_part kind
+    ++ (severity_part severity
+    ++ (message_member text ++ (byte "," ∷ (place_member path line column ++ (fixes_member path line after fix ++ codes "}\n")))))
 
 -- what the log begins with
 abbrev pub log_head : List ℕ
