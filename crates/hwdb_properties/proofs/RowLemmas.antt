@@ -11,6 +11,9 @@ resolutions = record {
   two = refl;
   word = refl;
   star = refl;
+  nothing = refl;
+  no_rate = refl;
+  zeros = refl;
 }
 
 pub matrices : MatrixRows
@@ -56,10 +59,16 @@ numbers = record {
   more = refl;
   below = refl;
   half = refl;
+  whole = refl;
+  beyond = refl;
+  still = refl;
+  integer = refl;
   count = refl;
   decimal = refl;
   charge = refl;
   lone = refl;
+  full = refl;
+  over = refl;
   word = refl;
   other = refl;
   away = refl;

@@ -22,6 +22,9 @@ pub record ResolutionRows : Type 0 where
   pub two : row_misuse (codes "MOUSE_DPI resolutions mouse x") (codes "MOUSE_DPI") (codes "*400@125 *800@125") ≡ Some TwoDefaults
   pub word : IsUnfit "MOUSE_DPI resolutions mouse x" "MOUSE_DPI" "800dpi"
   pub star : IsUnfit "MOUSE_DPI resolutions mouse x" "MOUSE_DPI" "800*"
+  pub nothing : IsUnfit "MOUSE_DPI resolutions mouse x" "MOUSE_DPI" "400@125 *0@125"
+  pub no_rate : IsUnfit "MOUSE_DPI resolutions mouse x" "MOUSE_DPI" "800@00"
+  pub zeros : IsFine "MOUSE_DPI resolutions mouse x" "MOUSE_DPI" "0800@125"
 
 -- A matrix has three rows of three numbers, none of which is zero, and another determinant than 0. Numbers but 1, 0 and -1 aren't
 -- multiplied.
@@ -61,12 +64,18 @@ pub record AxisRows : Type 0 where
 pub record NumberRows : Type 0 where
   pub most : IsFine "POINTINGSTICK_SENSITIVITY byte evdev x" "POINTINGSTICK_SENSITIVITY" "255"
   pub more : IsUnfit "POINTINGSTICK_SENSITIVITY byte evdev x" "POINTINGSTICK_SENSITIVITY" "256"
-  pub below : IsFine "MOUSE_WHEEL_CLICK_ANGLE integer mouse x" "MOUSE_WHEEL_CLICK_ANGLE" "-15"
-  pub half : IsUnfit "MOUSE_WHEEL_CLICK_ANGLE integer mouse x" "MOUSE_WHEEL_CLICK_ANGLE" "7.5"
+  pub below : IsFine "MOUSE_WHEEL_CLICK_ANGLE turn mouse x" "MOUSE_WHEEL_CLICK_ANGLE" "-15"
+  pub half : IsUnfit "MOUSE_WHEEL_CLICK_ANGLE turn mouse x" "MOUSE_WHEEL_CLICK_ANGLE" "7.5"
+  pub whole : IsFine "MOUSE_WHEEL_CLICK_ANGLE turn mouse x" "MOUSE_WHEEL_CLICK_ANGLE" "-360"
+  pub beyond : IsUnfit "MOUSE_WHEEL_CLICK_ANGLE turn mouse x" "MOUSE_WHEEL_CLICK_ANGLE" "361"
+  pub still : IsUnfit "MOUSE_WHEEL_CLICK_ANGLE turn mouse x" "MOUSE_WHEEL_CLICK_ANGLE" "0"
+  pub integer : IsFine "ID_AUTOSUSPEND_DELAY_MS integer usb x" "ID_AUTOSUSPEND_DELAY_MS" "-1"
   pub count : IsUnfit "PROXIMITY_NEAR_LEVEL count sensor x" "PROXIMITY_NEAR_LEVEL" "-1"
   pub decimal : IsFine "POINTINGSTICK_CONST_ACCEL decimal evdev x" "POINTINGSTICK_CONST_ACCEL" "1.25"
   pub charge : IsFine "CHARGE_LIMIT limits battery x" "CHARGE_LIMIT" "_,80"
   pub lone : IsUnfit "CHARGE_LIMIT limits battery x" "CHARGE_LIMIT" "80"
+  pub full : IsFine "CHARGE_LIMIT limits battery x" "CHARGE_LIMIT" "0,100"
+  pub over : IsUnfit "CHARGE_LIMIT limits battery x" "CHARGE_LIMIT" "80,101"
   pub word : IsFine "ID_INTEGRATION internal|external * x" "ID_INTEGRATION" "external"
   pub other : IsUnfit "ID_INTEGRATION internal|external * x" "ID_INTEGRATION" "extern"
   pub away : IsFine "ID_INTEGRATION internal|external * x" "ID_INTEGRATION" ""
@@ -87,7 +96,7 @@ pub record MeantRows : Type 0 where
   pub word : row_value_hint (codes "ID_PDA 0|1 * x") (codes "ID_PDA") (codes "Yes") ≡ codes "write ID_PDA=1"
   pub both : row_value_hint (codes "ID_PDA 0|1 * x") (codes "ID_PDA") (codes "\"off\"") ≡ codes "write ID_PDA=0"
   pub other : row_value_hint (codes "ID_INTEGRATION internal|external * x") (codes "ID_INTEGRATION") (codes "yes") ≡ codes "write one of these: internal|external"
-  pub form : row_value_hint (codes "MOUSE_DPI resolutions mouse x") (codes "MOUSE_DPI") (codes "resolutions") ≡ codes "write resolutions with spaces between, as 400@125 *800@125"
+  pub form : row_value_hint (codes "MOUSE_DPI resolutions mouse x") (codes "MOUSE_DPI") (codes "resolutions") ≡ codes "write resolutions above 0 with spaces between, as 400@125 *800@125"
   pub none : row_value_hint (codes "ID_PDA 0|1 * x") (codes "ID_PDA") (codes "\"\"") ≡ codes "write one of these: 0|1"
 
 -- Names have letters, digits, `.` and `_`. One with other bytes is read nowhere.

@@ -1,6 +1,6 @@
 //! Texts that are numbers.
 ghost use Rattle.std.specs.Prelude.{◌≡◌};
-ghost use Rattle.std.specs.List.{list_all};
+ghost use Rattle.std.specs.List.{list_all, list_any};
 ghost use Rattle.hwdb_spec.specs.Lines.{is};
 ghost use Rattle.hwdb_spec.specs.Patterns.{in_span};
 ghost use Rattle.hwdb_spec_commands.specs.Properties;
@@ -109,6 +109,35 @@ pub fn is_integer(text: &[u8]) -> bool
     ensures { result ≡ Properties.is_integer text.now }
 {
     is_count(without(b'-', text))
+}
+
+/// Whether a text has a digit from 1 to 9.
+pub fn has_digit(text: &[u8]) -> bool
+    ensures { result ≡ list_any (λ b. in_span b (49, 57)) text.now }
+{
+    text.iter().any(|byte| matches!(*byte, b'1'..=b'9'))
+}
+
+/// Whether a text is decimal digits, one of which isn't 0.
+pub fn is_positive(text: &[u8]) -> bool
+    ensures { result ≡ Properties.is_positive text.now }
+{
+    is_count(text) && has_digit(text)
+}
+
+/// Whether a text is a number from 1 to 360, after a `-` or not.
+pub fn is_turn(text: &[u8]) -> bool
+    ensures { result ≡ Properties.is_turn text.now }
+{
+    let size = without(b'-', text);
+    is_positive(size) && (size.len() < 3 || size.len() == 3 && !size.cmp(b"360".as_slice()).is_gt())
+}
+
+/// Whether a text is a number from 0 to 100.
+pub fn is_percent(text: &[u8]) -> bool
+    ensures { result ≡ Properties.is_percent text.now }
+{
+    is_count(text) && (text.len() < 3 || same(text, b"100"))
 }
 
 /// Whether a text is a number from 0 to 255.

@@ -181,12 +181,15 @@ fn form_text(form: ValueForm) -> &'static str
         ValueForm::Any => "write any text",
         ValueForm::Count => "write a number, as 10",
         ValueForm::Integer => "write a whole number, as 15 or -15",
+        ValueForm::Turn => "write a number from 1 to 360, or from -360 to -1",
         ValueForm::Byte => "write a number from 0 to 255",
         ValueForm::Decimal => "write a decimal number, as 1.5",
         ValueForm::Matrix => "write three rows of three numbers, as 1, 0, 0; 0, 1, 0; 0, 0, 1",
-        ValueForm::Resolutions => "write resolutions with spaces between, as 400@125 *800@125",
+        ValueForm::Resolutions =>
+            "write resolutions above 0 with spaces between, as 400@125 *800@125",
         ValueForm::Axis => "write up to five numbers with colons between, as 0:4095:40",
-        ValueForm::Limits => "write two numbers with a comma between, as 75,80; a _ is for none",
+        ValueForm::Limits =>
+            "write two numbers up to 100 with a comma between, as 75,80; a _ is for none",
         ValueForm::Key => KEY_HINT,
         ValueForm::Setting => "write letters, digits and + - . / @ _ alone, as us",
         ValueForm::Choice => "write one of these: ",

@@ -7,7 +7,10 @@ ghost use Rattle.hwdb_spec_commands.specs.Properties;
 
 use crate::cuts::{after, before, same, without};
 use crate::matrices::is_singular;
-use crate::numbers::{is_byte, is_count, is_decimal, is_integer, is_number, is_setting};
+use crate::numbers::{
+    has_digit, is_byte, is_count, is_decimal, is_integer, is_number, is_percent, is_positive,
+    is_setting, is_turn,
+};
 use crate::rows::{Likeness, first_row};
 use hwdb_spec_commands::{KEY_NAMES, Misuse, ValueForm};
 use hwdb_text::{Pieces, unindented};
@@ -30,13 +33,6 @@ fn is_matrix(text: &[u8]) -> bool
     is_matrix_row(before(b';', text))
         && is_matrix_row(before(b';', rest))
         && is_matrix_row(after(b';', rest))
-}
-
-/// Whether a text has a digit from 1 to 9.
-fn has_digit(text: &[u8]) -> bool
-    ensures { result ≡ list_any (λ b. in_span b (49, 57)) text.now }
-{
-    text.iter().any(|byte| matches!(*byte, b'1'..=b'9'))
 }
 
 /// Whether a row of a matrix has no digit but 0.
@@ -71,7 +67,7 @@ fn is_resolution(text: &[u8]) -> bool
 {
     let plain = without(b'*', text);
     text.is_empty()
-        || is_count(before(b'@', plain)) && (!has_at(text) || is_count(after(b'@', plain)))
+        || is_positive(before(b'@', plain)) && (!has_at(text) || is_positive(after(b'@', plain)))
 }
 
 /// Whether a text is resolutions with spaces between.
@@ -121,11 +117,11 @@ fn is_axis(text: &[u8]) -> bool
         && is_limit(after(b':', fourth))
 }
 
-/// Whether a text is digits, or `_`.
+/// Whether a text is a percentage, or `_`.
 fn is_charge(text: &[u8]) -> bool
     ensures { result ≡ Properties.is_charge text.now }
 {
-    same(text, b"_") || is_count(text)
+    same(text, b"_") || is_percent(text)
 }
 
 /// Whether a text is two charges with a comma between.
@@ -186,6 +182,8 @@ pub fn form_of(name: &[u8]) -> ValueForm
         ValueForm::Count
     } else if same(name, b"integer") {
         ValueForm::Integer
+    } else if same(name, b"turn") {
+        ValueForm::Turn
     } else if same(name, b"byte") {
         ValueForm::Byte
     } else if same(name, b"decimal") {
@@ -215,6 +213,7 @@ pub fn is_of_form(kind: ValueForm, form: &[u8], text: &[u8]) -> bool
         ValueForm::Any => true,
         ValueForm::Count => is_count(text),
         ValueForm::Integer => is_integer(text),
+        ValueForm::Turn => is_turn(text),
         ValueForm::Byte => is_byte(text),
         ValueForm::Decimal => is_decimal(text),
         ValueForm::Matrix => is_matrix(text),

@@ -17,7 +17,7 @@ use Rattle.hwdb_spec_commands.specs.declared.vocabulary.Sign.TheVariants.{Minus,
 use Rattle.hwdb_spec_commands.specs.declared.vocabulary.SignRow.{SignRow}
 use Rattle.hwdb_spec_commands.specs.declared.vocabulary.TheConstants.{AXIS_CODES, KEY_HINT, KEY_NAMES, KEY_WORDS, OLD_PROPERTIES, PROPERTIES, VALUE_WORDS}
 use Rattle.hwdb_spec_commands.specs.declared.vocabulary.ValueForm.{ValueForm}
-use Rattle.hwdb_spec_commands.specs.declared.vocabulary.ValueForm.TheVariants.{Any, Axis, Byte, Choice, Count, Decimal, Integer, Key, Limits, Matrix, Resolutions, Setting}
+use Rattle.hwdb_spec_commands.specs.declared.vocabulary.ValueForm.TheVariants.{Any, Axis, Byte, Choice, Count, Decimal, Integer, Key, Limits, Matrix, Resolutions, Setting, Turn}
 
 -- ---- Rows
 
@@ -123,6 +123,23 @@ without own text = if begins_with own text then drop 1 text else text
 -- decimal digits, after a `-` or not
 abbrev pub is_integer : List ℕ → Bool
 is_integer text = is_made_of is_digit (without (byte "-") text)
+
+-- decimal digits, one of which isn't 0
+abbrev pub is_positive : List ℕ → Bool
+is_positive text = if is_made_of is_digit text then list_any (λ b. in_span b (49, 57)) text else false
+
+-- a number from 1 to 360 in at most three digits, after a `-` or not: libinput takes no other turn and no other count of a wheel
+abbrev pub is_turn : List ℕ → Bool
+is_turn text =
+    let size = without (byte "-") text in
+    if is_positive size then
+    (if nat_lt (length size) 3 then true else (if length size == 3 then not (is_gt (text_cmp size (codes "360"))) else false))
+    else false
+
+-- a number from 0 to 100, in at most three digits
+abbrev pub is_percent : List ℕ → Bool
+is_percent text =
+    if is_made_of is_digit text then (if nat_lt (length text) 3 then true else same text (codes "100")) else false
 
 -- a number from 0 to 255, in at most three digits
 abbrev pub is_byte : List ℕ → Bool
@@ -240,12 +257,13 @@ is_singular text =
     is_flat (row_signs (before (byte ";") text)) (row_signs (before (byte ";") (after (byte ";") text)))
     (row_signs (after (byte ";") (after (byte ";") text)))
 
--- digits, after a `*` or not, with `@` and digits after them or without; or nothing
+-- A number above 0, after a `*` or not, with `@` and such a number after it or without; or nothing. Of a resolution of 0, or at 0 hertz,
+-- libinput takes nothing.
 abbrev pub is_resolution : List ℕ → Bool
 is_resolution text =
     if is_none text then true else
-    (if is_made_of is_digit (before (byte "@") (without (byte "*") text)) then
-    (if has (byte "@") text then is_made_of is_digit (after (byte "@") (without (byte "*") text)) else true)
+    (if is_positive (before (byte "@") (without (byte "*") text)) then
+    (if has (byte "@") text then is_positive (after (byte "@") (without (byte "*") text)) else true)
     else false)
 
 -- resolutions with spaces between
@@ -277,9 +295,9 @@ is_axis text =
     (if is_limit (before (byte ":") third) then
     (if is_limit (before (byte ":") fourth) then is_limit (after (byte ":") fourth) else false) else false) else false) else false
 
--- digits, or `_`
+-- a percentage, or `_`
 abbrev pub is_charge : List ℕ → Bool
-is_charge text = if same text (codes "_") then true else is_made_of is_digit text
+is_charge text = if same text (codes "_") then true else is_percent text
 
 -- two charges with a comma between
 abbrev pub is_limits : List ℕ → Bool
@@ -313,6 +331,7 @@ form_of name =
     if same name (codes "any") then Any else
     (if same name (codes "count") then Count else
     (if same name (codes "integer") then Integer else
+    (if same name (codes "turn") then Turn else
     (if same name (codes "byte") then Byte else
     (if same name (codes "decimal") then Decimal else
     (if same name (codes "matrix") then Matrix else
@@ -320,13 +339,14 @@ form_of name =
     (if same name (codes "axis") then Axis else
     (if same name (codes "limits") then Limits else
     (if same name (codes "key") then Key else
-    (if same name (codes "setting") then Setting else Choice))))))))))
+    (if same name (codes "setting") then Setting else Choice)))))))))))
 
 -- Whether a text is of a form, whose name is this word. A `!` before a key says that it is released at once; it may be alone.
 abbrev pub is_of_form : ValueForm → (form text : List ℕ) → Bool
 is_of_form Any form text = true
 is_of_form Count form text = is_made_of is_digit text
 is_of_form Integer form text = is_integer text
+is_of_form Turn form text = is_turn text
 is_of_form Byte form text = is_byte text
 is_of_form Decimal form text = is_decimal text
 is_of_form Matrix form text = is_matrix text
@@ -433,12 +453,13 @@ abbrev pub form_hint : ValueForm → (form : List ℕ) → List ℕ
 form_hint Any form = codes "write any text"
 form_hint Count form = codes "write a number, as 10"
 form_hint Integer form = codes "write a whole number, as 15 or -15"
+form_hint Turn form = codes "write a number from 1 to 360, or from -360 to -1"
 form_hint Byte form = codes "write a number from 0 to 255"
 form_hint Decimal form = codes "write a decimal number, as 1.5"
 form_hint Matrix form = codes "write three rows of three numbers, as 1, 0, 0; 0, 1, 0; 0, 0, 1"
-form_hint Resolutions form = codes "write resolutions with spaces between, as 400@125 *800@125"
+form_hint Resolutions form = codes "write resolutions above 0 with spaces between, as 400@125 *800@125"
 form_hint Axis form = codes "write up to five numbers with colons between, as 0:4095:40"
-form_hint Limits form = codes "write two numbers with a comma between, as 75,80; a _ is for none"
+form_hint Limits form = codes "write two numbers up to 100 with a comma between, as 75,80; a _ is for none"
 form_hint Key form = KEY_HINT.now
 form_hint Setting form = codes "write letters, digits and + - . / @ _ alone, as us"
 form_hint Choice form = codes "write one of these: " ++ form

@@ -156,10 +156,10 @@ pub const PROPERTIES: &str = "\
     KEYBOARD_KEY_ key evdev 60-keyboard.hwdb\n\
     EVDEV_ABS_ axis evdev 60-evdev.hwdb\n\
     ACCEL_MOUNT_MATRIX matrix sensor|evdev 60-sensor.hwdb\n\
-    MOUSE_WHEEL_CLICK_ANGLE integer mouse|evdev|id-input 70-mouse.hwdb\n\
-    MOUSE_WHEEL_CLICK_ANGLE_HORIZONTAL integer mouse|evdev|id-input 70-mouse.hwdb\n\
-    MOUSE_WHEEL_CLICK_COUNT integer mouse|evdev|id-input 70-mouse.hwdb\n\
-    MOUSE_WHEEL_CLICK_COUNT_HORIZONTAL integer mouse|evdev|id-input 70-mouse.hwdb\n\
+    MOUSE_WHEEL_CLICK_ANGLE turn mouse|evdev|id-input 70-mouse.hwdb\n\
+    MOUSE_WHEEL_CLICK_ANGLE_HORIZONTAL turn mouse|evdev|id-input 70-mouse.hwdb\n\
+    MOUSE_WHEEL_CLICK_COUNT turn mouse|evdev|id-input 70-mouse.hwdb\n\
+    MOUSE_WHEEL_CLICK_COUNT_HORIZONTAL turn mouse|evdev|id-input 70-mouse.hwdb\n\
     MOUSE_WHEEL_TILT_HORIZONTAL 0|1 mouse|evdev|id-input 70-mouse.hwdb\n\
     MOUSE_WHEEL_TILT_VERTICAL 0|1 mouse|evdev|id-input 70-mouse.hwdb\n\
     ID_INPUT 0|1 id-input|evdev|mouse|touchpad|libwacom|usb|input|joystick 60-input-id.hwdb\n\
@@ -282,6 +282,8 @@ pub enum ValueForm {
     Count,
     /// Decimal digits, after a `-` or not.
     Integer,
+    /// A number from 1 to 360, after a `-` or not.
+    Turn,
     /// A number from 0 to 255.
     Byte,
     /// Digits with a `.` among them or not, after a sign or not.
@@ -292,7 +294,7 @@ pub enum ValueForm {
     Resolutions,
     /// The limits of an axis.
     Axis,
-    /// Two numbers, or `_` for one.
+    /// Two percentages, or `_` for one.
     Limits,
     /// A key.
     Key,
