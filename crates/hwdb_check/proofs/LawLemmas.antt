@@ -1,16 +1,17 @@
 -- The laws.
 use Rattle.std.proofs.Common.{◌≡◌, ◌∙◌, ◌⊎◌, ◌||◌, ◌+◌, ◌++◌, ◌-◌, ◌<◌, ◌≤◌, ◌==◌, ap, sym, refl, subst, ◌↔◌, inl, inr, arith, append_assoc, eqb-true, ℕ, zero, suc, Bool, true, false, List, [], ◌∷◌, length, get_or, None, Option, Some}
-use Rattle.std.specs.Prelude.{Contains, flat_map, is_some, nat_lt, if◌then◌else◌}
+use Rattle.std.specs.List.{position_or_len}
+use Rattle.std.specs.Prelude.{Contains, drop, flat_map, is_some, nat_lt, if◌then◌else◌}
 use Rattle.std.specs.List.{list_any}
-use Rattle.std.specs.Option.{option_and_then}
+use Rattle.std.specs.Option.{option_and_then, option_or}
 use Rattle.std.specs.Ordering.{is_eq}
 use Rattle.std.proofs.lemmas.Bool.{le-ltb}
 use Rattle.std.proofs.lemmas.Cmp.{nat_list_cmp_total, tied_itself}
 use Rattle.hwdb_spec.specs.Folders.{same}
 use Rattle.hwdb_spec.specs.Forms.{CanMatch, Form, all_bytes_from, can_match, is_unknown, judged}
 use Rattle.hwdb_spec_commands.specs.Kinds.{warning_name}
-use Rattle.hwdb_spec.specs.Lines.{begins_with, byte, is_none, max_pattern, pieces}
-use Rattle.hwdb_spec_commands.specs.Mends.{follow, likely_after, likely_judgement, mended_in, step}
+use Rattle.hwdb_spec.specs.Lines.{begins_with, byte, is, is_none, max_pattern, pieces}
+use Rattle.hwdb_spec_commands.specs.Mends.{begins_field, follow, is_field_after, is_fine, likely_after, likely_judgement, mended_in, moved, moved_before, ordered, start_of, step}
 use Rattle.hwdb_spec_commands.specs.Unmatched.{compare_hint, expected_after, is_unmatched, judgement_of, likelihood_of, runs_from}
 use Rattle.hwdb_spec_commands.specs.FormTable.{asked}
 use Rattle.hwdb_spec_commands.specs.LikelyForms.{likely}
@@ -206,16 +207,49 @@ fine_after (suc n) pattern place text e = by (step pattern place) (λ now at k. 
     by None again k = absurd cc
     by (Some now) again k = told now (likely_judgement now) (again now) refl k
 
+fine_by : (j : Judgement) → is_fine j ≡ true → j ≡ Fine
+fine_by Fine e = refl
+fine_by UnknownPrefix e = cc
+fine_by (Dead place) e = cc
+
+fine_moved : (pattern : List ℕ) (start end at : ℕ) (text : List ℕ) → moved_before pattern start end at ≡ Some text → likely_judgement text ≡ Fine
+unfolding moved_before
+fine_moved pattern start end zero text e = absurd cc
+fine_moved pattern start end (suc n) text e =
+    by (is_field_after n pattern) (is_fine (likely_judgement (moved pattern (suc n) start end))) refl (fine_moved pattern start end n text) e
+  where
+    by : (field fine : Bool) → is_fine (likely_judgement (moved pattern (suc n) start end)) ≡ fine → (moved_before pattern start end n ≡ Some text → likely_judgement text ≡ Fine)
+        → (if field then (if fine then Some (moved pattern (suc n) start end) else moved_before pattern start end n) else moved_before pattern start end n) ≡ Some text
+        → likely_judgement text ≡ Fine
+    by true true is later e =
+        let same : moved pattern (suc n) start end ≡ text = cc in
+        subst (λ (t : List ℕ). likely_judgement t ≡ Fine) same (fine_by (likely_judgement (moved pattern (suc n) start end)) is)
+    by true false is later e = later e
+    by false fine is later e = later e
+
+fine_ordered : (pattern : List ℕ) (place : ℕ) (text : List ℕ) → ordered pattern place ≡ Some text → likely_judgement text ≡ Fine
+fine_ordered pattern place text e = by (begins_field (drop (start_of pattern place) pattern)) e
+  where
+    by : (b : Bool) → (if b then moved_before pattern (start_of pattern place) (start_of pattern place + position_or_len (is (byte ":")) (drop (start_of pattern place) pattern)) (start_of pattern place - 1) else None) ≡ Some text
+        → likely_judgement text ≡ Fine
+    by true e = fine_moved pattern (start_of pattern place) _ _ text e
+    by false e = absurd cc
+
 pub likely_mends : FormsAreTested → MendsAreLikely
 unfolding likely_judgement
 likely_mends tested pattern place text e = by (nat_lt 256 (length pattern)) e
   where
-    by : (long : Bool) → (if long then None else mended_in 4 pattern place) ≡ Some text → CanMatch likely (tokens text)
+    by : (long : Bool) → (if long then None else option_or (mended_in 4 pattern place) (ordered pattern place)) ≡ Some text → CanMatch likely (tokens text)
     by true e = absurd cc
-    by false e = likely_if tested text (fine_after 4 pattern place text e)
+    by false e = likely_if tested text (either (mended_in 4 pattern place) (ordered pattern place) (fine_after 4 pattern place text) (fine_ordered pattern place text) e)
+      where
+        either : (a b : Option (List ℕ)) → (a ≡ Some text → likely_judgement text ≡ Fine) → (b ≡ Some text → likely_judgement text ≡ Fine) → option_or a b ≡ Some text
+            → likely_judgement text ≡ Fine
+        either None b f g e = g e
+        either (Some now) b f g e = f e
 
 pub mend_rows : MendRows
-unfolding all_bytes_from
+unfolding all_bytes_from start_of pieces
 mend_rows = record {
   capital = refl;
   all_digits = refl;
@@ -231,6 +265,11 @@ mend_rows = record {
   is_letter = refl;
   is_blank = refl;
   is_colon = refl;
+  order = refl;
+  start = refl;
+  fields = refl;
+  no_field = refl;
+  reordered = refl;
   written = refl;
   named = refl;
 }

@@ -7,11 +7,6 @@ use Rattle.hwdb_spec_commands.specs.declared.WarningKind.TheVariants.{ByteOrderM
 use Rattle.hwdb_spec_commands.specs.declared.vocabulary.Misuse.TheVariants.{NearName, OldName, ScanCode, SingularMatrix, TwoDefaults, UnfitValue, UnknownKey, ZeroRow}
 use Rattle.hwdb_check.specs.Internal.{line_of}
 
--- the same in three pieces
-pub three_pieces : (a b c d one two three : List ℕ) → b ≡ a ++ one → c ≡ b ++ two → d ≡ c ++ three → d ≡ a ++ (one ++ (two ++ three))
-three_pieces a b c d one two three e f g =
-    g ∙ ap (λ (l : List ℕ). l ++ three) (f ∙ ap (λ (l : List ℕ). l ++ two) e) ∙ append_assoc (a ++ one) two three ∙ append_assoc a one (two ++ three)
-
 pub four_pieces : (a b c d one two three four : List ℕ) → b ≡ a ++ one → c ≡ b ++ two → d ≡ c ++ three → d ++ four ≡ a ++ (one ++ (two ++ (three ++ four)))
 four_pieces a b c d one two three four e f g =
     ap (λ (l : List ℕ). l ++ four) (g ∙ ap (λ (l : List ℕ). l ++ three) (f ∙ ap (λ (l : List ℕ). l ++ two) e))

@@ -1,5 +1,5 @@
 -- What the laws say of patterns that can't match, and of the names of warnings. A definition that said less would be noticed here.
-use Rattle.std.specs.Prelude.{◌-◌, ◌≡◌, ◌↔◌, ◌≤◌, ◌⊎◌, ◌++◌, Bool, Contains, List, None, Some, [], codes, false, flat_map, is_some, length, map, replicate, suc, true, ℕ}
+use Rattle.std.specs.Prelude.{◌∷◌, ◌-◌, ◌≡◌, ◌↔◌, ◌≤◌, ◌⊎◌, ◌++◌, Bool, Contains, List, None, Some, [], codes, false, flat_map, is_some, length, map, replicate, suc, true, ℕ}
 use Rattle.hwdb_spec.specs.Forms.{CanMatch, all_bytes_from, expected, judged}
 use Rattle.hwdb_spec.specs.Patterns.{tokens}
 use Rattle.hwdb_spec_commands.specs.FormTable.{asked}
@@ -7,7 +7,7 @@ use Rattle.hwdb_spec_commands.specs.LikelyForms.{likely}
 use Rattle.hwdb_spec_commands.specs.Fields.{odd_field, with_fields}
 use Rattle.hwdb_spec_commands.specs.Kinds.{warning_name}
 use Rattle.hwdb_spec.specs.Lines.{begins_with, byte, is, is_none, max_pattern, pieces}
-use Rattle.hwdb_spec_commands.specs.Mends.{meant_rest, mend_hint, mended, reason}
+use Rattle.hwdb_spec_commands.specs.Mends.{begins_field, meant_rest, mend_hint, mended, moved, ordered, reason, start_of}
 use Rattle.hwdb_spec_commands.specs.Unmatched.{compare_hint, is_unmatched, judgement_hint, judgement_of, judgement_place, judgement_text, likelihood_hint, likelihood_of, likely_place_hint, place_hint, prefix_hint, runs, runs_hint}
 use Rattle.hwdb_spec_commands.specs.Warnings.{is_too_long, may_be_too_deep, warning_place}
 use Rattle.hwdb_spec.specs.declared.Judgement.TheVariants.{Dead, Fine, UnknownPrefix}
@@ -104,6 +104,11 @@ pub record MendRows : Type 0 where
   pub is_letter : reason (codes "V") (codes "v") ≡ codes "letters are lower case here"
   pub is_blank : reason (codes " x") (codes "x") ≡ codes "no blank is here"
   pub is_colon : reason (codes "r") (codes ":r") ≡ codes "a colon is here"
+  pub order : moved (codes "dmi:*:pnA*:svnB*:x") 6 11 16 ≡ codes "dmi:*:svnB*:pnA*:x"
+  pub start : map (start_of (codes "ab:c:")) (0 ∷ 2 ∷ 3 ∷ 4 ∷ 5 ∷ []) ≡ 0 ∷ 0 ∷ 3 ∷ 3 ∷ 5 ∷ []
+  pub fields : map begins_field (codes "pn*" ∷ codes "svnX" ∷ codes "sv" ∷ codes "*" ∷ []) ≡ true ∷ true ∷ false ∷ false ∷ []
+  pub no_field : ordered (codes "mouse:v046d*") 6 ≡ None
+  pub reordered : mend_hint (codes "dmi:*:pnA*:svnB*") 12 [] (Some (codes "dmi:*:svnB*:pnA*")) ≡ codes "the fields have another order: write dmi:*:svnB*:pnA*"
   pub written : mend_hint (codes "usb:v04d9*") 7 [] (Some (codes "usb:v04D9*")) ≡ codes "hexadecimal digits are upper case here: write usb:v04D9*"
   pub named : mend_hint (codes "usb:v04d9*") 7 (codes "put v here") None ≡ codes "put v here"
 

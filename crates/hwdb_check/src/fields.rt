@@ -38,7 +38,7 @@ fn has_value_byte(text: &[u8]) -> bool
 }
 
 /// The row of a field with this name.
-fn field_row(word: &[u8]) -> &'static [u8]
+pub fn field_row(word: &[u8]) -> &'static [u8]
     ensures { result.now ≡ Properties.row_for MACHINE_FIELDS.now word.now }
 {
     first_row(MACHINE_FIELDS.as_bytes(), word, Likeness::Same)

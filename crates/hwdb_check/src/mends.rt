@@ -1,16 +1,18 @@
 //! What a pattern was likely meant to be that no string of udev matches, or none that it likely asks.
-ghost use Rattle.std.specs.Prelude.{◌≡◌, ◌++◌, ◌∷◌, ◌≤◌, List, Option, ℕ, drop, length, map, take, IfOk, OnOk, Some};
+ghost use Rattle.std.specs.Prelude.{◌≡◌, ◌++◌, ◌∷◌, ◌≤◌, List, Option, ℕ, drop, if◌then◌else◌, length, map, suc, take, IfOk, OnOk, Some};
 ghost use Rattle.std.specs.List.{prefix_len};
-ghost use Rattle.std.specs.Option.{option_map};
+ghost use Rattle.std.specs.Option.{option_map, option_or};
 ghost use Rattle.hwdb_spec.specs.Lines.{byte, has, is_indent};
 ghost use Rattle.hwdb_spec_commands.specs.Mends;
 ghost use Rattle.hwdb_check.specs.Mending.{outcome};
 ghost use Rattle.hwdb_spec_commands.specs.Properties.{is_hex_digit, lower};
 
+use crate::fields::field_row;
 use hwdb_forms::{expected_likely, judge_both};
+use hwdb_properties::same;
 use hwdb_show::push_shown;
 use hwdb_spec::Judgement;
-use hwdb_text::{begins_with, unindented};
+use hwdb_text::{begins_with, end_of, unindented};
 use std::alloc::{AllocError, Global};
 
 /// A pattern of more bytes isn't mended (our choice).
@@ -286,9 +288,140 @@ fn mended_in_steps(
     Ok(None)
 }
 
+/// Whether a text begins with the name of a field of the machine.
+fn begins_field(text: &[u8]) -> bool
+    ensures { result ≡ Mends.begins_field text.now }
+{
+    !field_row(front_of(text, 3)).is_empty() || !field_row(front_of(text, 2)).is_empty()
+}
+
+/// Whether a pattern has a colon at a place, and a field after it.
+fn is_field_after(place: usize, pattern: &[u8]) -> bool
+    requires { place ≤ 256 }
+    ensures { result ≡ Mends.is_field_after place pattern.now }
+{
+    begins_with(b':', rest_of(pattern, place)) && begins_field(rest_of(pattern, place + 1))
+}
+
+/// Where that part between colons begins which goes up to a place.
+fn start_of(pattern: &[u8], place: usize) -> usize
+    ensures start { result ≡ Mends.start_of pattern.now place }
+    ensures within { result ≤ length pattern.now }
+{
+    let mut at = place;
+    while at > 0 {
+        if begins_with(b':', rest_of(pattern, at - 1)) {
+            return at;
+        }
+        at -= 1;
+    }
+    0
+}
+
+/// A pattern whose bytes from `start` to `end` come before those from `at` on, with a colon between.
+fn moved(
+    alloc: Global,
+    pattern: &[u8],
+    at: usize,
+    start: usize,
+    end: usize,
+) -> Result<Vec<u8>, AllocError>
+    ensures { IfOk result (λ text. text.items ≡ Mends.moved pattern.now at start end) }
+{
+    let between = start.saturating_sub(1).saturating_sub(at);
+    let mut text = Vec::new(alloc);
+    text.extend_from_slice(front_of(pattern, at))?;
+    text.extend_from_slice(front_of(rest_of(pattern, start), end.saturating_sub(start)))?;
+    text.push(b':')?;
+    text.extend_from_slice(front_of(rest_of(pattern, at), between))?;
+    text.extend_from_slice(rest_of(pattern, end))?;
+    Ok(text)
+}
+
+/// Whether nothing is said of a pattern.
+fn is_fine(told: Judgement) -> bool
+    ensures { result ≡ Mends.is_fine told }
+{
+    matches!(told, Judgement::Fine)
+}
+
+/// A pattern with the field from `start` to `end` before the part that begins after a place, if udev likely asks it then.
+fn moved_after(
+    alloc: Global,
+    pattern: &[u8],
+    start: usize,
+    end: usize,
+    place: usize,
+) -> Result<Option<Vec<u8>>, AllocError>
+    requires { place ≤ 256 }
+    ensures { (other : Option (List ℕ)) → IfOk result (λ found.
+        option_or (option_map (λ t. t.items) found) other
+        ≡ (if Mends.is_field_after place pattern.now then
+        (if Mends.is_fine (Mends.likely_judgement (Mends.moved pattern.now (suc place) start end))
+        then Some (Mends.moved pattern.now (suc place) start end) else other) else other)) }
+{
+    if !is_field_after(place, pattern) {
+        return Ok(None);
+    }
+    let text = moved(alloc, pattern, place + 1, start, end)?;
+    if is_fine(likely_judgement(alloc, &text)?) {
+        return Ok(Some(text));
+    }
+    Ok(None)
+}
+
+/// The same before a field that begins at a place up to `at`, the last first.
+fn moved_before(
+    alloc: Global,
+    pattern: &[u8],
+    start: usize,
+    end: usize,
+    at: usize,
+) -> Result<Option<Vec<u8>>, AllocError>
+    requires { at ≤ 256 }
+    ensures { IfOk result (λ found. option_map (λ t. t.items) found
+        ≡ Mends.moved_before pattern.now start end at) }
+{
+    let mut left = at;
+    while left > 0 {
+        if let Some(text) = moved_after(alloc, pattern, start, end, left - 1)? {
+            return Ok(Some(text));
+        }
+        left -= 1;
+    }
+    Ok(None)
+}
+
+/// A pattern that goes wrong in a field of the machine, with that field before one that is before it.
+fn ordered(alloc: Global, pattern: &[u8], place: usize) -> Result<Option<Vec<u8>>, AllocError>
+    requires { length pattern.now ≤ 256 }
+    ensures { IfOk result
+        (λ found. option_map (λ t. t.items) found ≡ Mends.ordered pattern.now place) }
+{
+    let start = start_of(pattern, place);
+    let field = rest_of(pattern, start);
+    if !begins_field(field) {
+        return Ok(None);
+    }
+    let end = start + end_of(b':', field);
+    moved_before(alloc, pattern, start, end, start.saturating_sub(1))
+}
+
+/// A pattern that goes wrong at a place, mended in a few steps, or by the order of its fields.
+fn mended_short(alloc: Global, pattern: &[u8], place: usize) -> Result<Option<Vec<u8>>, AllocError>
+    requires { length pattern.now ≤ 256 }
+    ensures { IfOk result (λ found. option_map (λ t. t.items) found
+        ≡ option_or (Mends.mended_in 4 pattern.now place) (Mends.ordered pattern.now place)) }
+{
+    if let Some(text) = mended_in_steps(alloc, pattern, place)? {
+        return Ok(Some(text));
+    }
+    ordered(alloc, pattern, place)
+}
+
 /// A pattern that goes wrong at a place, as it was likely meant, if that is sure. The only error is `AllocError`.
 ///
-/// At most four times the bytes that could come are looked for, and a pattern is judged.
+/// At most four times the bytes that could come are looked for, and a pattern is judged; and once for each field before that place.
 pub fn mended(alloc: Global, pattern: &[u8], place: usize) -> Result<Option<Vec<u8>>, AllocError>
     ensures { IfOk result
         (λ found. option_map (λ t. t.items) found ≡ Mends.mended pattern.now place) }
@@ -296,7 +429,7 @@ pub fn mended(alloc: Global, pattern: &[u8], place: usize) -> Result<Option<Vec<
     if pattern.len() > LONGEST_MENDED {
         return Ok(None);
     }
-    mended_in_steps(alloc, pattern, place)
+    mended_short(alloc, pattern, place)
 }
 
 /// What a letter in the wrong case is.
@@ -348,6 +481,22 @@ fn push_reason(text: &mut Vec<u8>, was: &[u8], now: &[u8]) -> Result<(), AllocEr
     push_case_reason(text, *first)
 }
 
+/// Adds what is wrong with a pattern that goes wrong at a place and was meant so.
+fn push_mend_reason(
+    text: &mut Vec<u8>,
+    pattern: &[u8],
+    place: usize,
+    meant: &[u8],
+) -> Result<(), AllocError>
+    ensures { OnOk result (text.new.items
+        ≡ text.old.items ++ Mends.mend_reason pattern.now place meant.now) }
+{
+    if same(front_of(pattern, place), front_of(meant, place)) {
+        return push_reason(text, rest_of(pattern, place), rest_of(meant, place));
+    }
+    text.extend_from_slice(b"the fields have another order")
+}
+
 /// Adds what is wrong with a pattern that goes wrong at a place, and how it was likely meant.
 pub fn push_mend(
     text: &mut Vec<u8>,
@@ -358,7 +507,7 @@ pub fn push_mend(
     ensures { (other : List ℕ) → OnOk result (text.new.items
         ≡ text.old.items ++ Mends.mend_hint pattern.now place other (Some meant.now)) }
 {
-    push_reason(text, rest_of(pattern, place), rest_of(meant, place))?;
+    push_mend_reason(text, pattern, place, meant)?;
     text.extend_from_slice(b": write ")?;
     push_shown(text, meant)
 }

@@ -1,15 +1,17 @@
 -- What a pattern was likely meant to be that no string of udev matches, or none that it likely asks. Our choice.
-use Rattle.std.specs.Prelude.{Bool, ℕ, List, [], ◌∷◌, ◌++◌, ◌-◌, Option, None, Some, suc, zero, if◌then◌else◌, codes, drop, length, map, nat_lt, take}
-use Rattle.std.specs.List.{prefix_len}
-use Rattle.std.specs.Option.{option_and_then, option_map}
+use Rattle.std.specs.Prelude.{Bool, true, false, ℕ, List, [], ◌∷◌, ◌++◌, ◌+◌, ◌-◌, Option, None, Some, suc, zero, if◌then◌else◌, codes, drop, length, map, nat_lt, not, take}
+use Rattle.std.specs.List.{position_or_len, prefix_len}
+use Rattle.std.specs.Option.{option_and_then, option_map, option_or}
 use Rattle.hwdb_spec.specs.Forms.{expected, judged}
-use Rattle.hwdb_spec.specs.Lines.{begins_with, byte, has, is_indent}
+use Rattle.hwdb_spec.specs.Folders.{same}
+use Rattle.hwdb_spec.specs.Lines.{begins_with, byte, has, is, is_indent, is_none}
 use Rattle.hwdb_spec.specs.Patterns.{in_span}
 use Rattle.hwdb_spec.specs.declared.Judgement.{Judgement}
 use Rattle.hwdb_spec.specs.declared.Judgement.TheVariants.{Dead, Fine, UnknownPrefix}
 use Rattle.hwdb_spec_commands.specs.LikelyForms.{likely}
-use Rattle.hwdb_spec_commands.specs.Properties.{is_hex_digit, lower}
+use Rattle.hwdb_spec_commands.specs.Properties.{is_hex_digit, lower, row_for}
 use Rattle.hwdb_spec_commands.specs.Reports.{shown}
+use Rattle.hwdb_spec_commands.specs.declared.vocabulary.TheConstants.{MACHINE_FIELDS}
 
 -- whether a byte is a small letter
 abbrev pub is_small : ℕ → Bool
@@ -68,9 +70,51 @@ unfoldable pub mended_in : (steps : ℕ) → (pattern : List ℕ) (place : ℕ) 
 mended_in zero pattern place = None
 mended_in (suc n) pattern place = mend_once (mended_in n) pattern place
 
+-- ---- Fields in another order
+
+-- whether a text begins with the name of a field of the machine's MODALIAS
+abbrev pub begins_field : List ℕ → Bool
+begins_field text =
+    if is_none (row_for MACHINE_FIELDS.now (take 3 text)) then not (is_none (row_for MACHINE_FIELDS.now (take 2 text))) else true
+
+-- whether a pattern has a colon at a place, and a field after it
+abbrev pub is_field_after : (place : ℕ) (pattern : List ℕ) → Bool
+is_field_after place pattern = if begins_with (byte ":") (drop place pattern) then begins_field (drop (suc place) pattern) else false
+
+-- where that part between colons begins which goes up to a place
+unfoldable pub start_of : (pattern : List ℕ) → (place : ℕ) → ℕ
+start_of pattern zero = zero
+start_of pattern (suc n) = if begins_with (byte ":") (drop n pattern) then suc n else start_of pattern n
+
+-- a pattern whose bytes from `start` to `end` come before those from `at` on, with a colon between
+abbrev pub moved : (pattern : List ℕ) (at start end : ℕ) → List ℕ
+moved pattern at start end =
+    take at pattern ++ (take (end - start) (drop start pattern) ++ (byte ":" ∷ (take (start - 1 - at) (drop at pattern) ++ drop end pattern)))
+
+-- whether nothing is said of a pattern
+abbrev pub is_fine : Judgement → Bool
+is_fine Fine = true
+is_fine UnknownPrefix = false
+is_fine (Dead place) = false
+
+-- the same with the field from `start` to `end` before a field that begins at a place up to `at`: the last such that udev likely asks
+unfoldable pub moved_before : (pattern : List ℕ) (start end : ℕ) → (at : ℕ) → Option (List ℕ)
+moved_before pattern start end zero = None
+moved_before pattern start end (suc n) =
+    if is_field_after n pattern then
+    (if is_fine (likely_judgement (moved pattern (suc n) start end)) then Some (moved pattern (suc n) start end)
+    else moved_before pattern start end n)
+    else moved_before pattern start end n
+
+-- a pattern that goes wrong in a field of the machine, with that field before one that is before it
+abbrev pub ordered : (pattern : List ℕ) (place : ℕ) → Option (List ℕ)
+ordered pattern place =
+    let start = start_of pattern place in
+    if begins_field (drop start pattern) then moved_before pattern start (start + position_or_len (is (byte ":")) (drop start pattern)) (start - 1) else None
+
 -- a pattern of at most 256 bytes that goes wrong at a place, as it was likely meant, if that is sure
 abbrev pub mended : (pattern : List ℕ) (place : ℕ) → Option (List ℕ)
-mended pattern place = if nat_lt 256 (length pattern) then None else mended_in 4 pattern place
+mended pattern place = if nat_lt 256 (length pattern) then None else option_or (mended_in 4 pattern place) (ordered pattern place)
 
 -- what a letter in the wrong case is
 abbrev pub letter_words : ℕ → List ℕ
@@ -85,7 +129,12 @@ abbrev pub reason : (was now : List ℕ) → List ℕ
 reason [] now = []
 reason (b ∷ more) now = if is_indent b then codes "no blank is here" else (if begins_with (byte ":") now then codes "a colon is here" else letter_words b ++ case_words b)
 
+-- what is wrong with a pattern that goes wrong at a place and was meant so: only an order changes what is before the place
+abbrev pub mend_reason : (pattern : List ℕ) (place : ℕ) (text : List ℕ) → List ℕ
+mend_reason pattern place text =
+    if same (take place pattern) (take place text) then reason (drop place pattern) (drop place text) else codes "the fields have another order"
+
 -- what to do about a pattern that goes wrong at a place: it is written as it was likely meant, or there is another hint
 abbrev pub mend_hint : (pattern : List ℕ) (place : ℕ) (other : List ℕ) → Option (List ℕ) → List ℕ
 mend_hint pattern place other None = other
-mend_hint pattern place other (Some text) = reason (drop place pattern) (drop place text) ++ (codes ": write " ++ shown text)
+mend_hint pattern place other (Some text) = mend_reason pattern place text ++ (codes ": write " ++ shown text)

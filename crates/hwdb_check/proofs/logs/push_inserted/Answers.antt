@@ -1,7 +1,7 @@
-use Rattle.std.proofs.Common.{List, ℕ, codes}
+use Rattle.std.proofs.Common.{codes}
 use Rattle.std.proofs.lemmas.Result.{on_ok_weaker}
 use Rattle.hwdb_spec_commands.specs.Logs.{text_object}
-use Rattle.hwdb_check.proofs.PieceLemmas.{three_pieces}
+use Rattle.hwdb_check.proofs.AllowedLemmas.{three_pieces}
 use Rattle.hwdb_check.proofs.logs.push_inserted.Goals as goal
 
 pub returns : goal.returns
