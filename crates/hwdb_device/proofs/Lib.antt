@@ -13,3 +13,4 @@ pub mod PatternLemmas
 pub mod SameLemmas
 pub mod StringLemmas
 mod WordLemmas
+pub mod NearRowLemmas

@@ -5,3 +5,4 @@ pub mod Rows
 pub mod AskedRows
 pub mod RecordLaws
 pub mod RecordRows
+pub mod NearRows

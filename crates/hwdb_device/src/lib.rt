@@ -9,7 +9,7 @@
 //! | `records` | records to begin with, and which strings they are for |
 //! | `lasting` | a pattern that outlives another port and another BIOS |
 //! | `row` | the line of a device in a list |
-//! | `by_word` | the devices that ids or a part of a name mean, and what is said if there are several |
+//! | `by_word` | the devices that ids or a part of a name mean, what is said if there are several, and what is near if there is none |
 #![tactic(auto)]
 
 mod asking;
@@ -29,11 +29,11 @@ mod strings;
 mod texts;
 mod told;
 
-pub use by_word::{fitting, several_text};
+pub use by_word::{fitting, near_given, several_text};
 pub use hwdb_spec_commands::DeviceForm;
 pub use laws::{
-    asked_rows, device_rows, pattern_is_matched, pattern_is_of_one, pattern_outlives, record_rows,
-    same_answers_same_text, text_is_of_files, text_rows,
+    asked_rows, device_rows, near_rows, pattern_is_matched, pattern_is_of_one,
+    pattern_outlives, record_rows, same_answers_same_text, text_is_of_files, text_rows,
 };
 pub use printing::device_text;
 pub use row::device_row;
