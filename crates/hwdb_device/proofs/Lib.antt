@@ -14,3 +14,5 @@ pub mod SameLemmas
 pub mod StringLemmas
 mod WordLemmas
 pub mod NearRowLemmas
+pub mod EveryLemmas
+pub mod EveryRowLemmas

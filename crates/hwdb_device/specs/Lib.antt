@@ -6,3 +6,4 @@ pub mod AskedRows
 pub mod RecordLaws
 pub mod RecordRows
 pub mod NearRows
+pub mod EveryRows

@@ -3,6 +3,7 @@
 use Rattle.std.specs.Option.{option_map_or}
 use Rattle.std.specs.Prelude.{◌++◌, ◌∷◌, ℕ, List, [], None, Option, Some, codes}
 use Rattle.hwdb_spec.specs.Failures.{IsOneLine}
+use Rattle.hwdb_spec_commands.specs.AllStrings.{all_strings_text, unread_lines}
 use Rattle.hwdb_spec_commands.specs.DeviceAsked.{device_list, missing_text, no_sysfs_text, unread_text}
 use Rattle.hwdb_spec_commands.specs.DeviceFound.{places_meant, several_text}
 use Rattle.hwdb_spec_commands.specs.DeviceTexts.{device_text}
@@ -10,6 +11,7 @@ use Rattle.hwdb_spec_commands.specs.DeviceTree.{Sight, device_at, unread_for}
 use Rattle.hwdb_spec_commands.specs.Sysfs.{Device}
 use Rattle.hwdb_spec_commands.specs.Told.Stop.{Says}
 use Rattle.hwdb_spec_commands.specs.declared.devices.DeviceForm.{DeviceForm}
+use Rattle.hwdb_spec_commands.specs.declared.devices.DeviceForm.TheVariants as form
 use Rattle.hwdb_plan.specs.Asking.{asked}
 use Rattle.hwdb_plan.specs.Dump.{bad_database}
 use Rattle.hwdb_plan.specs.Plans.{Next, Plan}
@@ -69,3 +71,23 @@ meant_plan sight cause names root given form =
 abbrev pub device_plan : Sight → (cause : List ℕ) (names : List (List ℕ)) (root : List ℕ) → DeviceForm → (given : Option (List ℕ)) → Plan
 device_plan sight cause names root form None = devices_plan sight cause names root
 device_plan sight cause names root form (Some given) = meant_plan sight cause names root given form
+
+-- ---- the strings of all devices
+-- what the database gives them, and what is said of devices that can't be read
+abbrev pub strings_answer : Sight → (names : List (List ℕ)) (sys : List ℕ) → Next
+strings_answer sight names sys path bytes =
+    Decode bytes (bad_database path) (λ t. Done (Answers 0 (unread_lines sight sys) (all_strings_text sight names sys t)))
+
+-- the strings of all devices of sysfs below a root, over the database that is asked: that is read once
+abbrev pub strings_plan : Sight → (cause : List ℕ) (names : List (List ℕ)) (root : List ℕ) → Plan
+strings_plan sight cause names root = sysfs_of sight cause root (λ sys. asked root (strings_answer sight names sys))
+
+-- what is said of `--all`, if it is given with a device or without `--strings`
+abbrev pub all_misuse : DeviceForm → (given : Option (List ℕ)) → Option (List ℕ)
+all_misuse form (Some given) = Some (codes "--all and DEVICE are two choices: leave out one of them")
+all_misuse form.Strings None = None
+all_misuse form None = Some (codes "--all needs --strings, without --json and --pattern")
+
+-- that, or else the strings
+abbrev pub every_plan : Sight → (cause : List ℕ) (names : List (List ℕ)) (root : List ℕ) → DeviceForm → (given : Option (List ℕ)) → Plan
+every_plan sight cause names root form given = option_map_or says (all_misuse form given) (strings_plan sight cause names root)
