@@ -79,3 +79,4 @@ pub mod Sides
 pub mod OverText
 pub mod KeysAsked
 pub mod AllStrings
+pub mod Scans

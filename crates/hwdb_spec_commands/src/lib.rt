@@ -85,6 +85,7 @@
 //! | `OverText` | with `--text`, the files as they are but for the database, which is what an update would write |
 //! | `KeysAsked` | which keys words ask for, what `keys` prints of them, and what it says if there is none |
 //! | `AllStrings` | the strings of all devices, each once |
+//! | `Scans` | the keys that events of a keyboard tell |
 //!
 //! The types below are those that the definitions name.
 #![tactic(auto)]
