@@ -38,5 +38,5 @@ desk = record {
 abbrev pub NearGivenRows : Type 0
 NearGivenRows =
     map (near_given desk [] (codes "/sys"))
-    (codes "keybord" ∷ codes "MOSE" ∷ codes "optcal mouse" ∷ codes "keyboa" ∷ codes "k" ∷ codes "lihgt" ∷ codes "/dev/keybord" ∷ codes "kmsg" ∷ [] ∷ [])
+    (codes "keybord" ∷ codes "MOSE" ∷ codes "optcal mouse" ∷ codes "keyboa" ∷ codes "k" ∷ codes "lght" ∷ codes "/keyboard" ∷ codes "kmsg" ∷ [] ∷ [])
     ≡ codes "Keyboard" ∷ codes "Mouse" ∷ codes "Optical Mouse" ∷ codes "Keyboard" ∷ codes "k1" ∷ [] ∷ [] ∷ [] ∷ [] ∷ []
