@@ -66,7 +66,7 @@ _hwdb() {
         [ask]='-r --root --color -h --help'
         [list]='-r --root --color --after --limit --text --json -h --help'
         [near]='-r --root --color --limit --text --json -h --help'
-        [device]='-r --root --color --text --strings --json --pattern -h --help'
+        [device]='-r --root --color --text --strings --json --pattern --all -h --help'
         [check]='-s --strict -r --root --color --allow --format --json -h --help'
         [test]='-r --root --color --database --text --json -h --help'
         [diff]='-r --root --color --devices --stat --json -h --help'

@@ -145,6 +145,7 @@ complete -c hwdb -n '__hwdb_at list' -l limit -x -d 'Print at most N lines; 0 pr
 complete -c hwdb -n '__hwdb_at near' -l limit -x -d 'Print at most N patterns that don\'t match, in place of 3'
 complete -c hwdb -n '__hwdb_at device' -l strings -d 'Print the strings alone, one a line'
 complete -c hwdb -n '__hwdb_at device' -l pattern -d 'Print records to begin with, which fit the device; before --json and --strings'
+complete -c hwdb -n '__hwdb_at device' -l all -d 'With --strings: print those of all devices, each once'
 complete -c hwdb -n '__hwdb_at check' -l allow -x -a 'byte-order-mark leading-tab carriage-return open-bracket empty-range spaced-equals cut-value repeated-match replaced near-name old-name scan-code unknown-key unfit-value zero-row singular-matrix two-defaults unread unknown-property unpaired unknown-prefix dead-pattern unlikely-pattern too-long-for-udev' -d 'Leave out warnings of these kinds, with commas between; may come more than once'
 complete -c hwdb -n '__hwdb_at check' -l format -x -a 'text json github sarif' -d 'Print findings as text, json, github (annotations) or sarif; --json is --format json'
 complete -c hwdb -n '__hwdb_at test' -l database -x -a '(__hwdb_database)' -d 'Ask this database, in place of that of /etc/udev or /usr/lib/udev'

@@ -6,5 +6,6 @@ mod errors;
 mod nearest;
 mod patterns;
 mod refusals;
+mod scans;
 mod sinks;
 mod trees;

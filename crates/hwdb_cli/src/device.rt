@@ -29,6 +29,7 @@ pub fn command<'a>(alloc: Global) -> Draft<'a>
 {
     let strings = "Print the strings alone, one a line";
     let pattern = "Print records to begin with, which fit the device; before --json and --strings";
+    let all = "With --strings: print those of all devices, each once";
     let path = "A device: its name, as event3, its ids, as 046d:c31c, a part of what it is called, \
         its node below /dev, or its path below /sys";
     let command = shared(alloc, "device", ABOUT, AFTER);
@@ -36,7 +37,8 @@ pub fn command<'a>(alloc: Global) -> Draft<'a>
     let with_strings = with_argument(with_text, flag(alloc, "strings", strings));
     let with_json = with_argument(with_strings, json_option(alloc));
     let with_pattern = with_argument(with_json, flag(alloc, "pattern", pattern));
-    with_argument(with_pattern, word(alloc, "DEVICE", path, ArgAction::Set))
+    let with_all = with_argument(with_pattern, flag(alloc, "all", all));
+    with_argument(with_all, word(alloc, "DEVICE", path, ArgAction::Set))
 }
 
 /// The task of `device`.
@@ -47,10 +49,12 @@ pub fn task(alloc: Global, inner: &ArgMatches<'_>) -> Result<Task, AllocError>
     let strings = has_flag(inner, "strings");
     let json = has_flag(inner, "json");
     let pattern = has_flag(inner, "pattern");
+    let all = has_flag(inner, "all");
     Ok(Task::Device {
         path,
         strings,
         json,
         pattern,
+        all,
     })
 }

@@ -56,7 +56,7 @@ unfolding above first_given last_after pieces after_words count_bits asked_in fl
 link_rows = refl
 
 pub missing_rows : MissingRows
-unfolding alike cost_at next_row rows first_given last_after nearest_of pieces put put_all visible_after is_utf8 chars encode_utf8
+unfolding above alike cost_at next_row rows first_given last_after nearest_of pieces after_words count_bits asked_in flag_after strings_from told_value cut_back first_at replaced value_of put put_all visible_after is_utf8 chars encode_utf8
 missing_rows = refl
 
 pub error_rows : ErrorRows

@@ -13,3 +13,6 @@ pub mod PatternLemmas
 pub mod SameLemmas
 pub mod StringLemmas
 mod WordLemmas
+pub mod NearRowLemmas
+pub mod EveryLemmas
+pub mod EveryRowLemmas

@@ -1,7 +1,8 @@
 -- Devices that a text means, one by one, and what is said of several.
-use Rattle.std.proofs.Common.{◌≡◌, ◌∙◌, ℕ, List, [], ◌∷◌, ◌++◌, Option, None, Some, Global, Vec, ap, append_assoc, map, refl, sym}
+use Rattle.std.proofs.Common.{◌≡◌, ◌∙◌, ℕ, List, [], ◌∷◌, ◌++◌, Option, None, Some, Global, Vec, ap, append_assoc, flat_map, map, refl, sym}
 use Rattle.std.specs.List.{cons_option}
 use Rattle.std.specs.Prelude.{filter_map}
+use Rattle.hwdb_spec_commands.specs.DeviceTree.{nearer, nearest_of}
 use Rattle.hwdb_sysfs.specs.Lemmas.Names.{items}
 
 onto : (o : Option (List ℕ)) (xs : List (List ℕ)) → cons_option o [] ++ xs ≡ cons_option o xs
@@ -26,3 +27,19 @@ said b t name rows end t0 t1 t2 t3 t4 h0 h1 h2 h3 h4 =
     ∙ append_assoc ((t ++ name) ++ b ∷ []) rows end
     ∙ append_assoc (t ++ name) (b ∷ []) (rows ++ end)
     ∙ append_assoc t name (b ∷ (rows ++ end))
+
+-- ---- what is near
+-- of two lists of names, one after the other
+nearest_after : (wanted before : List ℕ) (names more : List (List ℕ)) → nearest_of wanted before (names ++ more) ≡ nearest_of wanted (nearest_of wanted before names) more
+unfolding nearest_of
+nearest_after wanted before [] more = refl
+nearest_after wanted before (name ∷ names) more = nearest_after wanted (nearer wanted before name) names more
+
+-- the nearest after the names of one link more
+pub nearest_more : (find : List ℕ → List (List ℕ)) (wanted before now all : List ℕ) (left rest : List (Vec ℕ Global)) (link : Vec ℕ Global) → left ≡ link ∷ rest
+    → now ≡ nearest_of wanted before (find link.items) → nearest_of wanted before (flat_map find (map items left)) ≡ all → nearest_of wanted now (flat_map find (map items rest)) ≡ all
+nearest_more find wanted before now all left rest link is put whole =
+    let more = flat_map find (map items rest) in
+    ap (λ (b : List ℕ). nearest_of wanted b more) put
+    ∙ sym (nearest_after wanted before (find link.items) more)
+    ∙ sym (ap (λ (l : List (Vec ℕ Global)). nearest_of wanted before (flat_map find (map items l))) is) ∙ whole

@@ -15,7 +15,7 @@ LinkRows =
 -- what is said of a name, and of a path that leads nowhere, of one that leads somewhere, and if nothing is near
 abbrev pub MissingRows : Type 0
 MissingRows =
-    map (λ given. missing_text small [] (codes "/sys") given (codes "Why")) (codes "event33" ∷ codes "/dev/event33" ∷ codes "/sys/class" ∷ codes "x" ∷ [])
+    map (λ given. missing_text small [] [] (codes "/sys") given (codes "Why")) (codes "event33" ∷ codes "/dev/event33" ∷ codes "/sys/class" ∷ codes "x" ∷ [])
     ≡ codes "no device: event33: there is event3" ∷ codes "no device: /dev/event33: Why: there is event3"
     ∷ codes "no device: /sys/class: 'hwdb device' lists all" ∷ codes "no device: x: 'hwdb device' lists all" ∷ []
 

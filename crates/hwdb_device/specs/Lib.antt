@@ -5,3 +5,5 @@ pub mod Rows
 pub mod AskedRows
 pub mod RecordLaws
 pub mod RecordRows
+pub mod NearRows
+pub mod EveryRows

@@ -1,19 +1,25 @@
-//! The devices that ids or a part of a name mean, and what is said if there are several.
+//! The devices that ids or a part of a name mean, what is said if there are several, and what is near if there is none.
 ghost use Rattle.std.specs.Prelude.{◌≡◌, ◌++◌, [], flat_map, map, option_map, take, IfOk, OnOk};
 ghost use Rattle.std.specs.List.{cons_option};
+ghost use Rattle.std.specs.Option.{option_map_or};
 ghost use Rattle.hwdb_spec.specs.Lines.{is, pieces};
 ghost use Rattle.hwdb_spec_commands.specs.DeviceFound as spec;
+ghost use Rattle.hwdb_spec_commands.specs.DeviceTexts.{called};
+ghost use Rattle.hwdb_spec_commands.specs.DeviceTree.{all_links, nearest_of};
 ghost use Rattle.hwdb_spec_commands.specs.SysfsAnswers.{seen};
 ghost use Rattle.hwdb_sysfs.specs.Views.{ancestor_of, device_of};
 
 use crate::asking::is_asked;
 use crate::row::{device_row, title};
 use crate::told::same;
-use hwdb_properties::{has_part, same_letters};
+use hwdb_properties::{has_part, nearer, same_letters};
 use hwdb_rules::first_text;
 use hwdb_show::push_name;
 use hwdb_spec_commands::FINDERS;
-use hwdb_sysfs::{Ancestor, Device, DeviceFiles, device_of_path, list_links, read_device};
+use hwdb_sysfs::{
+    Ancestor, Device, DeviceFiles, device_of_path, last_name, list_links, near_name, read_device,
+};
+use hwdb_text::Pieces;
 use std::alloc::{AllocError, Global};
 
 /// A number as ids are written: without `0x` before it.
@@ -293,4 +299,130 @@ pub fn several_text<F: DeviceFiles>(
     push_rows(alloc, files, names, sys, places, &mut text)?;
     text.extend_from_slice(b"name one of them")?;
     Ok(text)
+}
+
+/// Of what is near and of a title that one which is nearer to what was given, or a word of the title.
+#[tactic(auto, unfolding(hwdb_spec_commands::specs::DeviceTree::nearest_of))]
+fn nearer_part(
+    alloc: Global,
+    given: &[u8],
+    before: Vec<u8>,
+    title: &[u8],
+) -> Result<Vec<u8>, AllocError>
+    ensures { IfOk result (λ v. v.items
+        ≡ nearest_of given.now before.items (spec.title_parts title.now)) }
+{
+    let mut nearest = nearer(alloc, given, before, title)?;
+    for word in Pieces::new(b' ', title) {
+        nearest = nearer(alloc, given, nearest, word)?;
+    }
+    Ok(nearest)
+}
+
+/// The same of how a device is called, if it is called something.
+#[tactic(auto, unfolding(hwdb_spec_commands::specs::DeviceTree::nearest_of))]
+fn nearer_called(
+    alloc: Global,
+    given: &[u8],
+    before: Vec<u8>,
+    chain: &[Ancestor],
+) -> Result<Vec<u8>, AllocError>
+    ensures { IfOk result (λ v. v.items ≡ nearest_of given.now before.items
+        (option_map_or spec.title_parts (called (map ancestor_of chain.now)) [])) }
+{
+    match title(chain) {
+        Some(title) => nearer_part(alloc, given, before, title),
+        None => Ok(before),
+    }
+}
+
+/// The same of the device at a place, if it may be meant.
+#[tactic(auto, unfolding(hwdb_spec_commands::specs::DeviceTree::nearest_of))]
+fn nearer_of_place<F: DeviceFiles>(
+    alloc: Global,
+    files: &F,
+    names: &[u8],
+    sys: &[u8],
+    given: &[u8],
+    before: Vec<u8>,
+    place: &[u8],
+) -> Result<Vec<u8>, AllocError>
+    ensures { F.tells → IfOk result (λ v. v.items ≡ nearest_of given.now before.items
+        (spec.parts_of_place (seen (F.answers files.now)) (pieces (is 10) names.now)
+        sys.now place.now)) }
+{
+    let device = read_device(alloc, files, names, sys, place)?;
+    if !is_offered(alloc, &device)? {
+        return Ok(before);
+    }
+    let told = read_device(alloc, files, FINDERS.as_bytes(), sys, place)?;
+    nearer_called(alloc, given, before, &told.chain)
+}
+
+/// The same of the device that a link leads to.
+#[tactic(auto, unfolding(hwdb_spec_commands::specs::DeviceTree::nearest_of))]
+fn nearer_at<F: DeviceFiles>(
+    alloc: Global,
+    files: &F,
+    names: &[u8],
+    sys: &[u8],
+    given: &[u8],
+    before: Vec<u8>,
+    link: &[u8],
+) -> Result<Vec<u8>, AllocError>
+    ensures { F.tells → IfOk result (λ v. v.items ≡ nearest_of given.now before.items
+        (spec.parts_at (seen (F.answers files.now)) (pieces (is 10) names.now)
+        sys.now link.now)) }
+{
+    match device_of_path(alloc, files, sys, link)? {
+        Some(place) => nearer_of_place(alloc, files, names, sys, given, before, &place),
+        None => Ok(before),
+    }
+}
+
+/// The same of all devices.
+#[tactic(auto, unfolding(hwdb_spec_commands::specs::DeviceTree::nearest_of))]
+fn nearer_of_all<F: DeviceFiles>(
+    alloc: Global,
+    files: &F,
+    names: &[u8],
+    sys: &[u8],
+    given: &[u8],
+    before: Vec<u8>,
+) -> Result<Vec<u8>, AllocError>
+    ensures { F.tells → IfOk result (λ v. v.items ≡ nearest_of given.now before.items
+        (flat_map (spec.parts_at (seen (F.answers files.now)) (pieces (is 10) names.now) sys.now)
+        (all_links (seen (F.answers files.now)) sys.now))) }
+{
+    let links = list_links(alloc, files, sys)?;
+    let mut nearest = before;
+    let mut left = links.as_slice();
+    'links: while let Some((link, rest)) = left.split_first() {
+        nearest = nearer_at(alloc, files, names, sys, given, nearest, link)?;
+        left = rest;
+    }
+    Ok(nearest)
+}
+
+/// What is nearest to a text that means no device: a name in a class or at a bus, how a device is called, or a word of that. Empty if
+/// nothing is near. Of attributes those with the names are read, which are the lines of `names`.
+///
+/// The only error is want of memory. Reads each device twice, unless the text is an absolute path.
+#[tactic(auto, unfolding(hwdb_spec_commands::specs::DeviceTree::nearest_of))]
+pub fn near_given<F: DeviceFiles>(
+    alloc: Global,
+    files: &F,
+    names: &[u8],
+    sys: &[u8],
+    given: &[u8],
+) -> Result<Vec<u8>, AllocError>
+    ensures { F.tells → IfOk result (λ v. v.items
+        ≡ spec.near_given (seen (F.answers files.now)) (pieces (is 10) names.now)
+        sys.now given.now) }
+{
+    let near = near_name(alloc, files, sys, last_name(given))?;
+    if !is_word(given) {
+        return Ok(near);
+    }
+    nearer_of_all(alloc, files, names, sys, given, near)
 }

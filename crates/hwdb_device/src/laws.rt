@@ -7,6 +7,8 @@ ghost use Rattle.hwdb_device.specs.Laws.{SameAnswersSameText, TextIsOfFiles};
 ghost use Rattle.hwdb_device.specs.RecordLaws.{IsOfModel, IsOfNumbers, OutlivesBios, OutlivesPort, of_machines};
 ghost use Rattle.hwdb_device.specs.RecordRows.{KeysRow, MachineRows, MouseRow, NumberRows, OtherRows, PatternRow};
 ghost use Rattle.hwdb_device.specs.Rows.{ClosestRow, JsonRow, LeftOutRows, ListRow, NearestRow, NoRow, StringsRow, TextRow};
+ghost use Rattle.hwdb_device.specs.EveryRows.{AllRows, OnceRows};
+ghost use Rattle.hwdb_device.specs.NearRows.{NearGivenRows};
 ghost use Rattle.hwdb_device.specs.AskedRows.{ErrorRows, FormRows, LinkRows, MissingRows};
 
 use hwdb_near::patterns_are_of_files;
@@ -76,4 +78,15 @@ pub fn asked_rows()
     ensures missing { MissingRows }
     ensures errors { ErrorRows }
     ensures forms { FormRows }
+{}
+
+/// Worked rows: what is near to a text that means no device.
+pub fn near_rows()
+    ensures { NearGivenRows }
+{}
+
+/// Worked rows: the strings of all devices, and what is said of what can't be read.
+pub fn every_rows()
+    ensures once { OnceRows }
+    ensures all { AllRows }
 {}

@@ -9,11 +9,13 @@
 //! | `records` | records to begin with, and which strings they are for |
 //! | `lasting` | a pattern that outlives another port and another BIOS |
 //! | `row` | the line of a device in a list |
-//! | `by_word` | the devices that ids or a part of a name mean, and what is said if there are several |
+//! | `by_word` | the devices that ids or a part of a name mean, what is said if there are several, and what is near if there is none |
+//! | `every` | the strings of all devices, and what is said of what can't be read |
 #![tactic(auto)]
 
 mod asking;
 mod by_word;
+mod every;
 mod found;
 mod gifts;
 mod json_lines;
@@ -29,11 +31,12 @@ mod strings;
 mod texts;
 mod told;
 
-pub use by_word::{fitting, several_text};
+pub use by_word::{fitting, near_given, several_text};
+pub use every::{all_strings_text, unread_lines};
 pub use hwdb_spec_commands::DeviceForm;
 pub use laws::{
-    asked_rows, device_rows, pattern_is_matched, pattern_is_of_one, pattern_outlives, record_rows,
-    same_answers_same_text, text_is_of_files, text_rows,
+    asked_rows, device_rows, every_rows, near_rows, pattern_is_matched, pattern_is_of_one,
+    pattern_outlives, record_rows, same_answers_same_text, text_is_of_files, text_rows,
 };
 pub use printing::device_text;
 pub use row::device_row;

@@ -21,7 +21,7 @@ list_rows = λ strings json pattern. refl
 
 pub device_rows : DeviceRows
 unfolding pieces
-device_rows = λ path strings json pattern. refl
+device_rows = λ path strings json pattern all. refl
 
 pub taken_rows : TakenRows
 unfolding pieces

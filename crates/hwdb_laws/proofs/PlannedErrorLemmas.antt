@@ -33,7 +33,7 @@ use Rattle.hwdb_spec_commands.specs.declared.refusals.Refusal.TheVariants as ref
 use Rattle.hwdb_spec_commands.specs.declared.unread.Unread.{Unread}
 use Rattle.hwdb_spec_commands.specs.declared.unread.Unread.TheVariants as unread
 use Rattle.hwdb_plan.specs.Asking.{asked}
-use Rattle.hwdb_plan.specs.Device.{device_answer, device_plan, folder_of, none_there, one_of, place_of, says, sysfs_of}
+use Rattle.hwdb_plan.specs.Device.{all_misuse, device_answer, device_asked, device_plan, every_plan, folder_of, none_there, one_of, place_of, says, strings_answer, strings_plan, sysfs_of}
 use Rattle.hwdb_plan.specs.Ended.{OnLines, Outs, Shows, ShowsEnd, StreamStops}
 use Rattle.hwdb_plan.specs.Input.{IsInputTold}
 use Rattle.hwdb_plan.specs.Laws.{AreAlike, OverIsNoMore, OverIsOver, PlansEndAlike}
@@ -76,13 +76,13 @@ module _ (alike : PlansEndAlike) where
     place_alike : (root given sys : List ℕ) (next : List ℕ → Plan) → Alike (place_of sight cause asked_names root given sys next) (place_of sight cause2 asked_names root given sys next)
     place_alike root given sys next = by (places_meant sight asked_names root sys given)
       where
-        none : (u : Option (List ℕ)) → Alike (option_map_or (λ path. says (unread_text path cause)) u (says (missing_text sight root sys given cause)))
-            (option_map_or (λ path. says (unread_text path cause2)) u (says (missing_text sight root sys given cause2)))
-        none None = says_alike (missing_text sight root sys given cause) (missing_text sight root sys given cause2) (cause, cause2, inr (inr (sight, root, sys, given, refl, refl)))
+        none : (u : Option (List ℕ)) → Alike (option_map_or (λ path. says (unread_text path cause)) u (says (missing_text sight asked_names root sys given cause)))
+            (option_map_or (λ path. says (unread_text path cause2)) u (says (missing_text sight asked_names root sys given cause2)))
+        none None = says_alike (missing_text sight asked_names root sys given cause) (missing_text sight asked_names root sys given cause2) (cause, cause2, inr (inr (sight, root, sys, given, refl, refl)))
         none (Some path) = says_alike (unread_text path cause) (unread_text path cause2) (cause, cause2, inr (inl (path, refl, refl)))
 
-        by : (places : List (List ℕ)) → Alike (one_of next (λ l. says (several_text sight asked_names sys given l)) (none_there sight cause root given sys) places)
-            (one_of next (λ l. says (several_text sight asked_names sys given l)) (none_there sight cause2 root given sys) places)
+        by : (places : List (List ℕ)) → Alike (one_of next (λ l. says (several_text sight asked_names sys given l)) (none_there sight cause asked_names root given sys) places)
+            (one_of next (λ l. says (several_text sight asked_names sys given l)) (none_there sight cause2 asked_names root given sys) places)
         by [] = none (unread_for sight root sys given)
         by (place ∷ []) = same_alike (next place)
         by (place ∷ two ∷ more) = same_alike (says (several_text sight asked_names sys given (place ∷ two ∷ more)))
@@ -92,6 +92,17 @@ module _ (alike : PlansEndAlike) where
     device_alike root form (Some given) =
         let meant = λ (sys place : List ℕ). asked root (device_answer form (device_at sight asked_names sys place)) in
         sysfs_alike root (λ sys. place_of sight cause asked_names root given sys (meant sys)) (λ sys. place_of sight cause2 asked_names root given sys (meant sys)) (λ sys. place_alike root given sys (meant sys))
+
+    every_alike : (root : List ℕ) (form : DeviceForm) (given : Option (List ℕ)) → Alike (every_plan sight cause asked_names root form given) (every_plan sight cause2 asked_names root form given)
+    every_alike root form given = by (all_misuse form given)
+      where
+        by : (o : Option (List ℕ)) → Alike (option_map_or says o (strings_plan sight cause asked_names root)) (option_map_or says o (strings_plan sight cause2 asked_names root))
+        by None = let all = λ (sys : List ℕ). asked root (strings_answer sight asked_names sys) in sysfs_alike root all all (λ sys. same_alike (all sys))
+        by (Some text) = same_alike (says text)
+
+    asked_alike : (root : List ℕ) (form : DeviceForm) (all : Bool) (given : Option (List ℕ)) → Alike (device_asked sight cause asked_names root form all given) (device_asked sight cause2 asked_names root form all given)
+    asked_alike root form true given = every_alike root form given
+    asked_alike root form false given = device_alike root form given
 
   -- ---- `--text`
   -- two runs read the same up to a place, from which each goes on; or they end alike before
@@ -296,7 +307,7 @@ module _ (alike : PlansEndAlike) where
               (
                 refl,
                 same_alike _,
-                (refl, same_alike _, (refl, device_alike sight cause cause2 root form (first_of (codes "DEVICE") rows), all_same (drop 6 (plans first root strict rows)))),
+                (refl, same_alike _, (refl, asked_alike sight cause cause2 root form (has_flag (codes "all") rows) (first_of (codes "DEVICE") rows), all_same (drop 6 (plans first root strict rows)))),
               ),
             ),
           ),

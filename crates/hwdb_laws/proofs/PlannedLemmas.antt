@@ -33,7 +33,7 @@ use Rattle.hwdb_spec_commands.specs.declared.unread.Unread.TheVariants as unread
 use Rattle.hwdb_plan.specs.Ask.{lone_answer}
 use Rattle.hwdb_plan.specs.Asking.{asked, if_read, named}
 use Rattle.hwdb_plan.specs.Check.{check_plan, said_of}
-use Rattle.hwdb_plan.specs.Device.{device_answer, device_plan, folder_of as folder_place, none_there, one_of, place_of, says, sysfs_of}
+use Rattle.hwdb_plan.specs.Device.{all_misuse, device_answer, device_asked, device_plan, every_plan, folder_of as folder_place, none_there, one_of, place_of, says, strings_answer, strings_plan, sysfs_of}
 use Rattle.hwdb_spec_program.specs.DeviceErrors.{asked_names}
 use Rattle.hwdb_plan.specs.Diff.{change_of, compared, diff_plan, once, sides_compared}
 use Rattle.hwdb_plan.specs.Dump.{text_form}
@@ -261,13 +261,13 @@ module _ (w : Reads) (e : End) (Lost : Type 0) where
     place_moves : (root given sys : List ℕ) (next : List ℕ → Plan) → Moves (place_of sight cause asked_names root given sys next) (place_of sight other asked_names root given sys next)
     place_moves root given sys next = by (places_meant sight asked_names root sys given)
       where
-        none : (u : Option (List ℕ)) → Moves (option_map_or (λ path. says (unread_text path cause)) u (says (missing_text sight root sys given cause)))
-            (option_map_or (λ path. says (unread_text path other)) u (says (missing_text sight root sys given other)))
-        none None ends = lost_at (Says (missing_text sight root sys given cause)) (lost (missing_text sight root sys given cause)) ends
+        none : (u : Option (List ℕ)) → Moves (option_map_or (λ path. says (unread_text path cause)) u (says (missing_text sight asked_names root sys given cause)))
+            (option_map_or (λ path. says (unread_text path other)) u (says (missing_text sight asked_names root sys given other)))
+        none None ends = lost_at (Says (missing_text sight asked_names root sys given cause)) (lost (missing_text sight asked_names root sys given cause)) ends
         none (Some path) ends = lost_at (Says (unread_text path cause)) (lost (unread_text path cause)) ends
 
-        by : (places : List (List ℕ)) → Moves (one_of next (λ l. says (several_text sight asked_names sys given l)) (none_there sight cause root given sys) places)
-            (one_of next (λ l. says (several_text sight asked_names sys given l)) (none_there sight other root given sys) places)
+        by : (places : List (List ℕ)) → Moves (one_of next (λ l. says (several_text sight asked_names sys given l)) (none_there sight cause asked_names root given sys) places)
+            (one_of next (λ l. says (several_text sight asked_names sys given l)) (none_there sight other asked_names root given sys) places)
         by [] ends = none (unread_for sight root sys given) ends
         by (place ∷ []) ends = inl ends
         by (place ∷ two ∷ more) ends = inl ends
@@ -277,6 +277,17 @@ module _ (w : Reads) (e : End) (Lost : Type 0) where
     device_moves root form (Some given) =
         let meant = λ (sys place : List ℕ). asked root (device_answer form (device_at sight asked_names sys place)) in
         sysfs_moves root (λ sys. place_of sight cause asked_names root given sys (meant sys)) (λ sys. place_of sight other asked_names root given sys (meant sys)) (λ sys. place_moves root given sys (meant sys))
+
+    every_moves : (root : List ℕ) (form : DeviceForm) (given : Option (List ℕ)) → Moves (every_plan sight cause asked_names root form given) (every_plan sight other asked_names root form given)
+    every_moves root form given = by (all_misuse form given)
+      where
+        by : (o : Option (List ℕ)) → Moves (option_map_or says o (strings_plan sight cause asked_names root)) (option_map_or says o (strings_plan sight other asked_names root))
+        by None ends = let all = λ (sys : List ℕ). asked root (strings_answer sight asked_names sys) in sysfs_moves root all all (λ sys ends. inl ends) ends
+        by (Some text) ends = inl ends
+
+    asked_moves : (root : List ℕ) (form : DeviceForm) (all : Bool) (given : Option (List ℕ)) → Moves (device_asked sight cause asked_names root form all given) (device_asked sight other asked_names root form all given)
+    asked_moves root form true given = every_moves root form given
+    asked_moves root form false given = device_moves root form given
 
   -- ---- each command's row
   abbrev RowsMove : (rows others : List (Text × Plan)) → Type 0
@@ -322,12 +333,12 @@ module _ (w : Reads) (e : End) (Lost : Type 0) where
         paths_move (path ∷ more) [] (λ paths. given_files (path ∷ more) one paths (λ sources. Done (say sources))) (λ paths. given_files (path ∷ more) other paths (λ sources. Done (say sources)))
         (λ paths. files_move (path ∷ more) paths one other (λ sources. Done (say sources)) serves) ends
 
-    meant_moves : (root : List ℕ) (form : DeviceForm) (given : Option (List ℕ)) → Moves (device_plan sight cause asked_names root form given) (device_plan sight cause2 asked_names root form given)
-    meant_moves root form given = by causes
+    meant_moves : (root : List ℕ) (form : DeviceForm) (all : Bool) (given : Option (List ℕ)) → Moves (device_asked sight cause asked_names root form all given) (device_asked sight cause2 asked_names root form all given)
+    meant_moves root form all given = by causes
       where
-        by : AreServed cause cause2 → Moves (device_plan sight cause asked_names root form given) (device_plan sight cause2 asked_names root form given)
-        by (inl same) ends = inl (subst (λ (c : List ℕ). Ends w (device_plan sight c asked_names root form given) e) same ends)
-        by (inr lost) ends = device_moves sight cause cause2 lost root form given ends
+        by : AreServed cause cause2 → Moves (device_asked sight cause asked_names root form all given) (device_asked sight cause2 asked_names root form all given)
+        by (inl same) ends = inl (subst (λ (c : List ℕ). Ends w (device_asked sight c asked_names root form all given) e) same ends)
+        by (inr lost) ends = asked_moves sight cause cause2 lost root form all given ends
 
     diff_moves : (given : List (List ℕ)) (old new : List ℕ) (say : List Source → Tree → Tree → End) (twice : Bool) → Moves (once twice twice_text (diff_plan one given old new say)) (once twice twice_text (diff_plan other given old new say))
     diff_moves given old new say true ends = inl ends
@@ -373,7 +384,7 @@ module _ (w : Reads) (e : End) (Lost : Type 0) where
                   near_moves root (before_last words) (near_form json (last_after [] words) (near_limit (limit_of rows))),
                   (
                     refl,
-                    meant_moves root (device_form (has_flag (codes "strings") rows) json (has_flag (codes "pattern") rows)) (first_of (codes "DEVICE") rows),
+                    meant_moves root (device_form (has_flag (codes "strings") rows) json (has_flag (codes "pattern") rows)) (has_flag (codes "all") rows) (first_of (codes "DEVICE") rows),
                     (
                       refl,
                       check_moves files root (said_of (format_of json (first_of (codes "format") rows)) strict (values_of (codes "allow") rows)),

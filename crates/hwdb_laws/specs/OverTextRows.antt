@@ -16,10 +16,10 @@ FineRows = misuse_text (Verify None) ∷ misuse_text (Dump None) ∷ [] ≡ None
 
 -- `device` needs a device: a list asks no database
 abbrev pub ListRows : Type 0
-ListRows = (strings json pattern : Bool) → misuse_text (Device None strings json pattern) ≡ Some (codes "--text needs DEVICE: a list of devices asks no database")
+ListRows = (strings json pattern : Bool) → misuse_text (Device None strings json pattern false) ≡ Some (codes "--text needs DEVICE or --all: a list of devices asks no database")
 
 abbrev pub DeviceRows : Type 0
-DeviceRows = (path : String Global) (strings json pattern : Bool) → misuse_text (Device (Some path) strings json pattern) ≡ None
+DeviceRows = (path : String Global) (strings json pattern all : Bool) → misuse_text (Device (Some path) strings json pattern all) ≡ None
 
 -- what takes `--text` asks a database; `status` and `update` don't
 abbrev pub TakenRows : Type 0

@@ -18,7 +18,7 @@ use Rattle.hwdb_spec_program.specs.ProgramPlan.{Around, AskedUpdate, error_statu
 use Rattle.hwdb_plan.specs.Answers.{explain_plan, query_plan}
 use Rattle.hwdb_plan.specs.Ask.{ask_plan}
 use Rattle.hwdb_plan.specs.Check.{check_plan, said_of}
-use Rattle.hwdb_plan.specs.Device.{device_plan}
+use Rattle.hwdb_plan.specs.Device.{device_plan, says, strings_plan}
 use Rattle.hwdb_plan.specs.Diff.{change_of, diff_plan}
 use Rattle.hwdb_plan.specs.Dump.{dump_plan}
 use Rattle.hwdb_plan.specs.Folders.{texts_of_folders}
@@ -63,8 +63,12 @@ NearRows =
 abbrev pub DeviceRows : Type 0
 DeviceRows =
     (a : Around)
-    → asked a (codes "device" ∷ codes "--strings" ∷ codes "--pattern" ∷ codes "event3" ∷ []) ∷ asked a (codes "device" ∷ codes "-r" ∷ codes "/r" ∷ []) ∷ []
-    ≡ Some (device_plan a.sight a.cause asked_names [] Pattern (Some (codes "event3"))) ∷ Some (device_plan a.sight a.cause asked_names (codes "/r") Lookups None) ∷ []
+    → asked a (codes "device" ∷ codes "--strings" ∷ codes "--pattern" ∷ codes "event3" ∷ []) ∷ asked a (codes "device" ∷ codes "-r" ∷ codes "/r" ∷ [])
+    ∷ asked a (codes "device" ∷ codes "--all" ∷ codes "--strings" ∷ codes "-r/r" ∷ []) ∷ asked a (codes "device" ∷ codes "--strings" ∷ codes "--all" ∷ codes "event3" ∷ [])
+    ∷ asked a (codes "device" ∷ codes "--all" ∷ codes "--strings" ∷ codes "--json" ∷ []) ∷ []
+    ≡ Some (device_plan a.sight a.cause asked_names [] Pattern (Some (codes "event3"))) ∷ Some (device_plan a.sight a.cause asked_names (codes "/r") Lookups None)
+    ∷ Some (strings_plan a.sight a.cause asked_names (codes "/r")) ∷ Some (says (codes "--all and DEVICE are two choices: leave out one of them"))
+    ∷ Some (says (codes "--all needs --strings, without --json and --pattern")) ∷ []
 
 -- Files and databases that words name.
 abbrev pub NamedRows : Type 0
@@ -142,7 +146,7 @@ MisuseRows =
     let database = codes "--text and DATABASE are two sources: leave out one of them" in
     asked a (codes "near" ∷ codes "--text" ∷ codes "f" ∷ codes "a" ∷ []) ∷ asked a (codes "device" ∷ codes "--text" ∷ []) ∷ asked a (codes "test" ∷ codes "--database=d" ∷ codes "--text" ∷ codes "f" ∷ [])
     ∷ asked a (codes "verify" ∷ codes "--text" ∷ codes "d" ∷ []) ∷ asked a (codes "dump" ∷ codes "-" ∷ codes "--text" ∷ []) ∷ []
-    ≡ said file ∷ said (codes "--text needs DEVICE: a list of devices asks no database") ∷ said (codes "--text and --database are two sources: leave out one of them") ∷ said database ∷ said database ∷ []
+    ≡ said file ∷ said (codes "--text needs DEVICE or --all: a list of devices asks no database") ∷ said (codes "--text and --database are two sources: leave out one of them") ∷ said database ∷ said database ∷ []
 
 -- What `explain` says besides of a device comes after what the database gives it.
 abbrev pub BesidesRows : Type 0

@@ -16,6 +16,7 @@ use Rattle.hwdb_plan.specs.Ended.{Outs}
 use Rattle.hwdb_plan.specs.Laws.{AreAlike}
 use Rattle.hwdb_plan.specs.Plans.{End}
 use Rattle.hwdb_plan.specs.Plans.End.{Stops}
+use Rattle.hwdb_spec_program.specs.DeviceErrors.{asked_names}
 use Rattle.hwdb_spec_program.specs.ProgramPlan.{ShowsPlan, program_plan}
 use Rattle.hwdb_laws.specs.PlannedRuns.{HavePlan, Tells}
 
@@ -30,7 +31,7 @@ abbrev pub AreButForCause : (text text2 : List ℕ) → Type 0
 AreButForCause text text2 = (cause cause2 : List ℕ) × (
     ((path : List ℕ) × (text ≡ no_sysfs_text path cause) × (text2 ≡ no_sysfs_text path cause2))
     ⊎ (((path : List ℕ) × (text ≡ unread_text path cause) × (text2 ≡ unread_text path cause2))
-    ⊎ ((sight : Sight) × (root sys given : List ℕ) × (text ≡ missing_text sight root sys given cause) × (text2 ≡ missing_text sight root sys given cause2))))
+    ⊎ ((sight : Sight) × (root sys given : List ℕ) × (text ≡ missing_text sight asked_names root sys given cause) × (text2 ≡ missing_text sight asked_names root sys given cause2))))
 
 -- two ends say that of sysfs
 abbrev pub SayOfSysfs : (e f : End) → Type 0

@@ -20,8 +20,8 @@ use Rattle.hwdb_spec_commands.specs.declared.job.Task.TheVariants.{Ask, Check, D
 
 abbrev pub PlainRows : Type 0
 PlainRows =
-    (map looks_below_root (Update true false ∷ Status false false ∷ Verify None ∷ Dump None ∷ Device None false false false ∷ []) ≡ true ∷ true ∷ true ∷ true ∷ true ∷ [])
-    × (map reads_input (Update true false ∷ Status false false ∷ Verify None ∷ Dump None ∷ Device None false false false ∷ []) ≡ false ∷ false ∷ false ∷ false ∷ false ∷ [])
+    (map looks_below_root (Update true false ∷ Status false false ∷ Verify None ∷ Dump None ∷ Device None false false false false ∷ []) ≡ true ∷ true ∷ true ∷ true ∷ true ∷ [])
+    × (map reads_input (Update true false ∷ Status false false ∷ Verify None ∷ Dump None ∷ Device None false false false false ∷ []) ≡ false ∷ false ∷ false ∷ false ∷ false ∷ [])
     × (map streams (Update true false ∷ Verify None ∷ []) ≡ false ∷ false ∷ [])
     × (map skips (Update true true ∷ Update true false ∷ Verify None ∷ []) ≡ true ∷ false ∷ false ∷ [])
     × (map refused_status (Update true true ∷ Verify None ∷ []) ≡ 1 ∷ 1 ∷ [])

@@ -25,5 +25,6 @@ pub mod Status
 pub mod Keys
 pub mod OverText
 pub mod TextLaws
+pub mod Advice
 pub mod Putting
 pub mod Lemmas

@@ -24,6 +24,7 @@
 //! | `Keys` | that of `keys`, which asks nothing |
 //! | `OverText` | `--text`, as a function from plans to plans |
 //! | `TextLaws` | what is so of plans that say a text after the rest |
+//! | `Advice` | what is said if a command prints nothing, as a function from plans to plans |
 //! | `Readable` | the text files of both folders, of which some may be left out, as the front of a plan |
 //! | `Update`, `Put` | the plans of `update`, and their end |
 //! | `Putting` | what a run leaves that puts a database in its place |
@@ -34,6 +35,7 @@
 mod laws;
 
 pub use laws::{
-    answers_leave_all, done_is_one, only_asked_matters, over_is_no_more, over_is_over,
-    plans_end_alike, said_is_after, said_is_no_more, shows_after,
+    advice_rows, advised_is_no_more, advised_is_said, answers_leave_all, done_is_one,
+    only_asked_matters, over_is_no_more, over_is_over, plans_end_alike, said_is_after,
+    said_is_no_more, shows_after,
 };

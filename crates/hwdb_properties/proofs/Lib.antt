@@ -4,3 +4,4 @@ pub mod SameLemmas
 pub mod CommonLemmas
 pub mod ApartLemmas
 pub mod PieceLemmas
+pub mod NearRowLemmas

@@ -1,3 +1,4 @@
 pub mod Internal
 pub mod Rows
 pub mod Common
+pub mod NearRows

@@ -1,4 +1,5 @@
 //! Laws over the definitions alone: worked rows. Each function does nothing: its contract is the law.
+ghost use Rattle.hwdb_properties.specs.NearRows.{NearKeyRows, SaidRows};
 ghost use Rattle.hwdb_properties.specs.Rows.{AxisRows, CodeRows, KeyRows, MatrixRows, MeantRows, NameRows, NumberRows, OddNameRows, PairRows, ReadRows, ResolutionRows, SettingRows};
 
 /// Which texts are resolutions of a mouse.
@@ -71,4 +72,11 @@ pub fn prefixes_are_told()
 #[tactic(auto, using(crate::proofs::RowLemmas::pairs))]
 pub fn pairs_are_told()
     ensures { PairRows }
+{}
+
+/// Which key is near to a word that asks for none, and what is said of it.
+#[tactic(auto, using(crate::proofs::NearRowLemmas::near_rows, crate::proofs::NearRowLemmas::said_rows))]
+pub fn near_key_rows()
+    ensures near { NearKeyRows }
+    ensures said { SaidRows }
 {}

@@ -6,6 +6,7 @@
 //! | `cuts` | the parts of a text before and after a byte |
 //! | `fixes` | names and values as they were likely meant, if that is sure |
 //! | `names` | names that are nearly alike |
+//! | `nearest` | which of some names is nearest to one that is wanted |
 //! | `words` | names that lost words, and names with odd bytes |
 //! | `rows` | the row of a table for a name |
 //! | `numbers` | texts that are numbers |
@@ -14,6 +15,7 @@
 //! | `meant` | how a value was likely meant |
 //! | `remarks` | what is said of a property that doesn't fit |
 //! | `keys` | the keys that words ask for, each with its code |
+//! | `unfound` | what is said if words ask for no key |
 //! | `laws` | worked rows of the definitions |
 //! | `surroundings` | below which prefixes a property is read, and with which others |
 #![tactic(auto)]
@@ -26,10 +28,12 @@ mod laws;
 mod matrices;
 mod meant;
 mod names;
+mod nearest;
 mod numbers;
 mod remarks;
 mod rows;
 mod surroundings;
+mod unfound;
 mod values;
 mod words;
 
@@ -39,10 +43,12 @@ pub use fixes::{meant_value, push_meant_key, push_meant_name};
 pub use keys::{has_part, keys_text};
 pub use laws::{
     axes_are_told, codes_are_told, keys_are_told, matrices_are_told, meant_values_are_told,
-    names_are_told, numbers_are_told, odd_names_are_told, pairs_are_told, prefixes_are_told,
-    resolutions_are_told, settings_are_told,
+    names_are_told, near_key_rows, numbers_are_told, odd_names_are_told, pairs_are_told,
+    prefixes_are_told, resolutions_are_told, settings_are_told,
 };
 pub use names::same_letters;
+pub use nearest::nearer;
 pub use remarks::{is_known, misuse_of, misuse_text, push_misuse_hint, push_unknown_hint};
 pub use rows::{Likeness, first_row};
 pub use surroundings::{companions_of, has_logged_code, is_read_below, push_elsewhere_hint};
+pub use unfound::keys_told;

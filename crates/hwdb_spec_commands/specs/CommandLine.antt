@@ -114,6 +114,10 @@ strings_rule = record (new_rule (codes "strings")) { long = Some (codes "strings
 abbrev pub pattern_rule : Rule
 pattern_rule = record (new_rule (codes "pattern")) { long = Some (codes "pattern"); action = Some SetTrue }
 
+-- `--all`
+abbrev pub all_rule : Rule
+all_rule = record (new_rule (codes "all")) { long = Some (codes "all"); action = Some SetTrue }
+
 -- a device's path or name, or none
 abbrev pub path_rule : Rule
 path_rule = record (new_rule (codes "DEVICE")) { action = Some Set }
@@ -156,7 +160,8 @@ near_app = with_rule (with_rule (with_rule (with_rule (with_shared (new_app (cod
 
 -- `device`
 abbrev pub device_app : App
-device_app = with_rule (with_rule (with_rule (with_rule (with_rule (with_shared (new_app (codes "device"))) text_rule) strings_rule) json_rule) pattern_rule) path_rule
+device_app =
+    with_rule (with_rule (with_rule (with_rule (with_rule (with_rule (with_shared (new_app (codes "device"))) text_rule) strings_rule) json_rule) pattern_rule) all_rule) path_rule
 
 -- `check`
 abbrev pub check_app : App

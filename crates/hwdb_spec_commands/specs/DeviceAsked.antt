@@ -1,9 +1,9 @@
 -- The device that `device` is asked for, what it prints of it or of all devices, and what it says if there is none. Our choice.
 use Rattle.std.specs.Prelude.{◌++◌, Bool, false, true, List, [], ◌∷◌, None, Option, codes, flat_map, if◌then◌else◌, is_some, not, option_map, ℕ}
 use Rattle.std.specs.Option.{option_map_or}
-use Rattle.hwdb_spec_commands.specs.DeviceFound.{only, places_meant}
+use Rattle.hwdb_spec_commands.specs.DeviceFound.{near_given, only, places_meant}
 use Rattle.hwdb_spec_commands.specs.DeviceTexts.{device_row, line_of}
-use Rattle.hwdb_spec_commands.specs.DeviceTree.{Sight, absolute, all_links, device_at, device_of_path, kernel_name, last_name, near_name, sysfs_below, unread_of_path}
+use Rattle.hwdb_spec_commands.specs.DeviceTree.{Sight, absolute, all_links, device_at, device_of_path, kernel_name, sysfs_below, unread_of_path}
 use Rattle.hwdb_spec.specs.Lines.{byte, has}
 use Rattle.hwdb_spec_commands.specs.Sysfs.{Device}
 use Rattle.hwdb_spec_commands.specs.declared.devices.DeviceForm.{DeviceForm}
@@ -67,5 +67,5 @@ abbrev pub no_device_text : (nowhere : Bool) (given words near : List ℕ) → L
 no_device_text nowhere given words near = codes "no device: " ++ (shown_name given ++ (codes ": " ++ (cause_part nowhere words ++ near_hint near)))
 
 -- the same, by what sysfs shows
-abbrev pub missing_text : Sight → (root sys given words : List ℕ) → List ℕ
-missing_text sight root sys given words = no_device_text (leads_nowhere sight root given) given words (near_name sight sys (last_name given))
+abbrev pub missing_text : Sight → (names : List (List ℕ)) → (root sys given words : List ℕ) → List ℕ
+missing_text sight names root sys given words = no_device_text (leads_nowhere sight root given) given words (near_given sight names sys given)

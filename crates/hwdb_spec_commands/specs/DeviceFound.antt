@@ -1,4 +1,4 @@
--- Which devices ids or a part of a name mean, and what is said if there are several. Our choice. The attributes are those that Linux's
+-- Which devices ids or a part of a name mean, what is said if there are several, and what is near if there is none. Our choice. The attributes are those that Linux's
 -- drivers for USB, PCI and input devices have, and ids are written as lsusb(8) and lspci(8) print them.
 use Rattle.std.specs.Prelude.{Bool, true, false, ℕ, List, [], ◌∷◌, ◌++◌, Option, None, Some, codes, drop, filter_map, flat_map, if◌then◌else◌, is_some, nat_eq, not, take}
 use Rattle.std.specs.List.{starts_with}
@@ -6,7 +6,7 @@ use Rattle.std.specs.Option.{option_map_or, unwrap_or}
 use Rattle.hwdb_spec.specs.Lines.{begins_with, byte, is, is_none, pieces}
 use Rattle.hwdb_spec.specs.Visible.{shown_name}
 use Rattle.hwdb_spec_commands.specs.DeviceTexts.{called, device_row, text_in, told_nothing}
-use Rattle.hwdb_spec_commands.specs.DeviceTree.{Sight, all_links, device_at, device_for, device_of_path, unread_for}
+use Rattle.hwdb_spec_commands.specs.DeviceTree.{Sight, all_links, device_at, device_for, device_of_path, last_name, near_name, nearest_of, unread_for}
 use Rattle.hwdb_spec_commands.specs.KeysAsked.{has_part}
 use Rattle.hwdb_spec_commands.specs.Lookups.{lookups}
 use Rattle.hwdb_spec_commands.specs.Properties.{same_letters}
@@ -107,3 +107,27 @@ place_row sight names sys place = device_row (device_at sight names sys place)
 abbrev pub several_text : Sight → (names : List (List ℕ)) → (sys given : List ℕ) → (places : List (List ℕ)) → List ℕ
 several_text sight names sys given places =
     codes "several devices: " ++ (shown_name given ++ (byte "\n" ∷ flat_map (place_row sight names sys) places ++ codes "name one of them"))
+
+-- ---- what is near if none is meant
+
+-- the texts that a title is compared as: it as a whole, and each of its words
+abbrev pub title_parts : (title : List ℕ) → List (List ℕ)
+title_parts title = title ∷ pieces (is (byte " ")) title
+
+-- those of how the device at a place is called, if it may be meant
+abbrev pub parts_of_place : Sight → (names : List (List ℕ)) → (sys place : List ℕ) → List (List ℕ)
+parts_of_place sight names sys place =
+    if is_offered (device_at sight names sys place) then option_map_or title_parts (called (device_at sight finders sys place).chain) [] else []
+
+-- those of the device that a link leads to
+abbrev pub parts_at : Sight → (names : List (List ℕ)) → (sys link : List ℕ) → List (List ℕ)
+parts_at sight names sys link = option_map_or (parts_of_place sight names sys) (device_of_path sight sys link) []
+
+-- all texts of which a part of a name may be meant; of an absolute path none
+abbrev pub parts_for : Sight → (names : List (List ℕ)) → (sys given : List ℕ) → List (List ℕ)
+parts_for sight names sys given = if is_word given then flat_map (parts_at sight names sys) (all_links sight sys) else []
+
+-- What is nearest to what was given: a name in a class or at a bus, how a device is called, or a word of that; empty if nothing is near.
+-- Of two that are as near it is the first.
+abbrev pub near_given : Sight → (names : List (List ℕ)) → (sys given : List ℕ) → List ℕ
+near_given sight names sys given = nearest_of given (near_name sight sys (last_name given)) (parts_for sight names sys given)

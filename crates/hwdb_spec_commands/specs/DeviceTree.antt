@@ -9,6 +9,7 @@ use Rattle.hwdb_spec.specs.Assignment.{in_order, text_cmp}
 use Rattle.hwdb_spec.specs.Folders.{same}
 use Rattle.hwdb_spec.specs.Lines.{begins_with, byte, has, is, pieces}
 use Rattle.hwdb_spec.specs.Store.{path_in}
+use Rattle.hwdb_spec_commands.specs.Properties.{lower}
 use Rattle.hwdb_spec_commands.specs.Sysfs.{Ancestor, Attribute, Device}
 
 -- a device's node: whether it is a block device, and its number as stat(2) has it
@@ -217,12 +218,20 @@ abbrev pub is_misspelt : (wanted name : List ℕ) → Bool
 is_misspelt wanted name =
     if nat_lt 255 (length wanted) then false else nat_le (levenshtein_row nat_eq wanted name (length name)) (length wanted / 3)
 
+-- how many bytes are wanted, if a name begins with all of them; else 0
+abbrev pub begun : (wanted name : List ℕ) → ℕ
+begun wanted name = if starts_with nat_eq name wanted then alike name wanted else 0
+
 -- How near a name is. One that few letters lead to counts before all others, fewer letters before more, and then a longer beginning
--- that is alike.
-abbrev pub likeness : (wanted name : List ℕ) → ℕ
-likeness wanted name =
+-- that is alike. Another one is near only if it begins with all that is wanted.
+abbrev pub closeness : (wanted name : List ℕ) → ℕ
+closeness wanted name =
     if is_misspelt wanted name then 256 * (length wanted - levenshtein_row nat_eq wanted name (length name)) + alike name wanted
-    else alike name wanted
+    else begun wanted name
+
+-- the same but for the case of letters
+abbrev pub likeness : (wanted name : List ℕ) → ℕ
+likeness wanted name = closeness (map lower wanted) (map lower name)
 
 -- of a name and one before it, the one that is nearer; of two that are as near the one before
 abbrev pub nearer : (wanted before name : List ℕ) → List ℕ

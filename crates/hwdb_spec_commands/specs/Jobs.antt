@@ -41,8 +41,8 @@ IsTask name inner (ListHits after limit device json) = (name ≡ codes "list") �
     × IsLimit (one_of (codes "limit") inner) limit × IsValue (codes "MODALIAS") inner (string_bytes device)
 IsTask name inner (Near files device limit json) = (name ≡ codes "near") × (json ≡ has_flag (codes "json") inner) × AreValues (codes "MODALIAS") inner (map string_bytes files.items ++ string_bytes device ∷ [])
     × IsLimit (one_of (codes "limit") inner) limit
-IsTask name inner (Device path strings json pattern) = (name ≡ codes "device") × (option_map string_bytes path ≡ first_of (codes "DEVICE") inner) × (strings ≡ has_flag (codes "strings") inner)
-    × (json ≡ has_flag (codes "json") inner) × (pattern ≡ has_flag (codes "pattern") inner)
+IsTask name inner (Device path strings json pattern all) = (name ≡ codes "device") × (option_map string_bytes path ≡ first_of (codes "DEVICE") inner) × (strings ≡ has_flag (codes "strings") inner)
+    × (json ≡ has_flag (codes "json") inner) × (pattern ≡ has_flag (codes "pattern") inner) × (all ≡ has_flag (codes "all") inner)
 IsTask name inner (Check files allowed json format) = (name ≡ codes "check") × AreAnyValues (codes "FILE") inner (map string_bytes files.items)
     × AreAnyValues (codes "allow") inner (map string_bytes allowed.items) × (json ≡ has_flag (codes "json") inner)
     × (option_map string_bytes format ≡ first_of (codes "format") inner)

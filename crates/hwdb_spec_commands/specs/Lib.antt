@@ -78,3 +78,5 @@ pub mod Replacements
 pub mod Sides
 pub mod OverText
 pub mod KeysAsked
+pub mod AllStrings
+pub mod Scans

@@ -1,6 +1,6 @@
 -- `--text`: a command answers from the text files of both folders, as an update would compile them now. It is done over the files
 -- as they are, but that the database of /etc has the bytes that the update would write. The option is our choice.
-use Rattle.std.specs.Prelude.{◌==◌, ◌⊎◌, Bool, List, None, Option, Some, codes, false, [], if◌then◌else◌, is_some, length, not, string_bytes, true, ℕ}
+use Rattle.std.specs.Prelude.{◌||◌, ◌==◌, ◌⊎◌, Bool, List, None, Option, Some, codes, false, [], if◌then◌else◌, is_some, length, not, string_bytes, true, ℕ}
 use Rattle.std.specs.Str.{bytes_eq}
 use Rattle.hwdb_spec_commands.specs.Asked.{database_path}
 use Rattle.hwdb_spec.specs.Folders.{Source}
@@ -33,7 +33,7 @@ takes_text (Query devices json) = true
 takes_text (Explain device json) = true
 takes_text (ListHits after limit device json) = true
 takes_text (Near files device limit json) = true
-takes_text (Device path strings json pattern) = true
+takes_text (Device path strings json pattern all) = true
 takes_text (Test files database json) = true
 takes_text (Verify database) = true
 takes_text (Dump database) = true
@@ -47,7 +47,7 @@ text_if false text = None
 -- what is said of other words that don't fit `--text`: they name what is asked, or no database is
 abbrev pub misuse_text : Task → Option (List ℕ)
 misuse_text (Near files device limit json) = text_if (not (length files.items == 0)) (codes "--text and FILE are two sources: leave out one of them")
-misuse_text (Device path strings json pattern) = text_if (not (is_some path)) (codes "--text needs DEVICE: a list of devices asks no database")
+misuse_text (Device path strings json pattern all) = text_if (not (is_some path || all)) (codes "--text needs DEVICE or --all: a list of devices asks no database")
 misuse_text (Test files database json) = text_if (is_some database) (codes "--text and --database are two sources: leave out one of them")
 misuse_text (Verify database) = text_if (is_some database) (codes "--text and DATABASE are two sources: leave out one of them")
 misuse_text (Dump database) = text_if (is_some database) (codes "--text and DATABASE are two sources: leave out one of them")

@@ -88,6 +88,8 @@ pub enum Task {
         json: bool,
         /// Whether records to begin with are printed.
         pattern: bool,
+        /// Whether the strings of all devices are printed.
+        all: bool,
     },
     /// Print what changed from one side to another: a database, a text file, a folder of text files or a root.
     Diff {

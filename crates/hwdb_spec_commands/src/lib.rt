@@ -83,7 +83,9 @@
 //! | `Replacements` | what `explain --text` says that no database can: what was replaced, and what is masked |
 //! | `Sides` | what a path of `diff` means: a database, a text file, a folder or a root; and the errors of that |
 //! | `OverText` | with `--text`, the files as they are but for the database, which is what an update would write |
-//! | `KeysAsked` | which keys words ask for, and what `keys` prints of them |
+//! | `KeysAsked` | which keys words ask for, what `keys` prints of them, and what it says if there is none |
+//! | `AllStrings` | the strings of all devices, each once |
+//! | `Scans` | the keys that events of a keyboard tell |
 //!
 //! The types below are those that the definitions name.
 #![tactic(auto)]

@@ -46,7 +46,7 @@ pub record SaysNoDevice (root sys given : List ℕ) (sight : Sight) (refusal : R
   pub all_read : unread_for sight root sys given ≡ None
   pub words : List ℕ
   pub one_line : IsOneLine words
-  pub said : IsInWords (missing_text sight root sys given words) refusal
+  pub said : IsInWords (missing_text sight asked_names root sys given words) refusal
 
 -- the error lists the devices that are meant: there are two at least
 pub record SaysSeveral (root sys given : List ℕ) (sight : Sight) (refusal : Refusal) : Type 0 where

@@ -29,7 +29,7 @@ use Rattle.hwdb_spec_program.specs.TaskRefusals.{IsRootRefused, IsSaid}
 use Rattle.hwdb_plan.specs.Answers.{explain_plan, query_plan}
 use Rattle.hwdb_plan.specs.Ask.{lone_answer}
 use Rattle.hwdb_plan.specs.Check.{check_plan, said_of}
-use Rattle.hwdb_plan.specs.Device.{OfCause, device_plan}
+use Rattle.hwdb_plan.specs.Device.{OfCause, device_asked}
 use Rattle.hwdb_plan.specs.Diff.{change_of, diff_plan, once}
 use Rattle.hwdb_plan.specs.Dump.{text_form}
 use Rattle.hwdb_plan.specs.Ended.{Outs, ShowsEnd, outs, outs_of}
@@ -89,8 +89,8 @@ near_of a root rows =
 -- of `device`
 abbrev pub device_of : Around → (root : List ℕ) → List Row → Plan
 device_of a root rows =
-    device_plan a.sight a.cause asked_names root
-    (device_form (has_flag (codes "strings") rows) (has_flag (codes "json") rows) (has_flag (codes "pattern") rows)) (first_of (codes "DEVICE") rows)
+    device_asked a.sight a.cause asked_names root
+    (device_form (has_flag (codes "strings") rows) (has_flag (codes "json") rows) (has_flag (codes "pattern") rows)) (has_flag (codes "all") rows) (first_of (codes "DEVICE") rows)
 
 -- of `check`
 abbrev pub check_of : Around → (root : List ℕ) (strict : Bool) → List Row → Plan
@@ -171,7 +171,7 @@ takers rows =
     ∷ (codes "explain", explain_taker rows)
     ∷ (codes "list", taker None)
     ∷ (codes "near", taker (text_if (not (length (before_last (values_of (codes "MODALIAS") rows)) == 0)) (codes "--text and FILE are two sources: leave out one of them")))
-    ∷ (codes "device", taker (text_if (not (is_some (first_of (codes "DEVICE") rows))) (codes "--text needs DEVICE: a list of devices asks no database")))
+    ∷ (codes "device", taker (text_if (not (is_some (first_of (codes "DEVICE") rows) || has_flag (codes "all") rows)) (codes "--text needs DEVICE or --all: a list of devices asks no database")))
     ∷ (codes "test", taker (text_if (is_some (first_of (codes "database") rows)) (codes "--text and --database are two sources: leave out one of them")))
     ∷ (codes "verify", taker (text_if (is_some (first_of (codes "DATABASE") rows)) (codes "--text and DATABASE are two sources: leave out one of them")))
     ∷ (codes "dump", taker (text_if (is_some (first_of (codes "DATABASE") rows)) (codes "--text and DATABASE are two sources: leave out one of them")))

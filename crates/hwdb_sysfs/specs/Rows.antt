@@ -103,12 +103,15 @@ SysfsRows =
     (map (sysfs_below small) ([] ∷ codes "/r" ∷ codes "/x" ∷ []) ≡ Some (codes "/sys") ∷ None ∷ None ∷ [])
     × (map (missing_folder small) ([] ∷ codes "/r" ∷ codes "/x" ∷ []) ≡ None ∷ Some (codes "/r/sys/devices") ∷ Some (codes "/x/sys") ∷ [])
 
--- What is near: few letters lead from `evnt3`, `evetn3`, `Event3` and `prt` to a name. Of two that are as near it is the first in order.
--- Of `eve` only the beginning is alike, and nothing is near `x`. Letters aren't counted of a text that is too long for a name.
+-- What is near: few letters lead from `evnt3`, `evetn3`, `EVENT3` and `prt` to a name. Of two that are as near it is the first in order.
+-- A name begins with `eve`. Nothing is near `x`, nor `mote`, which only begins as `mice` does. Letters aren't counted of a text that is
+-- too long for a name.
 abbrev pub NearRows : Type 0
 NearRows =
-    (map (near_name small (codes "/sys")) (codes "event33" ∷ codes "evnt3" ∷ codes "evetn3" ∷ codes "Event3" ∷ codes "prt" ∷ codes "eve" ∷ codes "x" ∷ [])
-    ≡ codes "event3" ∷ codes "event3" ∷ codes "event3" ∷ codes "event3" ∷ codes "port" ∷ codes "event3" ∷ [] ∷ [])
-    × (map (likeness (codes "event4")) (codes "event4" ∷ codes "evnt4" ∷ codes "evt4" ∷ codes "event" ∷ codes "evt" ∷ codes "ev" ∷ [])
-    ≡ 1542 ∷ 1282 ∷ 1026 ∷ 1285 ∷ 2 ∷ 2 ∷ [])
+    (map (near_name small (codes "/sys"))
+    (codes "event33" ∷ codes "evnt3" ∷ codes "evetn3" ∷ codes "EVENT3" ∷ codes "prt" ∷ codes "eve" ∷ codes "x" ∷ codes "mote" ∷ [] ∷ [])
+    ≡ codes "event3" ∷ codes "event3" ∷ codes "event3" ∷ codes "event3" ∷ codes "port" ∷ codes "event3" ∷ [] ∷ [] ∷ [] ∷ [])
+    × (map (likeness (codes "event4")) (codes "event4" ∷ codes "Evnt4" ∷ codes "evt4" ∷ codes "event" ∷ codes "event40" ∷ codes "evt" ∷ codes "ev" ∷ [])
+    ≡ 1542 ∷ 1282 ∷ 1026 ∷ 1285 ∷ 1286 ∷ 0 ∷ 0 ∷ [])
+    × (likeness (codes "EV") (codes "event4") ≡ 2)
     × (likeness (replicate 256 65) (replicate 256 65) ≡ 256)

@@ -7,6 +7,7 @@ use Rattle.hwdb_spec.specs.declared.errors.ToolError.{ToolError}
 use Rattle.hwdb_spec.specs.declared.errors.ToolError.TheVariants as error
 use Rattle.hwdb_spec_commands.specs.DatabaseErrors.{IsDatabaseRefusal}
 use Rattle.hwdb_spec_commands.specs.Databases.{IsTextOf}
+use Rattle.hwdb_spec_commands.specs.AllStrings.{all_strings_text, unread_lines}
 use Rattle.hwdb_spec_commands.specs.DeviceAsked.{device_list, device_meant, missing_text, no_sysfs_text, unread_text}
 use Rattle.hwdb_spec_commands.specs.DeviceFound.{only, places_meant, several_text}
 use Rattle.hwdb_spec_commands.specs.DeviceTexts.{device_text}
@@ -20,7 +21,7 @@ use Rattle.hwdb_spec_commands.specs.declared.refusals.Refusal.{Refusal}
 use Rattle.hwdb_spec_commands.specs.declared.refusals.Refusal.TheVariants as refusal
 use Rattle.hwdb_spec_program.specs.DeviceErrors.{IsNoDevice, IsNoSysfs, IsUnmeant, asked_names}
 use Rattle.hwdb_plan.specs.Asking.{asked}
-use Rattle.hwdb_plan.specs.Device.{OfCause, device_answer, devices_plan, folder_of, meant_plan, none_there, one_of, place_of, says, sysfs_of}
+use Rattle.hwdb_plan.specs.Device.{OfCause, all_misuse, device_answer, devices_plan, every_plan, folder_of, meant_plan, none_there, one_of, place_of, says, strings_answer, strings_plan, sysfs_of}
 use Rattle.hwdb_plan.specs.Dump.{database_stop}
 use Rattle.hwdb_plan.specs.Lemmas.Steps.{plainly}
 use Rattle.hwdb_plan.specs.Plans.{End, Ends, Follows, Plan}
@@ -75,7 +76,7 @@ module _ (w : Reads) (sight : Sight) (cause root : List ℕ) where
     Several places = says (several_text sight names sys given places)
 
     abbrev NoneThere : Plan
-    NoneThere = none_there sight cause root given sys
+    NoneThere = none_there sight cause names root given sys
 
     abbrev OneOf : (places : List (List ℕ)) (e : End) → Type 0
     OneOf places e = Ends w (one_of next Several NoneThere places) e
@@ -95,15 +96,15 @@ module _ (w : Reads) (sight : Sight) (cause root : List ℕ) where
     unfolding Ends
     unread_ends path none is =
         subst (λ (l : List (List ℕ)). OneOf l (Stops (Says (unread_text path cause)))) (sym none)
-        (subst (λ (o : Option (List ℕ)). Ends w (option_map_or (λ path. says (unread_text path cause)) o (says (missing_text sight root sys given cause))) (Stops (Says (unread_text path cause)))) (sym is) refl)
+        (subst (λ (o : Option (List ℕ)). Ends w (option_map_or (λ path. says (unread_text path cause)) o (says (missing_text sight names root sys given cause))) (Stops (Says (unread_text path cause)))) (sym is) refl)
 
     -- there is none
     none_ends : places_meant sight names root sys given ≡ [] → unread_for sight root sys given ≡ None
-        → Ends w (place_of sight cause names root given sys next) (Stops (Says (missing_text sight root sys given cause)))
+        → Ends w (place_of sight cause names root given sys next) (Stops (Says (missing_text sight names root sys given cause)))
     unfolding Ends
     none_ends none read =
-        subst (λ (l : List (List ℕ)). OneOf l (Stops (Says (missing_text sight root sys given cause)))) (sym none)
-        (subst (λ (o : Option (List ℕ)). Ends w (option_map_or (λ path. says (unread_text path cause)) o (says (missing_text sight root sys given cause))) (Stops (Says (missing_text sight root sys given cause)))) (sym read) refl)
+        subst (λ (l : List (List ℕ)). OneOf l (Stops (Says (missing_text sight names root sys given cause)))) (sym none)
+        (subst (λ (o : Option (List ℕ)). Ends w (option_map_or (λ path. says (unread_text path cause)) o (says (missing_text sight names root sys given cause))) (Stops (Says (missing_text sight names root sys given cause)))) (sym read) refl)
 
     -- there are several
     several_ends : (one other : List ℕ) (more : List (List ℕ)) → places_meant sight names root sys given ≡ one ∷ other ∷ more
@@ -158,7 +159,7 @@ module _ {Y : Type 0} (end_of : Y → End) (w : Reads) (sight : Sight) (root : L
     no_device (inr (inr (inl none))) = (
       none.words,
       none.one_line,
-      in_words none.words (missing_text sight root sys given none.words) none.said (none_ends w sight none.words root asked_names given sys (next none.words sys) none.none none.all_read),
+      in_words none.words (missing_text sight asked_names root sys given none.words) none.said (none_ends w sight none.words root asked_names given sys (next none.words sys) none.none none.all_read),
     )
     no_device (inr (inr (inr many))) =
         whatever (λ cause. EndsIn w (sysfs_of sight cause root (In cause)) r)
@@ -188,6 +189,33 @@ module _ {Y : Type 0} (end_of : Y → End) (w : Reads) (sight : Sight) (root : L
     pub memory_listed : (result : Result Y Refusal) → IsErrAnd result (λ x. x ≡ refusal.Plain error.Memory) → OfCause (λ cause. Follows end_of w (devices_plan sight cause names root) result)
     memory_listed (Ok y) is = absurd is
     memory_listed (Err r) is = whatever (λ cause. Follows end_of w (devices_plan sight cause names root) (Err r)) (inl is)
+
+    -- ---- the strings of all devices
+    pub unsaid_follows : (r : Refusal) (result : Result Y Refusal) → IsNoSysfs root sight r → IsErrAnd result (λ x. x ≡ r) → OfCause (λ cause. Follows end_of w (strings_plan sight cause names root) result)
+    unsaid_follows r result none is = handed_on (λ cause. strings_plan sight cause names root) r result (no_sysfs (λ cause sys. asked root (strings_answer sight names sys)) r none) is
+
+    pub strings_follow : (sys : List ℕ) (result : Result Y Refusal) → sysfs_below sight root ≡ Some sys → Follows end_of w (asked root (strings_answer sight names sys)) result
+        → OfCause (λ cause. Follows end_of w (strings_plan sight cause names root) result)
+    strings_follow sys (Ok y) below ends =
+        whatever (λ cause. Follows end_of w (strings_plan sight cause names root) (Ok y)) (below_ends w sight [] root (λ s. asked root (strings_answer sight names s)) sys (end_of y) below ends)
+    strings_follow sys (Err r) below (inl memory) = whatever (λ cause. Follows end_of w (strings_plan sight cause names root) (Err r)) (inl memory)
+    strings_follow sys (Err r) below (inr ends) =
+        whatever (λ cause. Follows end_of w (strings_plan sight cause names root) (Err r))
+        (inr (below_ends w sight [] root (λ s. asked root (strings_answer sight names s)) sys (Stops (stop_of r)) below ends))
+
+    -- words that don't fit
+    pub misused_follows : (form : DeviceForm) (given : Option (List ℕ)) (text : List ℕ) (r : Refusal) (result : Result Y Refusal) → all_misuse form given ≡ Some text → IsInWords text r
+        → IsErrAnd result (λ x. x ≡ r) → OfCause (λ cause. Follows end_of w (every_plan sight cause names root form given) result)
+    unfolding Ends
+    misused_follows form given text r result is said same =
+        handed_on (λ cause. every_plan sight cause names root form given) r result
+        (whatever (λ cause. EndsIn w (every_plan sight cause names root form given) r)
+        (subst (λ (o : Option (List ℕ)). EndsIn w (option_map_or says o (strings_plan sight [] names root)) r) (sym is) (error_ends w (says text) text r said refl))) same
+
+    pub fits_follow : (form : DeviceForm) (given : Option (List ℕ)) (result : Result Y Refusal) → all_misuse form given ≡ None → OfCause (λ cause. Follows end_of w (strings_plan sight cause names root) result)
+        → OfCause (λ cause. Follows end_of w (every_plan sight cause names root form given) result)
+    fits_follow form given result is (cause, one_line, follows) =
+        (cause, one_line, subst (λ (o : Option (List ℕ)). Follows end_of w (option_map_or says o (strings_plan sight cause names root)) result) (sym is) follows)
 
     -- ---- one device
     module _ (given : List ℕ) (form : DeviceForm) where
@@ -240,3 +268,28 @@ no_text_ends w form device path bytes e r is (inl memory) = inl memory
 no_text_ends w form device path bytes (error.BadDatabase f) r none (inr says) = inr (inr (f, none, ap Stops says))
 no_text_ends w form device path bytes error.Memory r is (inr says) = inl (plainly r says)
 no_text_ends w form device path bytes _ r is (inr says) = absurd is
+
+-- ---- the strings of all devices
+pub strings_end : (w : Reads) (sight : Sight) (names : List (List ℕ)) (sys path bytes : List ℕ) (status : ℕ) (err out : List ℕ) → status ≡ 0 → err ≡ unread_lines sight sys
+    → IsTextOf (all_strings_text sight names sys) bytes out → Ends w (strings_answer sight names sys path bytes) (Answers status err out)
+unfolding Ends
+strings_end w sight names sys path bytes status err out zero told is = inl (is.tree, is.database, same)
+  where
+    text : out ≡ all_strings_text sight names sys is.tree
+    text = is.is
+
+    same : Answers status err out ≡ Answers 0 (unread_lines sight sys) (all_strings_text sight names sys is.tree)
+    same = cc
+
+pub no_strings_end : (w : Reads) (sight : Sight) (names : List (List ℕ)) (sys path bytes : List ℕ) (e : ToolError) (r : Refusal) → IsDatabaseRefusal bytes e → IsStop (database_stop path e) r
+    → (r ≡ refusal.Plain error.Memory) ⊎ Ends w (strings_answer sight names sys path bytes) (Stops (stop_of r))
+unfolding Ends
+no_strings_end w sight names sys path bytes e r is (inl memory) = inl memory
+no_strings_end w sight names sys path bytes (error.BadDatabase f) r none (inr says) = inr (inr (f, none, ap Stops says))
+no_strings_end w sight names sys path bytes error.Memory r is (inr says) = inl (plainly r says)
+no_strings_end w sight names sys path bytes _ r is (inr says) = absurd is
+
+-- there was no memory
+pub memory_follows : {Y : Type 0} (end_of : Y → End) (w : Reads) (p : Plan) (result : Result Y Refusal) → IsErrAnd result (λ x. x ≡ refusal.Plain error.Memory) → Follows end_of w p result
+memory_follows end_of w p (Ok y) is = absurd is
+memory_follows end_of w p (Err r) is = inl is

@@ -30,7 +30,7 @@ use Rattle.hwdb_plan.specs.Answers.{explain_plan, query_plan}
 use Rattle.hwdb_plan.specs.Ask.{ask_plan, lone_answer}
 use Rattle.hwdb_plan.specs.Check.{check_plan, said_of}
 use Rattle.hwdb_plan.specs.Asking.{if_read, named}
-use Rattle.hwdb_plan.specs.Device.{OfCause, device_plan}
+use Rattle.hwdb_plan.specs.Device.{OfCause, device_asked}
 use Rattle.hwdb_plan.specs.Diff.{change_of, diff_plan, once}
 use Rattle.hwdb_plan.specs.Dump.{dump_plan, if_said, text_form}
 use Rattle.hwdb_plan.specs.Ended.{Outs, Prints, ShowsEnd}
@@ -313,20 +313,21 @@ module _ (w : Reads) (sight : Sight) (input_before input_now : Told) (before now
             ),
           )
 
-      pub device_planned : (path : Option (String Global)) (strings json pattern : Bool) → IsTask word rows (Device path strings json pattern)
-          → OfCause (λ cause. Follows end_of w (device_plan sight cause asked_names root (device_form strings json pattern) (option_map string_bytes path)) answer) → At
-      device_planned path strings json pattern is (cause, one_line, follows) = (
+      pub device_planned : (path : Option (String Global)) (strings json pattern all : Bool) → IsTask word rows (Device path strings json pattern all)
+          → OfCause (λ cause. Follows end_of w (device_asked sight cause asked_names root (device_form strings json pattern) all (option_map string_bytes path)) answer) → At
+      device_planned path strings json pattern all is (cause, one_line, follows) = (
         Err unread.Memory,
         tt,
         (
           cause,
           one_line,
           at_word (around (Err unread.Memory) cause) (codes "device") is.0
-              (subst (λ (p : Option Text). Shows (device_plan sight cause asked_names root (device_form (has_flag (codes "strings") rows) (has_flag (codes "json") rows) (has_flag (codes "pattern") rows)) p)) is.1
-              (subst (λ (b : Bool). Shows (device_plan sight cause asked_names root (device_form b (has_flag (codes "json") rows) (has_flag (codes "pattern") rows)) (option_map string_bytes path))) is.2
-              (subst (λ (b : Bool). Shows (device_plan sight cause asked_names root (device_form strings b (has_flag (codes "pattern") rows)) (option_map string_bytes path))) is.3
-              (subst (λ (b : Bool). Shows (device_plan sight cause asked_names root (device_form strings json b) (option_map string_bytes path))) is.4
-              (answered (device_plan sight cause asked_names root (device_form strings json pattern) (option_map string_bytes path)) follows))))),
+              (subst (λ (p : Option Text). Shows (device_asked sight cause asked_names root (device_form (has_flag (codes "strings") rows) (has_flag (codes "json") rows) (has_flag (codes "pattern") rows)) (has_flag (codes "all") rows) p)) is.1
+              (subst (λ (b : Bool). Shows (device_asked sight cause asked_names root (device_form b (has_flag (codes "json") rows) (has_flag (codes "pattern") rows)) (has_flag (codes "all") rows) (option_map string_bytes path))) is.2
+              (subst (λ (b : Bool). Shows (device_asked sight cause asked_names root (device_form strings b (has_flag (codes "pattern") rows)) (has_flag (codes "all") rows) (option_map string_bytes path))) is.3
+              (subst (λ (b : Bool). Shows (device_asked sight cause asked_names root (device_form strings json b) (has_flag (codes "all") rows) (option_map string_bytes path))) is.4
+              (subst (λ (b : Bool). Shows (device_asked sight cause asked_names root (device_form strings json pattern) b (option_map string_bytes path))) is.5
+              (answered (device_asked sight cause asked_names root (device_form strings json pattern) all (option_map string_bytes path)) follows)))))),
         ),
       )
 

@@ -1,5 +1,5 @@
 -- A run with `--text` follows the plan that its words compute.
-use Rattle.std.proofs.Common.{◌≡◌, ◌≢◌, ◌≤◌, ◌∙◌, ◌⊎◌, ◌&&◌, ◌∷◌, ◌++◌, ⊎_elim, inl, inr, ap, refl, subst, sym, length, map, string_bytes, true≢false, Bool, IfSome, List, Option, None, Result, Some, Ok, Err, ℕ, [], true, false}
+use Rattle.std.proofs.Common.{◌||◌, ◌≡◌, ◌≢◌, ◌≤◌, ◌∙◌, ◌⊎◌, ◌&&◌, ◌∷◌, ◌++◌, ⊎_elim, inl, inr, ap, refl, subst, sym, length, map, string_bytes, true≢false, Bool, IfSome, List, Option, None, Result, Some, Ok, Err, ℕ, [], true, false}
 use Rattle.std.proofs.lemmas.List.{length-map}
 use Rattle.std.specs.Prelude.{◌==◌, codes, filter, find, if◌then◌else◌, is_some, not, option_map}
 use Rattle.std.specs.Result.{IsErrAnd}
@@ -94,11 +94,13 @@ taker_found (Near files device limit json) word rows is takes =
       subst (λ (n : Text). Found n rows ≡ Some (codes "near", TakerOf (Near files device limit json))) (sym is.0)
           (subst (λ (n : ℕ). Found (codes "near") rows ≡ Some (codes "near", taker (text_if (not (n == 0)) (codes "--text and FILE are two sources: leave out one of them")))) long refl),
     )
-taker_found (Device path strings json pattern) word rows is takes = (
+taker_found (Device path strings json pattern all) word rows is takes = (
   codes "device",
-  subst (λ (n : Text). Found n rows ≡ Some (codes "device", TakerOf (Device path strings json pattern))) (sym is.0)
-      (subst (λ (b : Bool). Found (codes "device") rows ≡ Some (codes "device", taker (text_if (not b) (codes "--text needs DEVICE: a list of devices asks no database"))))
-      (ap is_some (sym is.1) ∙ same_some string_bytes path) refl),
+  subst (λ (n : Text). Found n rows ≡ Some (codes "device", TakerOf (Device path strings json pattern all))) (sym is.0)
+      (subst (λ (b : Bool). Found (codes "device") rows ≡ Some (codes "device", taker (text_if (not (b || all)) (codes "--text needs DEVICE or --all: a list of devices asks no database"))))
+      (ap is_some (sym is.1) ∙ same_some string_bytes path)
+      (subst (λ (b : Bool). Found (codes "device") rows ≡ Some (codes "device", taker (text_if (not (is_some (first_of (codes "DEVICE") rows) || b)) (codes "--text needs DEVICE or --all: a list of devices asks no database"))))
+      (sym is.5) refl)),
 )
 taker_found (Test files database json) word rows is takes = (
   codes "test",

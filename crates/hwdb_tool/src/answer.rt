@@ -29,4 +29,14 @@ impl Answer {
             status,
         }
     }
+
+    /// A text for each output.
+    pub fn with_error(err: Vec<u8>, out: Vec<u8>, status: u8) -> Answer
+        requires { status ≤ 1 }
+        ensures err { result.err.items ≡ err.items }
+        ensures out { result.out.items ≡ out.items }
+        ensures status { result.status ≡ status }
+    {
+        Answer { err, out, status }
+    }
 }

@@ -64,7 +64,7 @@ pub fn device<D: Machine>(
 }
 
 /// If a system tells its files, it tells what sysfs shows.
-fn devices_are_told<D: Machine>(_system: &D)
+pub(crate) fn devices_are_told<D: Machine>(_system: &D)
     ensures { D.Store.tells → D.DeviceFiles.tells }
 {}
 

@@ -20,9 +20,10 @@ ghost use Rattle.hwdb_tool.specs.Updating.{UpdatesAsAsked};
 
 use crate::answers::{ask_file, explain, list};
 use crate::check_command::check;
-use crate::device_command::{device, device_form};
+use crate::device_command::device_form;
 use crate::diff_command::diff;
 use crate::dump_command::dump;
+use crate::every_device::devices;
 use crate::hiding::update_telling;
 use crate::keys_command::keys;
 use crate::near_command::near;
@@ -344,10 +345,11 @@ pub fn run<D: Machine, I: Source, O: Sink, E: Sink>(
             strings,
             json,
             pattern,
+            all,
         } => {
             let form = device_form(*strings, *json, *pattern);
             let given = text_of(path);
-            let answer = device(alloc, root, given, form, system);
+            let answer = devices(alloc, root, given, form, *all, system);
             printed(answer, out, err)
         }
         Task::Diff {

@@ -8,18 +8,20 @@ ghost use Rattle.hwdb_tool.specs.Views.{end_of};
 
 use crate::answer::Answer;
 use hwdb_answers::ToolError;
-use hwdb_properties::keys_text;
+use hwdb_properties::{keys_text, keys_told};
 use hwdb_system::Refusal;
 use std::alloc::Global;
 
-/// The keys that words ask for, each with its code; without words all of them. The status is 1 if there is none. No file is read.
+/// The keys that words ask for, each with its code; without words all of them. If there is none, the status is 1, and a line for each word says which
+/// key is near. No file is read.
 pub fn keys(alloc: Global, words: &[String], json: bool) -> Result<Answer, Refusal>
     ensures follows { (reads : Reads)
         → Follows end_of reads (keys_plan json (map string_bytes words.now)) result }
 {
     let text = keys_text(alloc, json, words)?;
     let status = status_of(&text);
-    Ok(Answer::new(alloc, text, status))
+    let told = keys_told(alloc, words, &text)?;
+    Ok(Answer::with_error(told, text, status))
 }
 
 /// The status: 1 if nothing is printed.

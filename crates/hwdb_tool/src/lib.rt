@@ -16,6 +16,7 @@
 //! | `test_command` | `test` |
 //! | `near_command` | `near` |
 //! | `device_command` | `device`; `missing`: what is said if there is no sysfs, or no such device |
+//! | `every_device` | `device --all` |
 //! | `diff_command` | `diff` |
 //! | `verify_command` | `verify`; `verdicts`: its words on bytes that are no database |
 //! | `dump_command` | `dump` |
@@ -46,6 +47,7 @@ mod diff_command;
 mod dispatch;
 mod dump_command;
 mod emptied;
+mod every_device;
 mod failures;
 mod given;
 mod given_folders;
@@ -78,6 +80,7 @@ pub use device_command::{device, device_form};
 pub use diff_command::diff;
 pub use dispatch::program;
 pub use dump_command::dump;
+pub use every_device::devices;
 pub use failures::{counts_tell_failures, faultless_words_begin, faulty_update_leaves_all};
 pub use hiding::update_telling;
 pub use hwdb_answers::{ToolError, ask, run_list, run_query, run_update};

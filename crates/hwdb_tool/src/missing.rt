@@ -10,11 +10,11 @@ ghost use Rattle.hwdb_sysfs.specs.Finding as finding;
 ghost use Rattle.hwdb_spec_commands.specs.Refusals.{IsInWords};
 ghost use Rattle.hwdb_spec_program.specs.DeviceErrors.{IsNoDevice, IsNoSysfs, IsWorded, asked_names};
 
-use hwdb_device::{fitting, several_text};
+use hwdb_device::{fitting, near_given, several_text};
 use hwdb_io::Cause;
 use hwdb_rules::ATTRIBUTES;
 use hwdb_show::push_name;
-use hwdb_sysfs::{DeviceFiles, Unfound, find_device, last_name, near_name, sysfs_below};
+use hwdb_sysfs::{DeviceFiles, Unfound, find_device, sysfs_below};
 use hwdb_system::Refusal;
 use std::alloc::{AllocError, Global};
 
@@ -240,7 +240,7 @@ fn no_device<F: DeviceFiles>(
     files: &F,
 ) -> Refusal
     ensures said { F.tells → IsInWords (spec.no_device_text nowhere given.now words.now
-        (tree.near_name (sight_by F.answers files.now) sys.now (tree.last_name given.now)))
+        (found.near_given (sight_by F.answers files.now) asked_names sys.now given.now))
         result }
     ensures worded { IsWorded result }
 {
@@ -261,9 +261,9 @@ fn near_text<F: DeviceFiles>(
 ) -> Result<Vec<u8>, AllocError>
     ensures { F.tells → IfOk result (λ text. text.items
         ≡ spec.no_device_text nowhere given.now words.now
-        (tree.near_name (sight_by F.answers files.now) sys.now (tree.last_name given.now))) }
+        (found.near_given (sight_by F.answers files.now) asked_names sys.now given.now)) }
 {
-    let near = near_name(alloc, files, sys, last_name(given))?;
+    let near = near_given(alloc, files, ATTRIBUTES.as_bytes(), sys, given)?;
     no_device_text(alloc, given, nowhere, words, &near)
 }
 

@@ -58,9 +58,11 @@ fn misuse_text(task: &Task) -> Option<&'static str>
         Task::Near { files, .. } if !files.is_empty() => {
             Some("--text and FILE are two sources: leave out one of them")
         }
-        Task::Device { path: None, .. } => {
-            Some("--text needs DEVICE: a list of devices asks no database")
-        }
+        Task::Device {
+            path: None,
+            all: false,
+            ..
+        } => Some("--text needs DEVICE or --all: a list of devices asks no database"),
         Task::Test {
             database: Some(_),
             ..
@@ -73,7 +75,7 @@ fn misuse_text(task: &Task) -> Option<&'static str>
 }
 
 /// The error of such words.
-fn misused(alloc: Global, text: &str) -> Refusal
+pub(crate) fn misused(alloc: Global, text: &str) -> Refusal
     ensures { IsInWords text.now result }
 {
     match Vec::from_slice(alloc, text.as_bytes()) {

@@ -1,4 +1,4 @@
-use Rattle.std.proofs.Common.{◌≡◌, [], flat_map, length, map}
+use Rattle.std.proofs.Common.{◌≡◌, flat_map, length, map}
 use Rattle.hwdb_spec_commands.specs.DeviceTree as tree
 use Rattle.hwdb_spec_commands.specs.SysfsAnswers.{seen}
 use Rattle.hwdb_sysfs.proofs.near.near_name.Given as goal

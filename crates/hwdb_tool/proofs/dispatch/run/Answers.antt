@@ -13,7 +13,7 @@ use Rattle.hwdb_tool.proofs.KeyLemmas.{keys_follow}
 use Rattle.hwdb_plan.specs.Answers.{explain_plan, query_plan}
 use Rattle.hwdb_plan.specs.Ask.{ask_plan}
 use Rattle.hwdb_plan.specs.Check.{check_plan, said_of}
-use Rattle.hwdb_plan.specs.Device.{OfCause, device_plan}
+use Rattle.hwdb_plan.specs.Device.{OfCause, device_asked}
 use Rattle.hwdb_plan.specs.Dump.{dump_plan}
 use Rattle.hwdb_plan.specs.Ended.{ShowsEnd, outs}
 use Rattle.hwdb_plan.specs.Files.{OfInput}
@@ -252,12 +252,13 @@ returns-in-Device-clause-follows g c = λ tells words asked.
     let root = root_of c.args.job.now in
     let path = option_map (λ t. t.now) c.text_of-given.result in
     let form = device_form c.in-Device.strings c.in-Device.json c.in-Device.pattern in
-    let answer = c.device-answer.result in
+    let all = c.in-Device.all in
+    let answer = c.devices-answer.result in
     of_words w sight input input before now result words c.args.job.now asked
-    (λ word rows is. device_planned w sight input input before now result root c.args.job.now.strict word rows answer c.printed-in-Device.ensures.prints c.in-Device.path c.in-Device.strings c.in-Device.json c.in-Device.pattern (subst (λ t. IsTask word rows t) c.in-Device.is is)
-    (subst (λ (p : Option (List ℕ)). OfCause (λ cause. Follows end_of w (device_plan sight cause asked_names root form p) answer)) c.text_of-given.ensures
-    (subst (λ (k : DeviceForm). OfCause (λ cause. Follows end_of w (device_plan sight cause asked_names root k path) answer)) c.device_form-form.ensures
-    (subst (λ (r : List ℕ). OfCause (λ cause. Follows end_of w (device_plan sight cause asked_names r c.device_form-form.result path) answer)) c.root_of-root.ensures (c.device-answer.ensures.follows tells)))))
+    (λ word rows is. device_planned w sight input input before now result root c.args.job.now.strict word rows answer c.printed-in-Device.ensures.prints c.in-Device.path c.in-Device.strings c.in-Device.json c.in-Device.pattern all (subst (λ t. IsTask word rows t) c.in-Device.is is)
+    (subst (λ (p : Option (List ℕ)). OfCause (λ cause. Follows end_of w (device_asked sight cause asked_names root form all p) answer)) c.text_of-given.ensures
+    (subst (λ (k : DeviceForm). OfCause (λ cause. Follows end_of w (device_asked sight cause asked_names root k all path) answer)) c.device_form-form.ensures
+    (subst (λ (r : List ℕ). OfCause (λ cause. Follows end_of w (device_asked sight cause asked_names r c.device_form-form.result all path) answer)) c.root_of-root.ensures (c.devices-answer.ensures.follows tells)))))
 
 pub returns-in-Diff-clause-follows : goal.returns-in-Diff-clause-follows
 returns-in-Diff-clause-follows g c = λ tells words asked.

@@ -1,8 +1,9 @@
 use Rattle.std.proofs.Common.{inl, inr, refl, subst, sym, Bool, []}
 use Rattle.hwdb_spec_commands.specs.DeviceAsked.{no_device_text}
-use Rattle.hwdb_spec_commands.specs.DeviceTree.{last_name, near_name}
+use Rattle.hwdb_spec_commands.specs.DeviceFound.{near_given}
 use Rattle.hwdb_spec_commands.specs.SysfsAnswers.{sight_by}
 use Rattle.hwdb_spec_commands.specs.Refusals.{IsInWords}
+use Rattle.hwdb_spec_program.specs.DeviceErrors.{asked_names}
 use Rattle.hwdb_tool.proofs.DeviceLemmas.{leads_somewhere}
 use Rattle.hwdb_tool.proofs.missing.not_there.Goals as goal
 
@@ -15,6 +16,6 @@ returns-clause-said g c = λ tells root unfound none.
       all_read = unfound.0.1;
       words = [];
       one_line = refl;
-      said = subst (λ (b : Bool). IsInWords (no_device_text b given [] (near_name sight c.args.sys.now (last_name given))) c.no_device.result)
+      said = subst (λ (b : Bool). IsInWords (no_device_text b given [] (near_given sight asked_names c.args.sys.now given)) c.no_device.result)
           (sym (leads_somewhere sight root given unfound.1)) (c.no_device.ensures.said tells);
     }))

@@ -1,5 +1,5 @@
 use Rattle.std.proofs.Common.{length}
-use Rattle.hwdb_sysfs.proofs.near.+alike.Given as goal
+use Rattle.hwdb_properties.proofs.nearest.+alike.Given as goal
 
 abbrev pub decreases-alike : goal.decreases-alike
 decreases-alike l = length l.one.now

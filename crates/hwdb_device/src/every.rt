@@ -1,0 +1,216 @@
+//! The strings of all devices of the list, each once, and what is said of what can't be read.
+ghost use Rattle.std.specs.List.{list_any};
+ghost use Rattle.std.specs.Option.{option_map_or};
+ghost use Rattle.std.specs.Prelude.{◌≡◌, ◌++◌, [], IfOk, OnOk, flat_map, map};
+ghost use Rattle.hwdb_spec.specs.Folders;
+ghost use Rattle.hwdb_spec.specs.Lines.{is, pieces};
+ghost use Rattle.hwdb_spec_commands.specs.AllStrings as spec;
+ghost use Rattle.hwdb_spec_commands.specs.DeviceTexts.{line_of, text_of};
+ghost use Rattle.hwdb_spec_commands.specs.DeviceTree as tree;
+ghost use Rattle.hwdb_spec_commands.specs.SysfsAnswers.{seen};
+ghost use Rattle.hwdb_sysfs.specs.Views.{device_of};
+ghost use Rattle.hwdb_device.specs.Views.{all_found};
+
+use crate::asking::lookups;
+use crate::found::Found;
+use crate::strings::push_line;
+use crate::told::same;
+use hwdb_reader::Db;
+use hwdb_show::push_name;
+use hwdb_sysfs::{Device, DeviceFiles, device_of_path, list_links, read_device, unread_of_path};
+use std::alloc::{AllocError, Global};
+
+/// Whether a text is among others.
+fn is_among(text: &[u8], others: &[Vec<u8>]) -> bool
+    ensures { result ≡ list_any (Folders.same text.now) (map (λ o. o.items) others.now) }
+{
+    let mut left = others;
+    'others: while let Some((other, rest)) = left.split_first() {
+        if same(text, other) {
+            return true;
+        }
+        left = rest;
+    }
+    false
+}
+
+/// Keeps a text, unless it is kept already. The only error, here and below, is want of memory.
+fn keep(alloc: Global, kept: &mut Vec<Vec<u8>>, text: &[u8]) -> Result<(), AllocError>
+    ensures { OnOk result (map (λ k. k.items) kept.new.items
+        ≡ spec.with_text (map (λ k. k.items) kept.old.items) text.now) }
+{
+    if is_among(text, kept) {
+        return Ok(());
+    }
+    kept.push(Vec::from_slice(alloc, text)?)?;
+    Ok(())
+}
+
+/// Keeps the strings that were asked.
+#[tactic(auto, unfolding(hwdb_spec_commands::specs::AllStrings::with_texts))]
+fn keep_found(alloc: Global, kept: &mut Vec<Vec<u8>>, found: &[Found<'_>]) -> Result<(), AllocError>
+    ensures { OnOk result (map (λ k. k.items) kept.new.items ≡ spec.with_texts
+        (map (λ k. k.items) kept.old.items) (map text_of (all_found found.now))) }
+{
+    for one in found {
+        keep(alloc, kept, &one.text)?;
+    }
+    Ok(())
+}
+
+/// Keeps the strings that udev asks for a device.
+fn keep_device(
+    alloc: Global,
+    db: &Db<'_>,
+    device: &Device,
+    kept: &mut Vec<Vec<u8>>,
+) -> Result<(), AllocError>
+    ensures { OnOk result (map (λ k. k.items) kept.new.items ≡ spec.with_texts
+        (map (λ k. k.items) kept.old.items) (spec.strings_of (device_of device.now) db.now)) }
+{
+    let found = lookups(alloc, Some(db), device)?;
+    keep_found(alloc, kept, &found)
+}
+
+/// Keeps those of the device that a link leads to.
+#[tactic(auto, unfolding(hwdb_spec_commands::specs::AllStrings::with_texts))]
+fn keep_at<F: DeviceFiles>(
+    alloc: Global,
+    db: &Db<'_>,
+    files: &F,
+    names: &[u8],
+    sys: &[u8],
+    link: &[u8],
+    kept: &mut Vec<Vec<u8>>,
+) -> Result<(), AllocError>
+    ensures { F.tells → OnOk result (map (λ k. k.items) kept.new.items ≡ spec.with_texts
+        (map (λ k. k.items) kept.old.items) (spec.strings_at (seen (F.answers files.now))
+        (pieces (is 10) names.now) sys.now db.now link.now)) }
+{
+    let Some(place) = device_of_path(alloc, files, sys, link)? else {
+        return Ok(());
+    };
+    let device = read_device(alloc, files, names, sys, &place)?;
+    keep_device(alloc, db, &device, kept)
+}
+
+/// The strings of all devices, each once.
+#[tactic(auto, unfolding(hwdb_spec_commands::specs::AllStrings::with_texts))]
+fn all_strings<F: DeviceFiles>(
+    alloc: Global,
+    db: &Db<'_>,
+    files: &F,
+    names: &[u8],
+    sys: &[u8],
+) -> Result<Vec<Vec<u8>>, AllocError>
+    ensures { F.tells → IfOk result (λ kept. map (λ k. k.items) kept.items
+        ≡ spec.all_strings (seen (F.answers files.now)) (pieces (is 10) names.now)
+        sys.now db.now) }
+{
+    let links = list_links(alloc, files, sys)?;
+    let mut kept = Vec::new(alloc);
+    let mut left = links.as_slice();
+    'links: while let Some((link, rest)) = left.split_first() {
+        keep_at(alloc, db, files, names, sys, link, &mut kept)?;
+        left = rest;
+    }
+    Ok(kept)
+}
+
+/// A line for each text.
+fn lines_text(alloc: Global, texts: &[Vec<u8>]) -> Result<Vec<u8>, AllocError>
+    ensures { IfOk result
+        (λ text. text.items ≡ flat_map line_of (map (λ t. t.items) texts.now)) }
+{
+    let mut text = Vec::new(alloc);
+    let mut left = texts;
+    'texts: while let Some((one, rest)) = left.split_first() {
+        push_line(&mut text, one)?;
+        left = rest;
+    }
+    Ok(text)
+}
+
+/// The strings that udev asks for the devices of the list, over a database: each once and a line each, in the order in which they are
+/// first seen. Of attributes those with the names are read, which are the lines of `names`.
+///
+/// The only error is want of memory. Reads each device once. Each string is compared with those before it.
+pub fn all_strings_text<F: DeviceFiles>(
+    alloc: Global,
+    db: &Db<'_>,
+    files: &F,
+    names: &[u8],
+    sys: &[u8],
+) -> Result<Vec<u8>, AllocError>
+    ensures { F.tells → IfOk result (λ text. text.items
+        ≡ spec.all_strings_text (seen (F.answers files.now)) (pieces (is 10) names.now)
+        sys.now db.now) }
+{
+    let kept = all_strings(alloc, db, files, names, sys)?;
+    lines_text(alloc, &kept)
+}
+
+/// Adds the line of a path that can't be read.
+fn push_unread(text: &mut Vec<u8>, path: &[u8]) -> Result<(), AllocError>
+    ensures { OnOk result (text.new.items ≡ text.old.items ++ spec.unread_line path.now) }
+{
+    text.extend_from_slice(b"hwdb: cannot read ")?;
+    push_name(text, path)?;
+    text.push(b'\n')?;
+    Ok(())
+}
+
+/// Adds the line of what can't be read where a link leads.
+fn push_if_unread<F: DeviceFiles>(
+    alloc: Global,
+    files: &F,
+    sys: &[u8],
+    link: &[u8],
+    text: &mut Vec<u8>,
+) -> Result<(), AllocError>
+    ensures { F.tells → OnOk result (text.new.items ≡ text.old.items ++ option_map_or
+        spec.unread_line (tree.unread_of_path (seen (F.answers files.now)) sys.now link.now) []) }
+{
+    match unread_of_path(alloc, files, sys, link)? {
+        Some(unread) => push_unread(text, &unread.path),
+        None => Ok(()),
+    }
+}
+
+/// The same, unless a device is there.
+fn push_unread_at<F: DeviceFiles>(
+    alloc: Global,
+    files: &F,
+    sys: &[u8],
+    link: &[u8],
+    text: &mut Vec<u8>,
+) -> Result<(), AllocError>
+    ensures { F.tells → OnOk result (text.new.items ≡ text.old.items
+        ++ spec.unread_at (seen (F.answers files.now)) sys.now link.now) }
+{
+    match device_of_path(alloc, files, sys, link)? {
+        Some(_place) => Ok(()),
+        None => push_if_unread(alloc, files, sys, link, text),
+    }
+}
+
+/// What is said of what can't be read, so that it can't be told whether a device is there: a line for each.
+///
+/// The only error is want of memory.
+pub fn unread_lines<F: DeviceFiles>(
+    alloc: Global,
+    files: &F,
+    sys: &[u8],
+) -> Result<Vec<u8>, AllocError>
+    ensures { F.tells → IfOk result (λ text. text.items
+        ≡ spec.unread_lines (seen (F.answers files.now)) sys.now) }
+{
+    let links = list_links(alloc, files, sys)?;
+    let mut text = Vec::new(alloc);
+    let mut left = links.as_slice();
+    'links: while let Some((link, rest)) = left.split_first() {
+        push_unread_at(alloc, files, sys, link, &mut text)?;
+        left = rest;
+    }
+    Ok(text)
+}

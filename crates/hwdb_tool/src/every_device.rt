@@ -1,0 +1,129 @@
+//! `device --all`: the strings of all devices. Nothing is written.
+ghost use Rattle.std.specs.Prelude.{◌≡◌, option_map, IfErr, IfOk};
+ghost use Rattle.hwdb_spec_commands.specs.AllStrings as spec;
+ghost use Rattle.hwdb_spec_commands.specs.DatabaseErrors.{IsDatabaseRefusal};
+ghost use Rattle.hwdb_spec_commands.specs.Databases.{IsTextOf};
+ghost use Rattle.hwdb_spec_commands.specs.SysfsAnswers.{sight_by};
+ghost use Rattle.hwdb_spec_program.specs.DeviceErrors.{asked_names};
+ghost use Rattle.hwdb_plan.specs.Asking.{asked};
+ghost use Rattle.hwdb_plan.specs.Device as plan;
+ghost use Rattle.hwdb_plan.specs.Device.{OfCause};
+ghost use Rattle.hwdb_plan.specs.Plans.{Follows};
+ghost use Rattle.hwdb_tool.specs.Views.{end_of};
+
+use crate::answer::Answer;
+use crate::databases::{asked, refused_database};
+use crate::device_command::{device, devices_are_told};
+use crate::missing::sysfs_of;
+use crate::over_text::misused;
+use hwdb_answers::ToolError;
+use hwdb_device::{DeviceForm, all_strings_text, unread_lines};
+use hwdb_reader::check;
+use hwdb_rules::ATTRIBUTES;
+use hwdb_sysfs::DeviceFiles;
+use hwdb_system::{Machine, Refusal};
+use std::alloc::Global;
+
+/// What is said of `--all`, if it is given with a device or without `--strings`.
+fn all_misuse(form: DeviceForm, given: Option<&str>) -> Option<&'static str>
+    ensures { option_map (λ t. t.now) result
+        ≡ plan.all_misuse form (option_map (λ t. t.now) given.entry) }
+{
+    if given.is_some() {
+        return Some("--all and DEVICE are two choices: leave out one of them");
+    }
+    match form {
+        DeviceForm::Strings => None,
+        _ => Some("--all needs --strings, without --json and --pattern"),
+    }
+}
+
+/// As `device`; and with `all` the strings of all devices below the root, each once, over the database there. That is read once. The status
+/// is 0, also if a device can't be read: then a line on standard error says so.
+pub fn devices<D: Machine>(
+    alloc: Global,
+    root: &str,
+    given: Option<&str>,
+    form: DeviceForm,
+    all: bool,
+    system: &D,
+) -> Result<Answer, Refusal>
+    ensures status { IfOk result (λ a. a.status ≡ 0) }
+    ensures follows { D.Store.tells → OfCause (λ cause. Follows end_of
+        (D.System.reads system.now) (plan.device_asked (sight_by D.answers system.now) cause
+        asked_names root.now form all (option_map (λ t. t.now) given.entry)) result) }
+{
+    if all {
+        every(alloc, root, given, form, system)
+    } else {
+        device(alloc, root, given, form, system)
+    }
+}
+
+/// The strings of all devices, unless other words don't fit.
+fn every<D: Machine>(
+    alloc: Global,
+    root: &str,
+    given: Option<&str>,
+    form: DeviceForm,
+    system: &D,
+) -> Result<Answer, Refusal>
+    ensures status { IfOk result (λ a. a.status ≡ 0) }
+    ensures follows { D.Store.tells → OfCause (λ cause. Follows end_of
+        (D.System.reads system.now) (plan.every_plan (sight_by D.answers system.now) cause
+        asked_names root.now form (option_map (λ t. t.now) given.entry)) result) }
+{
+    match all_misuse(form, given) {
+        Some(text) => Err(misused(alloc, text)),
+        None => strings_below(alloc, root, system),
+    }
+}
+
+/// The strings of all devices below the root.
+fn strings_below<D: Machine>(alloc: Global, root: &str, system: &D) -> Result<Answer, Refusal>
+    ensures status { IfOk result (λ a. a.status ≡ 0) }
+    ensures follows { D.Store.tells → OfCause (λ cause. Follows end_of
+        (D.System.reads system.now) (plan.strings_plan (sight_by D.answers system.now) cause
+        asked_names root.now) result) }
+{
+    devices_are_told(system);
+    let sys = sysfs_of(alloc, root, system)?;
+    strings_answer(alloc, root, &sys, system)
+}
+
+/// The same of sysfs at a place, over the database below the root.
+fn strings_answer<D: Machine>(
+    alloc: Global,
+    root: &str,
+    sys: &[u8],
+    system: &D,
+) -> Result<Answer, Refusal>
+    ensures status { IfOk result (λ a. a.status ≡ 0) }
+    ensures follows { D.Store.tells → Follows end_of (D.System.reads system.now)
+        (asked root.now (plan.strings_answer (sight_by D.answers system.now) asked_names sys.now))
+        result }
+{
+    devices_are_told(system);
+    let found = asked(alloc, root, system)?;
+    let told = unread_lines(alloc, system, sys)?;
+    match strings_over(alloc, &found.bytes, sys, system) {
+        Ok(text) => Ok(Answer::with_error(told, text, 0)),
+        Err(error) => Err(refused_database(alloc, error, found.path.as_bytes())),
+    }
+}
+
+/// The same over the bytes of a database.
+fn strings_over<F: DeviceFiles>(
+    alloc: Global,
+    bytes: &[u8],
+    sys: &[u8],
+    files: &F,
+) -> Result<Vec<u8>, ToolError>
+    ensures text { F.tells → IfOk result (λ text. IsTextOf
+        (spec.all_strings_text (sight_by F.answers files.now) asked_names sys.now)
+        bytes.now text.items) }
+    ensures refusals { IfErr result (IsDatabaseRefusal bytes.now) }
+{
+    let db = check(bytes)?;
+    Ok(all_strings_text(alloc, &db, files, ATTRIBUTES.as_bytes(), sys)?)
+}
