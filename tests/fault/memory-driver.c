@@ -155,11 +155,11 @@ static int is_whole(struct answer *is, struct answer *whole) {
            (!database || is_same(is->database, whole->database));
 }
 
-/* Whether a refusal may end with that status: 1; of `diff`, once its words are read, 2. */
+/* Whether a refusal may end with that status: 1; of `diff` and `check`, once its words are read, 2. */
 static int is_refused(int status) {
     if (status == 1) return 1;
     for (char **word = words; *word; word++)
-        if (!strcmp(*word, "diff")) return status == 2;
+        if (!strcmp(*word, "diff") || !strcmp(*word, "check")) return status == 2;
     return 0;
 }
 

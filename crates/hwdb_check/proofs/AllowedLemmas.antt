@@ -5,10 +5,8 @@ use Rattle.std.proofs.lemmas.Bool.{eqb-true}
 use Rattle.std.specs.List.{list_any}
 use Rattle.std.proofs.lemmas.List.Folds.{list_any-append}
 use Rattle.hwdb_spec.specs.Lines.{Line, is, is_none, numbered, pieces}
-use Rattle.hwdb_spec_commands.specs.Findings.{findings_text, line_faults_text, line_findings, line_text}
-use Rattle.hwdb_spec_commands.specs.Warnings.{line_warnings, warnings}
-use Rattle.hwdb_spec_commands.specs.declared.WarningKind.{WarningKind}
-use Rattle.hwdb_spec_commands.specs.AllowedKinds.{Marked, allowed_text, ends_record, file_text, is_kind, left_of_line, left_warnings, marked, marked_from, names_in, names_to_end, told_of_line, told_unknown, unknown_left, unknown_names, warnings_left}
+use Rattle.hwdb_spec_commands.specs.Findings.{Finding, bare_findings, found_faults, found_warnings, line_findings}
+use Rattle.hwdb_spec_commands.specs.AllowedKinds.{Marked, allowed_text, ends_record, file_findings, found_in_line, is_kind, left_of_line, marked, marked_from, names_in, names_to_end, one_unknown, unknown_names}
 use Rattle.hwdb_check.specs.Internal.{line_of}
 use Rattle.hwdb_spec_commands.specs.declared.formats.Format.{Format}
 
@@ -117,35 +115,18 @@ unknown_none text e = ap (λ (l : List (List ℕ)). filter (λ name. not (is_kin
 
 module _ (format : Format) (allowed : List (List ℕ)) (path file : List ℕ) where
   bare_line : (n : ℕ) (text : List ℕ) → allowed_text text ≡ []
-      → left_of_line format allowed path file (record { line = line_of n text; names = [] }) ≡ line_text format (flat_map names_in allowed) path file (line_of n text)
+      → left_of_line format allowed path file (record { line = line_of n text; names = [] }) ≡ found_warnings format (flat_map names_in allowed) path file (line_of n text)
   bare_line n text e =
-      ap (λ (l : List (List ℕ)). flat_map (told_unknown format path (line_of n text)) l ++ line_text format (flat_map names_in allowed ++ []) path file (line_of n text)) (unknown_none text e)
-      ∙ ap (λ (names : List (List ℕ)). line_text format names path file (line_of n text)) (append-nil (flat_map names_in allowed))
+      ap (λ (l : List (List ℕ)). flat_map (one_unknown path (line_of n text)) l ++ found_warnings format (flat_map names_in allowed ++ []) path file (line_of n text)) (unknown_none text e)
+      ∙ ap (λ (names : List (List ℕ)). found_warnings format names path file (line_of n text)) (append-nil (flat_map names_in allowed))
 
-  bare_findings : (n : ℕ) (text : List ℕ) → allowed_text text ≡ []
-      → told_of_line format allowed path file (record { line = line_of n text; names = [] }) ≡ line_findings format (flat_map names_in allowed) path file (line_of n text)
-  bare_findings n text e = ap (λ (l : List ℕ). line_faults_text format path file (line_of n text) ++ l) (bare_line n text e)
+  bare_in_line : (n : ℕ) (text : List ℕ) → allowed_text text ≡ []
+      → found_in_line format allowed path file (record { line = line_of n text; names = [] }) ≡ line_findings format (flat_map names_in allowed) path file (line_of n text)
+  bare_in_line n text e = ap (λ (l : List Finding). found_faults path file (line_of n text) ++ l) (bare_line n text e)
 
-  pub bare_text : list_any (λ text. not (is_none (allowed_text text))) (pieces (is 10) file) ≡ false → (w : List ℕ) → w ≡ findings_text format (flat_map names_in allowed) path file
-      → w ≡ file_text format allowed path file
-  bare_text h w e = e ∙ sym (bare_file (told_of_line format allowed path file) (line_findings format (flat_map names_in allowed) path file) file h bare_findings)
-
-  pub bare_found : list_any (λ text. not (is_none (allowed_text text))) (pieces (is 10) file) ≡ false → (w : List WarningKind) → w ≡ warnings (flat_map names_in allowed) file
-      → w ≡ warnings_left allowed file
-  bare_found h w e =
-      e ∙ sym (bare_file (left_warnings allowed file) (line_warnings (flat_map names_in allowed) file) file h
-      (λ n text f. ap (λ (names : List (List ℕ)). line_warnings names file (line_of n text)) (append-nil (flat_map names_in allowed))))
-
-abbrev no_names_at : Line → List (List ℕ)
-no_names_at l = []
-
-no_lines : (ls : List Line) → flat_map no_names_at ls ≡ []
-no_lines [] = refl
-no_lines (l ∷ ls) = no_lines ls
-
-pub bare_unknown : (file : List ℕ) → list_any (λ text. not (is_none (allowed_text text))) (pieces (is 10) file) ≡ false → [] ≡ unknown_left file
-bare_unknown file h =
-    sym (bare_file (λ m. unknown_names m.line.text) no_names_at file h (λ n text e. unknown_none text e) ∙ no_lines (numbered 1 (pieces (is 10) file)))
+  pub bare_found : list_any (λ text. not (is_none (allowed_text text))) (pieces (is 10) file) ≡ false → (w : List Finding) → w ≡ bare_findings format (flat_map names_in allowed) path file
+      → w ≡ file_findings format allowed path file
+  bare_found h w e = e ∙ sym (bare_file (found_in_line format allowed path file) (line_findings format (flat_map names_in allowed) path file) file h bare_in_line)
 
 -- ---- a loop over the lines
 

@@ -1,14 +1,19 @@
 -- Which lines a comment lets kinds pass in, and how findings are shown beside lines.
 use Rattle.std.proofs.Common.{◌≡◌, ℕ, suc, ◌+◌, List, [], ◌∷◌, ◌++◌, map, take, drop, length, refl, ap, ◌∙◌, sym, arith, Bool, true, false, cond}
 use Rattle.hwdb_spec.specs.Lines.{Line, byte, is, numbered, pieces, trimmed}
-use Rattle.hwdb_spec_commands.specs.AllowedKinds.{Marked, allowed_text, ends_record, marked_from, names_at, names_in, names_to_end, told_unknown}
-use Rattle.hwdb_check.proofs.AllowedLemmas.{bare_text}
+use Rattle.hwdb_spec_commands.specs.AllowedKinds.{Marked, allowed_text, ends_record, found_in_line, left_of_line, marked, marked_from, names_at, names_in, names_to_end, one_unknown, told_unknown, unknown_names}
+use Rattle.hwdb_spec_commands.specs.Findings.{Finding, faults_at, found_faults, one_fault, one_warning}
+use Rattle.hwdb_spec_commands.specs.declared.formats.Format.{Format}
+use Rattle.hwdb_spec.specs.declared.Fault.{Fault}
+use Rattle.hwdb_check.proofs.AllowedLemmas.{bare_found}
 use Rattle.hwdb_check.proofs.FollowLemmas.{all_told}
 use Rattle.hwdb_text.specs.Laws.{FaultsAscend, SectionsAreTheLines}
 use Rattle.hwdb_check.specs.Comments.{BareAreTold, CommentRows, FaultsStay, LeftAreTold, LinesAreMarked, RecordsAreApart}
-use Rattle.std.specs.Prelude.{filter}
+use Rattle.std.specs.Prelude.{filter, flat_map}
+use Rattle.std.proofs.lemmas.List.{append-nil, length-append}
+use Rattle.std.proofs.lemmas.List.Elements.{filter-append}
 use Rattle.hwdb_spec_commands.specs.Kinds.{is_told}
-use Rattle.hwdb_spec_commands.specs.Warnings.{gets, line_kinds, warns}
+use Rattle.hwdb_spec_commands.specs.Warnings.{gets, line_kinds, line_warnings, warns}
 use Rattle.hwdb_spec_commands.specs.declared.WarningKind.{WarningKind}
 use Rattle.hwdb_spec.specs.Lines.{clean_line, is_dropped}
 use Rattle.std.specs.Char.{encode_utf8}
@@ -93,17 +98,62 @@ left_told allowed file m =
     kept_left (names_at allowed m) (is_dropped m.line) _ _ (all_left (names_at allowed m) file m.line (clean_line m.line) (line_kinds file (clean_line m.line)))
 
 pub bare_told : BareAreTold
-bare_told format allowed path file h = sym (bare_text format allowed path file h _ refl)
+bare_told format allowed path file h = sym (bare_found format allowed path file h _ refl)
+
+-- ---- how many faults there are
+
+faults_all : (path text : List ℕ) (fs : List Fault) → length (filter (λ f. f.fault) (flat_map (one_fault path text) fs)) ≡ length fs
+unfolding one_fault
+faults_all path text [] = refl
+faults_all path text (f ∷ fs) = ap suc (faults_all path text fs)
+
+no_unknown : (path : List ℕ) (l : Line) (names : List (List ℕ)) → filter (λ f. f.fault) (flat_map (one_unknown path l) names) ≡ []
+unfolding one_unknown
+no_unknown path l [] = refl
+no_unknown path l (n ∷ ns) = no_unknown path l ns
+
+no_warning : (format : Format) (path : List ℕ) (l : Line) (ks : List WarningKind) → filter (λ f. f.fault) (flat_map (one_warning format path l) ks) ≡ []
+unfolding one_warning
+no_warning format path l [] = refl
+no_warning format path l (k ∷ ks) = no_warning format path l ks
+
+module _ (format : Format) (allowed : List (List ℕ)) (path file : List ℕ) where
+  none_left : (m : Marked) → filter (λ f. f.fault) (left_of_line format allowed path file m) ≡ []
+  none_left m =
+      filter-append (λ f. f.fault) (flat_map (one_unknown path m.line) (unknown_names m.line.text)) (flat_map (one_warning format path m.line) (line_warnings (names_at allowed m) file m.line))
+      ∙ ap (λ (l : List Finding). l ++ filter (λ f. f.fault) (flat_map (one_warning format path m.line) (line_warnings (names_at allowed m) file m.line))) (no_unknown path m.line (unknown_names m.line.text))
+      ∙ no_warning format path m.line (line_warnings (names_at allowed m) file m.line)
+
+  in_line : (m : Marked) → length (filter (λ f. f.fault) (found_in_line format allowed path file m)) ≡ length (faults_at file m.line.number)
+  in_line m =
+      ap length (filter-append (λ f. f.fault) (found_faults path file m.line) (left_of_line format allowed path file m))
+      ∙ ap (λ (l : List Finding). length (filter (λ f. f.fault) (found_faults path file m.line) ++ l)) (none_left m)
+      ∙ ap length (append-nil (filter (λ f. f.fault) (found_faults path file m.line)))
+      ∙ faults_all path m.line.text (faults_at file m.line.number)
+
+  in_lines : (ms : List Marked) → length (filter (λ f. f.fault) (flat_map (found_in_line format allowed path file) ms)) ≡ length (flat_map (λ m. faults_at file m.line.number) ms)
+  in_lines [] = refl
+  in_lines (m ∷ ms) =
+      ap length (filter-append (λ f. f.fault) (found_in_line format allowed path file m) (flat_map (found_in_line format allowed path file) ms))
+      ∙ length-append (filter (λ f. f.fault) (found_in_line format allowed path file m)) (filter (λ f. f.fault) (flat_map (found_in_line format allowed path file) ms))
+      ∙ ap (λ (n : ℕ). n + length (filter (λ f. f.fault) (flat_map (found_in_line format allowed path file) ms))) (in_line m)
+      ∙ ap (λ (n : ℕ). length (faults_at file m.line.number) + n) (in_lines ms)
+      ∙ sym (length-append (faults_at file m.line.number) (flat_map (λ m. faults_at file m.line.number) ms))
+
+by_line : (file : List ℕ) (ms : List Marked) → flat_map (λ m. faults_at file m.line.number) ms ≡ flat_map (λ l. faults_at file l.number) (map (λ m. m.line) ms)
+by_line file [] = refl
+by_line file (m ∷ ms) = ap (λ (fs : List Fault). faults_at file m.line.number ++ fs) (by_line file ms)
 
 pub faults_stay : SectionsAreTheLines → FaultsAscend → FaultsStay
 faults_stay law ascend = record {
   printed = λ format allowed path file. refl;
   each = all_told law ascend;
-  counted = λ allowed file. refl;
+  counted = λ format allowed path file.
+      in_lines format allowed path file (marked file) ∙ ap length (by_line file (marked file) ∙ ap (λ (ls : List Line). flat_map (λ l. faults_at file l.number) ls) (lines_marked file) ∙ all_told law ascend file);
 }
 
 pub comment_rows : CommentRows
-unfolding pieces numbered trimmed names_to_end marked_from digits encode_with visible_after is_utf8 chars encode_utf8 told_unknown
+unfolding pieces numbered trimmed names_to_end marked_from digits encode_with visible_after is_utf8 chars encode_utf8 told_unknown one_unknown one_fault one_warning
 comment_rows = record {
   names = refl;
   ends = refl;

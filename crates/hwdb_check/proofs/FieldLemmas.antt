@@ -1,5 +1,5 @@
 -- A search for the name of a field, step by step.
-use Rattle.std.proofs.Common.{◌≡◌, ◌∙◌, ◌+◌, ◌<◌, ap, refl, sym, arith, ℕ, Bool, true, false, List, [], ◌∷◌, drop, length, None, Some, Option}
+use Rattle.std.proofs.Common.{◌≡◌, ◌∙◌, ◌+◌, ◌<◌, ap, refl, sym, arith, ℕ, Bool, true, false, List, [], ◌∷◌, drop, length, Some}
 use Rattle.std.specs.Prelude.{codes, if◌then◌else◌, nat_eq}
 use Rattle.std.specs.List.{starts_with}
 use Rattle.std.proofs.lemmas.List.{drop-drop, length-drop}

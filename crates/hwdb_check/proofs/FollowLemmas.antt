@@ -1,5 +1,5 @@
 -- The faults of a file, as its lines are read one after another.
-use Rattle.std.proofs.Common.{add-one, append-nil, append_assoc, ◌≡◌, ℕ, suc, ◌+◌, ◌<◌, ◌≤◌, ◌==◌, Bool, true, false, nat_lt, List, [], ◌∷◌, ◌++◌, map, drop, get_or, length, refl, ap, ◌∙◌, sym, subst, arith, ne_eqb, eq-eqb, eqb-true, not, cond}
+use Rattle.std.proofs.Common.{add-one, append-nil, append_assoc, ◌≡◌, ℕ, ◌+◌, ◌<◌, ◌≤◌, ◌==◌, Bool, true, false, nat_lt, List, [], ◌∷◌, ◌++◌, map, drop, get_or, length, refl, ap, ◌∙◌, sym, subst, arith, ne_eqb, eq-eqb, eqb-true, not, cond}
 use Rattle.std.specs.Prelude.{filter, flat_map}
 use Rattle.std.specs.List.{AllByRecursion}
 use Rattle.std.specs.List.Sorted.{IsStrictlySortedBy}
@@ -13,14 +13,14 @@ use Rattle.hwdb_spec.specs.Lines.{Line, clean, clean_line, has_equals, has_key, 
 use Rattle.hwdb_spec.specs.Records.{Section, all_faults, by_line, fault, fault_cmp, fault_number, faults, lonely_faults, long_faults, property_faults, section_faults, sections, spoilt_faults, with_fault}
 use Rattle.hwdb_spec.specs.declared.Fault.{Fault}
 use Rattle.hwdb_spec.specs.declared.FaultKind.{FaultKind}
-use Rattle.hwdb_spec.specs.declared.FaultKind.TheVariants.{EmptyKey, LongMatch, NoEquals, NoProperty, StrayMatch, StrayProperty, ZeroByte}
+use Rattle.hwdb_spec.specs.declared.FaultKind.TheVariants.{EmptyKey, LongMatch, NoEquals, StrayMatch, StrayProperty, ZeroByte}
 use Rattle.std.specs.Ordering.{is_gt}
-use Rattle.hwdb_spec_commands.specs.Findings.{faults_at, findings_text, line_text, told_fault}
+use Rattle.hwdb_spec_commands.specs.Findings.{Finding, bare_findings, faults_at, found_warnings, one_fault}
 use Rattle.hwdb_spec_commands.specs.declared.formats.Format.{Format}
 use Rattle.hwdb_text.specs.Laws.{FaultsAscend, SectionsAreTheLines, lines_of}
 use Rattle.hwdb_check.specs.Following.{AreFrom, IsNext}
 use Rattle.hwdb_check.specs.Internal.{line_of}
-use Rattle.hwdb_check.specs.Plain.{warnings_text}
+use Rattle.hwdb_check.specs.Plain.{plain_findings}
 
 -- whether a fault is of the line with this number
 abbrev of_line : ℕ → Fault → Bool
@@ -49,11 +49,11 @@ module _ (all : List Fault) (next : ℕ) (d : Fault) (n : ℕ) (h : next < lengt
   front = drop-cons all next d h ∙ ap (λ (k : ℕ). get_or all next d ∷ drop k all) (sym (add-one next))
 
   -- a fault of the line is told
-  pub told_step : (told : Fault → List ℕ) (before after whole : List ℕ) → (get_or all next d).line ≡ n → after ≡ before ++ told (get_or all next d)
+  pub told_step : {A : Type 0} (told : Fault → List A) (before after whole : List A) → (get_or all next d).line ≡ n → after ≡ before ++ told (get_or all next d)
       → before ++ flat_map told (filter (of_line n) (drop next all)) ≡ whole → after ++ flat_map told (filter (of_line n) (drop (next + 1) all)) ≡ whole
-  told_step told before after whole own grown so_far =
-      let rest : List ℕ = flat_map told (filter (of_line n) (drop (next + 1) all)) in
-      ap (λ (l : List ℕ). l ++ rest) grown ∙ append_assoc before (told (get_or all next d)) rest
+  told_step {A = A} told before after whole own grown so_far =
+      let rest : List A = flat_map told (filter (of_line n) (drop (next + 1) all)) in
+      ap (λ (l : List A). l ++ rest) grown ∙ append_assoc before (told (get_or all next d)) rest
       ∙ ap (λ (fs : List Fault). before ++ flat_map told fs) (sym (ap (filter (of_line n)) front ∙ kept_front n (get_or all next d) (drop (next + 1) all) own))
       ∙ so_far
 
@@ -80,7 +80,7 @@ module _ (all : List Fault) (next : ℕ) (d : Fault) (n : ℕ) (h : next < lengt
           above : (a b : ℕ) → a ≤ b → (b ≡ a → ⊥) → a + 1 ≤ b
           above a b l e = omega (arith, l, e)
 
-  pub told_before : (told : Fault → List ℕ) (before whole : List ℕ) → ((get_or all next d).line ≡ n → ⊥) → AreFrom n (drop next all)
+  pub told_before : {A : Type 0} (told : Fault → List A) (before whole : List A) → ((get_or all next d).line ≡ n → ⊥) → AreFrom n (drop next all)
       → before ++ flat_map told (filter (of_line n) (drop next all)) ≡ whole → before ≡ whole
   told_before told before whole other from so_far =
       sym (append-nil before) ∙ ap (λ (fs : List Fault). before ++ flat_map told fs) (sym (none_before n (n + 1) (drop next all) (later other from) (omega arith))) ∙ so_far
@@ -90,7 +90,7 @@ module _ (all : List Fault) (next : ℕ) (d : Fault) (n : ℕ) (h : next < lengt
   next_later other from same = record { within = omega (arith, h); same = same; from = later other from }
 
 -- no fault is left
-pub told_all : (all : List Fault) (next n : ℕ) (told : Fault → List ℕ) (before whole : List ℕ) → length all ≤ next
+pub told_all : {A : Type 0} (all : List Fault) (next n : ℕ) (told : Fault → List A) (before whole : List A) → length all ≤ next
     → before ++ flat_map told (filter (of_line n) (drop next all)) ≡ whole → before ≡ whole
 told_all all next n told before whole h so_far =
     sym (append-nil before) ∙ ap (λ (fs : List Fault). before ++ flat_map told (filter (of_line n) fs)) (sym (drop_all next all h)) ∙ so_far
@@ -286,23 +286,23 @@ all_told law ascend file =
 
 -- ---- files without faults
 
-none_in : (format : Format) (path : List ℕ) (fs : List Fault) (ls : List Line) (rest : Line → List ℕ) → fs ≡ []
-    → flat_map (λ l. flat_map (told_fault format path l.text) (filter (of_line l.number) fs) ++ rest l) ls ≡ flat_map rest ls
-none_in format path fs [] rest e = refl
-none_in format path fs (l ∷ ls) rest e =
-    ap (λ (gs : List Fault). (flat_map (told_fault format path l.text) (filter (of_line l.number) gs) ++ rest l)
-    ++ flat_map (λ l. flat_map (told_fault format path l.text) (filter (of_line l.number) fs) ++ rest l) ls) e
-    ∙ ap (λ (t : List ℕ). rest l ++ t) (none_in format path fs ls rest e)
+none_in : (path : List ℕ) (fs : List Fault) (ls : List Line) (rest : Line → List Finding) → fs ≡ []
+    → flat_map (λ l. flat_map (one_fault path l.text) (filter (of_line l.number) fs) ++ rest l) ls ≡ flat_map rest ls
+none_in path fs [] rest e = refl
+none_in path fs (l ∷ ls) rest e =
+    ap (λ (gs : List Fault). (flat_map (one_fault path l.text) (filter (of_line l.number) gs) ++ rest l)
+    ++ flat_map (λ l. flat_map (one_fault path l.text) (filter (of_line l.number) fs) ++ rest l) ls) e
+    ∙ ap (λ (t : List Finding). rest l ++ t) (none_in path fs ls rest e)
 
-pub without_faults : (format : Format) (allowed : List (List ℕ)) (path file w : List ℕ) → faults file ≡ [] → w ≡ warnings_text format allowed path file
-    → w ≡ findings_text format allowed path file
-without_faults format allowed path file w none e = e ∙ sym (none_in format path (faults file) (lines file) (line_text format allowed path file) none)
+pub without_faults : (format : Format) (allowed : List (List ℕ)) (path file : List ℕ) (w : List Finding) → faults file ≡ [] → w ≡ plain_findings format allowed path file
+    → w ≡ bare_findings format allowed path file
+without_faults format allowed path file w none e = e ∙ sym (none_in path (faults file) (lines file) (found_warnings format allowed path file) none)
 
 -- ---- a line of a file
 
 -- a text that is added in two pieces
-pub two_pieces : (a b c one two : List ℕ) → b ≡ a ++ one → c ≡ b ++ two → c ≡ a ++ (one ++ two)
-two_pieces a b c one two e f = f ∙ ap (λ (l : List ℕ). l ++ two) e ∙ append_assoc a one two
+pub two_pieces : {A : Type 0} (a b c one two : List A) → b ≡ a ++ one → c ≡ b ++ two → c ≡ a ++ (one ++ two)
+two_pieces {A = A} a b c one two e f = f ∙ ap (λ (l : List A). l ++ two) e ∙ append_assoc a one two
 
 -- one line more
 pub line_step : {A : Type 0} (f : Line → List A) (before after whole : List A) (n : ℕ) (ts : List (List ℕ)) (text : List ℕ) (rest : List (List ℕ)) → ts ≡ text ∷ rest

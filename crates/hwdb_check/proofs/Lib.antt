@@ -22,3 +22,5 @@ pub mod PieceLemmas
 pub mod KeptLemmas
 pub mod FollowLemmas
 pub mod FixLemmas
+pub mod BaselineLemmas
+pub mod PassLemmas

@@ -5,9 +5,8 @@ use Rattle.std.specs.List.{onto_first, position_or_len}
 use Rattle.std.proofs.lemmas.Bool.{eqb-true, ltb-false, ltb-true}
 use Rattle.std.proofs.lemmas.List.{drop-drop, take_all}
 use Rattle.hwdb_spec.specs.Lines.{Line, begins_with, clean_line, is, is_blank, numbered, pieces}
-use Rattle.hwdb_spec_commands.specs.Findings.{line_text, told_warning}
-use Rattle.hwdb_spec_commands.specs.Warnings.{is_cut, line_warnings}
-use Rattle.hwdb_spec_commands.specs.declared.WarningKind.{WarningKind}
+use Rattle.hwdb_spec_commands.specs.Findings.{Finding, found_warnings, one_warning}
+use Rattle.hwdb_spec_commands.specs.Warnings.{is_cut}
 use Rattle.hwdb_check.specs.Internal.{line_of}
 use Rattle.hwdb_check.specs.Lemmas.Pieces.{line_at, no_line_at}
 use Rattle.hwdb_check.specs.Plain.{AreQuiet, IsQuiet, IsTame}
@@ -127,19 +126,12 @@ tame_uncut (x ∷ t) h n = go (nat_lt (position_or_len (is 35) (x ∷ t)) (lengt
         let above = ltb-false (position_or_len (is 35) (x ∷ t)) (length (x ∷ t)) l in
         uncut_without (x ∷ t) (let within = position_within (x ∷ t) in omega (arith, within, above))
 
-none_warned : (file : List ℕ) (allowed : List (List ℕ)) (n : ℕ) (ps : List (List ℕ)) → AreTame 10 ps → AreQuiet file (numbered n ps) → flat_map (line_warnings allowed file) (numbered n ps) ≡ []
-unfolding numbered
-none_warned file allowed n [] h q = refl
-none_warned file allowed n (p ∷ ps) h q =
-    ap (λ ks. ks ++ flat_map (line_warnings allowed file) (numbered (n + 1) ps)) (no_warnings file (line_of n p) q.0 (tame_uncut p h.0) allowed)
-    ∙ none_warned file allowed (n + 1) ps h.1 q.1
-
 none_told : (format : Format) (path file : List ℕ) (allowed : List (List ℕ)) (n : ℕ) (ps : List (List ℕ)) → AreTame 10 ps → AreQuiet file (numbered n ps)
-    → flat_map (line_text format allowed path file) (numbered n ps) ≡ []
+    → flat_map (found_warnings format allowed path file) (numbered n ps) ≡ []
 unfolding numbered
 none_told format path file allowed n [] h q = refl
 none_told format path file allowed n (p ∷ ps) h q =
-    ap (λ ks. flat_map (told_warning format path (line_of n p)) ks ++ flat_map (line_text format allowed path file) (numbered (n + 1) ps)) (no_warnings file (line_of n p) q.0 (tame_uncut p h.0) allowed)
+    ap (λ ks. flat_map (one_warning format path (line_of n p)) ks ++ flat_map (found_warnings format allowed path file) (numbered (n + 1) ps)) (no_warnings file (line_of n p) q.0 (tame_uncut p h.0) allowed)
     ∙ none_told format path file allowed (n + 1) ps h.1 q.1
 
 -- a line of which the first bytes are tame, and that has no more
@@ -212,14 +204,8 @@ quiet_on file n at end rest h r e q = subst (λ (ps : List (List ℕ)). AreQuiet
 rest_tame : (file : List ℕ) (at quiet : ℕ) → length (drop at file) ≤ quiet → IsTame 10 (take quiet (drop at file)) → AreTame 10 (pieces (is 10) (drop at file))
 rest_tame file at quiet h e = tame_lines 10 (drop at file) (subst (IsTame 10) (take_all quiet (drop at file) h) e)
 
-pub told_tame : (format : Format) (allowed : List (List ℕ)) (path file rest so_far whole : List ℕ) (n at quiet : ℕ) → rest ≡ drop at file → length rest ≤ quiet → IsTame 10 (take quiet (drop at file))
-    → AreQuiet file (numbered n (pieces (is 10) (drop at file))) → so_far ++ flat_map (line_text format allowed path file) (numbered n (pieces (is 10) (drop at file))) ≡ whole → so_far ≡ whole
+pub told_tame : (format : Format) (allowed : List (List ℕ)) (path file rest : List ℕ) (so_far whole : List Finding) (n at quiet : ℕ) → rest ≡ drop at file → length rest ≤ quiet → IsTame 10 (take quiet (drop at file))
+    → AreQuiet file (numbered n (pieces (is 10) (drop at file))) → so_far ++ flat_map (found_warnings format allowed path file) (numbered n (pieces (is 10) (drop at file))) ≡ whole → so_far ≡ whole
 told_tame format allowed path file rest so_far whole n at quiet r h e q told =
-    told_rest (line_text format allowed path file) file so_far whole n at
+    told_rest (found_warnings format allowed path file) file so_far whole n at
     (none_told format path file allowed n (pieces (is 10) (drop at file)) (rest_tame file at quiet (omega (arith, h, ap length r)) e) q) told
-
-pub found_tame : (allowed : List (List ℕ)) (file rest : List ℕ) (so_far whole : List WarningKind) (n at quiet : ℕ) → rest ≡ drop at file → length rest ≤ quiet → IsTame 10 (take quiet (drop at file))
-    → AreQuiet file (numbered n (pieces (is 10) (drop at file))) → so_far ++ flat_map (line_warnings allowed file) (numbered n (pieces (is 10) (drop at file))) ≡ whole → so_far ≡ whole
-found_tame allowed file rest so_far whole n at quiet r h e q told =
-    told_rest (line_warnings allowed file) file so_far whole n at
-    (none_warned file allowed n (pieces (is 10) (drop at file)) (rest_tame file at quiet (omega (arith, h, ap length r)) e) q) told

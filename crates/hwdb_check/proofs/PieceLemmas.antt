@@ -1,10 +1,13 @@
 -- A text that is added in four pieces. And hints and lines as they were meant, which don't depend on a line's number.
 use Rattle.std.proofs.Common.{◌≡◌, ◌∙◌, ◌++◌, ℕ, List, ap, append_assoc, refl}
+use Rattle.hwdb_spec_commands.specs.Findings.{fix_for}
 use Rattle.hwdb_spec_commands.specs.Fixes.{fix}
 use Rattle.hwdb_spec_commands.specs.Warnings.{warning_hint}
 use Rattle.hwdb_spec_commands.specs.declared.WarningKind.{WarningKind}
 use Rattle.hwdb_spec_commands.specs.declared.WarningKind.TheVariants.{ByteOrderMark, CarriageReturn, CutValue, EmptyRange, LeadingTab, MayBeTooDeep, Misused, OpenBracket, RepeatedMatch, Replaced, SpacedEquals, TooLongForUdev, Unlikely, Unmatched, Unpaired, Unread}
 use Rattle.hwdb_spec_commands.specs.declared.vocabulary.Misuse.TheVariants.{NearName, OldName, ScanCode, SingularMatrix, TwoDefaults, UnfitValue, UnknownKey, ZeroRow}
+use Rattle.hwdb_spec_commands.specs.declared.formats.Format.{Format}
+use Rattle.hwdb_spec_commands.specs.declared.formats.Format.TheVariants.{Github, Json as JsonLines, Sarif, Text as Reports}
 use Rattle.hwdb_check.specs.Internal.{line_of}
 
 pub four_pieces : (a b c d one two three four : List ℕ) → b ≡ a ++ one → c ≡ b ++ two → d ≡ c ++ three → d ++ four ≡ a ++ (one ++ (two ++ (three ++ four)))
@@ -30,7 +33,7 @@ same_hint (Unlikely told) n m t = refl
 same_hint TooLongForUdev n m t = refl
 same_hint MayBeTooDeep n m t = refl
 
-pub same_fix : (kind : WarningKind) (n m : ℕ) (t source : List ℕ) → fix kind (line_of n t) source ≡ fix kind (line_of m t) source
+same_fix : (kind : WarningKind) (n m : ℕ) (t source : List ℕ) → fix kind (line_of n t) source ≡ fix kind (line_of m t) source
 same_fix ByteOrderMark n m t source = refl
 same_fix LeadingTab n m t source = refl
 same_fix CarriageReturn n m t source = refl
@@ -54,3 +57,9 @@ same_fix (Unmatched told) n m t source = refl
 same_fix (Unlikely told) n m t source = refl
 same_fix TooLongForUdev n m t source = refl
 same_fix MayBeTooDeep n m t source = refl
+
+pub same_fix_for : (format : Format) (kind : WarningKind) (n m : ℕ) (t source : List ℕ) → fix_for format kind (line_of n t) source ≡ fix_for format kind (line_of m t) source
+same_fix_for Reports kind n m t source = refl
+same_fix_for JsonLines kind n m t source = same_fix kind n m t source
+same_fix_for Github kind n m t source = refl
+same_fix_for Sarif kind n m t source = same_fix kind n m t source

@@ -409,11 +409,8 @@ no_warnings file l q uncut allowed = go (is_dropped l) refl
     go true e = refl
     go false e = q e (uncut (no_comment (begins_with 35 l.text) (has 0 l.text) e)) allowed
 
-pub nothing_told : (f : WarningKind → List ℕ) (old : List ℕ) (kinds : List WarningKind) → kinds ≡ [] → old ≡ old ++ flat_map f kinds
+pub nothing_told : {A : Type 0} (f : WarningKind → List A) (old : List A) (kinds : List WarningKind) → kinds ≡ [] → old ≡ old ++ flat_map f kinds
 nothing_told f old kinds e = sym (append-nil old) ∙ ap (λ (ks : List WarningKind). old ++ flat_map f ks) (sym e)
-
-pub nothing_found : (old kinds : List WarningKind) → kinds ≡ [] → old ≡ old ++ kinds
-nothing_found old kinds e = sym (append-nil old) ∙ ap (λ (ks : List WarningKind). old ++ ks) (sym e)
 
 pub first_quiet : (file : List ℕ) (n : ℕ) (t : List ℕ) (rest left : List (List ℕ)) → left ≡ t ∷ rest → AreQuiet file (numbered n left) → IsQuiet file (line_of n t) × AreQuiet file (numbered (n + 1) rest)
 unfolding numbered

@@ -1,11 +1,11 @@
 -- What the laws say of comments that let kinds of warnings pass. A definition that said less would be noticed here.
-use Rattle.std.specs.Prelude.{◌+◌, ◌≡◌, ◌++◌, ◌∷◌, List, [], Bool, true, false, codes, drop, filter, flat_map, length, map, not, take, ℕ}
+use Rattle.std.specs.Prelude.{◌+◌, ◌≡◌, ◌++◌, ◌∷◌, List, [], true, false, codes, drop, filter, flat_map, length, map, not, take, ℕ}
 use Rattle.std.specs.List.{list_any}
 use Rattle.hwdb_spec.specs.Lines.{is, is_none, lines, pieces}
 use Rattle.hwdb_spec.specs.Records.{faults}
-use Rattle.hwdb_spec_commands.specs.AllowedKinds.{Marked, allowed_text, comment_place, ends_record, file_text, left_of_line, left_warnings, marked, marked_from, names_at, names_in, names_to_end, told_unknown, unknown_hint, unknown_names, warnings_left}
-use Rattle.hwdb_spec_commands.specs.Checks.{tally_of}
-use Rattle.hwdb_spec_commands.specs.Findings.{faults_at, findings_text, line_faults_text}
+use Rattle.hwdb_spec_commands.specs.AllowedKinds.{Marked, allowed_text, comment_place, ends_record, file_findings, left_of_line, left_warnings, marked, marked_from, names_at, names_in, names_to_end, told_unknown, unknown_hint, unknown_names, warnings_left}
+use Rattle.hwdb_spec_commands.specs.Checks.{empty_tally, with_found}
+use Rattle.hwdb_spec_commands.specs.Findings.{bare_findings, faults_at, found_faults}
 use Rattle.hwdb_spec_commands.specs.Kinds.{is_told}
 use Rattle.hwdb_spec_commands.specs.Warnings.{line_warnings, warnings}
 use Rattle.hwdb_spec_commands.specs.declared.formats.Format.{Format}
@@ -35,15 +35,16 @@ LeftAreTold =
 abbrev pub BareAreTold : Type 0
 BareAreTold =
     (format : Format) (allowed : List (List ℕ)) (path file : List ℕ) → list_any (λ text. not (is_none (allowed_text text))) (pieces (is 10) file) ≡ false
-    → file_text format allowed path file ≡ findings_text format (flat_map names_in allowed) path file
+    → file_findings format allowed path file ≡ bare_findings format (flat_map names_in allowed) path file
 
 -- No word and no comment lets a fault pass: faults are printed and counted, whatever is allowed. They are printed by line, each with the
 -- line that has it, in their order; what is left of this line comes after them.
 pub record FaultsStay : Type 0 where
   pub printed : (format : Format) (allowed : List (List ℕ)) (path file : List ℕ)
-      → file_text format allowed path file ≡ flat_map (λ m. line_faults_text format path file m.line ++ left_of_line format allowed path file m) (marked file)
+      → file_findings format allowed path file ≡ flat_map (λ m. found_faults path file m.line ++ left_of_line format allowed path file m) (marked file)
   pub each : (file : List ℕ) → flat_map (λ l. faults_at file l.number) (lines file) ≡ faults file
-  pub counted : (allowed : List (List ℕ)) (file : List ℕ) → (tally_of allowed file).faults ≡ length (faults file)
+  pub counted : (format : Format) (allowed : List (List ℕ)) (path file : List ℕ)
+      → (with_found empty_tally (file_findings format allowed path file)).faults ≡ length (faults file)
 
 -- the names at each line of a file
 abbrev pub names_by_line : (file : List ℕ) → List (List (List ℕ))
@@ -62,7 +63,7 @@ pub record CommentRows : Type 0 where
   pub unknown : unknown_names (codes "# hwdb: allow unred, unread, no-equals") ≡ codes "unred" ∷ codes "no-equals" ∷ []
   pub meant : unknown_hint (codes "unred") ≡ codes "did you mean unread?"
   pub fault : unknown_hint (codes "no-equals") ≡ codes "hwdb-format(7) has all kinds; a fault can't be allowed"
-  pub empty : file_text JsonLines [] (codes "f") [] ≡ findings_text JsonLines [] (codes "f") []
+  pub empty : file_findings JsonLines [] (codes "f") [] ≡ bare_findings JsonLines [] (codes "f") []
   pub none : warnings_left [] [] ≡ warnings [] []
   pub place : comment_place (codes " K=1 # hwdb: allow x") ≡ 5
   pub report : told_unknown Reports (codes "f") (record { number = 3; text = codes "# hwdb: allow unred" }) (codes "unred")

@@ -4,6 +4,8 @@ pub mod Laws
 pub mod Mending
 pub mod Plain
 pub mod Found
+pub mod Known
+pub mod Passing
 pub mod Comments
 pub mod Leaving
 pub mod Lemmas

@@ -4,7 +4,7 @@ use Rattle.std.specs.List.{list_any, starts_with}
 use Rattle.hwdb_spec.specs.Assignment.{Assignment}
 use Rattle.hwdb_spec.specs.Lines.{Line, begins_with, byte, clean_line, has, is_blank, is_dropped, is_indent, lines}
 use Rattle.hwdb_spec.specs.Records.{faults}
-use Rattle.hwdb_spec_commands.specs.Findings.{line_text}
+use Rattle.hwdb_spec_commands.specs.Findings.{Finding, found_warnings}
 use Rattle.hwdb_spec_commands.specs.Surroundings.{is_unpaired, is_unread}
 use Rattle.hwdb_spec_commands.specs.Unmatched.{is_unmatched, judgement_of, likelihood_of}
 use Rattle.hwdb_spec_commands.specs.Warnings.{all_warnings, greatest, is_cut, is_too_long, may_be_too_deep, repeated_lines, replacing}
@@ -44,9 +44,9 @@ abbrev pub AreQuiet : (file : List ℕ) → List Line → Type 0
 AreQuiet file [] = Unit {0}
 AreQuiet file (l ∷ more) = IsQuiet file l × AreQuiet file more
 
--- what is printed of the warnings of a file, by line
-abbrev pub warnings_text : Format → (allowed : List (List ℕ)) → (path file : List ℕ) → List ℕ
-warnings_text format allowed path file = flat_map (line_text format allowed path file) (lines file)
+-- the findings of the warnings of a file, by line
+abbrev pub plain_findings : Format → (allowed : List (List ℕ)) → (path file : List ℕ) → List Finding
+plain_findings format allowed path file = flat_map (found_warnings format allowed path file) (lines file)
 
 -- a file without faults in which nothing is repeated, replaced, unread or unpaired, and of quiet lines
 pub record IsPlainFile (file : List ℕ) : Type 0 where

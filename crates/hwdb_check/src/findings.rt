@@ -1,5 +1,5 @@
 //! What is found in a line, in each format.
-ghost use Rattle.std.specs.Prelude.{◌≡◌, ◌++◌, ◌∷◌, IfOk, OnOk, codes, option_map, string_bytes};
+ghost use Rattle.std.specs.Prelude.{◌≡◌, ◌++◌, ◌∷◌, [], IfOk, OnOk, codes, option_map, string_bytes};
 ghost use Rattle.std.specs.Fmt.{decimal};
 ghost use Rattle.std.specs.Str.{bytes_eq};
 ghost use Rattle.json.specs.Tree.{json_tokens};
@@ -13,7 +13,7 @@ ghost use Rattle.hwdb_spec_commands.specs.Json.{json_line};
 ghost use Rattle.hwdb_spec_commands.specs.Logs.{result_line};
 ghost use Rattle.hwdb_spec_commands.specs.Reports.{hint_line};
 ghost use Rattle.hwdb_show.specs.JsonTokens.{tokens_of_members};
-ghost use Rattle.hwdb_check.specs.Found.{finding_of};
+ghost use Rattle.hwdb_check.specs.Found.{finding_of, finds, kept_of};
 
 use crate::annotations::{Annotation, push_annotation};
 use crate::logs::push_result;
@@ -44,6 +44,29 @@ pub struct Finding<'a> {
     pub source: &'a [u8],
     /// The line as it was likely meant, if that is sure.
     pub fix: &'a Option<Vec<u8>>,
+}
+
+/// The same, kept.
+#[derive(Drop)]
+pub struct Found {
+    /// The path that is printed for its file.
+    pub path: Vec<u8>,
+    /// The line, from 1.
+    pub line: u64,
+    /// How many bytes of the line come before its place.
+    pub place: usize,
+    /// Whether it is a fault; else it is a warning.
+    pub fault: bool,
+    /// The name of its kind.
+    pub kind: &'static str,
+    /// What is found.
+    pub text: Vec<u8>,
+    /// What to do about it.
+    pub hint: Vec<u8>,
+    /// The line.
+    pub source: Vec<u8>,
+    /// The line as it was likely meant, if that is sure.
+    pub fix: Option<Vec<u8>>,
 }
 
 /// Lines of JSON, or reports.
@@ -112,14 +135,13 @@ pub fn push_count(text: &mut Vec<u8>, number: u64) -> Result<(), AllocError>
     Ok(())
 }
 
-/// Adds its path and line.
-fn push_line_place(text: &mut Vec<u8>, found: &Finding<'_>) -> Result<(), AllocError>
-    ensures { OnOk result (text.new.items
-        ≡ text.old.items ++ place_text found.now.path.now found.now.line) }
+/// Adds a path and a line.
+pub fn push_place(text: &mut Vec<u8>, path: &[u8], line: u64) -> Result<(), AllocError>
+    ensures { OnOk result (text.new.items ≡ text.old.items ++ place_text path.now line) }
 {
-    push_name(text, found.path)?;
+    push_name(text, path)?;
     text.push(b':')?;
-    push_count(text, found.line)
+    push_count(text, line)
 }
 
 /// Adds its column and severity, after colons.
@@ -153,7 +175,7 @@ fn push_finding_line(text: &mut Vec<u8>, found: &Finding<'_>) -> Result<(), Allo
     ensures { OnOk result (text.new.items
         ≡ text.old.items ++ Findings.finding_line (finding_of found.now)) }
 {
-    push_line_place(text, found)?;
+    push_place(text, found.path, found.line)?;
     push_severity(text, found)?;
     push_named(text, found)
 }
@@ -297,4 +319,83 @@ pub fn push_finding(
         Format::Github => push_github(alloc, text, found),
         Format::Sarif => push_sarif(alloc, text, found),
     }
+}
+
+/// A text, if there is one. The only error, here and below, is `AllocError`.
+fn copy_of(alloc: Global, text: &Option<Vec<u8>>) -> Result<Option<Vec<u8>>, AllocError>
+    ensures { IfOk result (λ copy.
+        option_map (λ t. t.items) copy ≡ option_map (λ t. t.items) text.now) }
+{
+    match text {
+        Some(bytes) => Ok(Some(Vec::from_slice(alloc, bytes)?)),
+        None => Ok(None),
+    }
+}
+
+/// A finding that is kept.
+fn kept(alloc: Global, found: &Finding<'_>) -> Result<Found, AllocError>
+    ensures { IfOk result (λ copy. kept_of copy ≡ finding_of found.now) }
+{
+    Ok(Found {
+        path: Vec::from_slice(alloc, found.path)?,
+        line: found.line,
+        place: found.place,
+        fault: found.fault,
+        kind: found.kind,
+        text: Vec::from_slice(alloc, found.text)?,
+        hint: Vec::from_slice(alloc, found.hint)?,
+        source: Vec::from_slice(alloc, found.source)?,
+        fix: copy_of(alloc, found.fix)?,
+    })
+}
+
+/// Adds a finding to others.
+pub fn put_found(alloc: Global, all: &mut Vec<Found>, found: &Finding<'_>) -> Result<(), AllocError>
+    ensures { OnOk result
+        (finds all.new.items ≡ finds all.old.items ++ finding_of found.now ∷ []) }
+{
+    let copy = kept(alloc, found)?;
+    all.push(copy).map_err(AllocError::from)
+}
+
+/// Adds what is printed of a finding that was kept.
+pub fn push_found(
+    alloc: Global,
+    format: Format,
+    text: &mut Vec<u8>,
+    found: &Found,
+) -> Result<(), AllocError>
+    ensures { OnOk result
+        (text.new.items ≡ text.old.items ++ Findings.told format (kept_of found.now)) }
+{
+    let finding = Finding {
+        path: &found.path,
+        line: found.line,
+        place: found.place,
+        fault: found.fault,
+        kind: found.kind,
+        text: &found.text,
+        hint: &found.hint,
+        source: &found.source,
+        fix: &found.fix,
+    };
+    push_finding(alloc, format, text, &finding)
+}
+
+/// Adds a copy of a finding to others.
+pub fn put_copy(alloc: Global, all: &mut Vec<Found>, found: &Found) -> Result<(), AllocError>
+    ensures { OnOk result (finds all.new.items ≡ finds all.old.items ++ kept_of found.now ∷ []) }
+{
+    let finding = Finding {
+        path: &found.path,
+        line: found.line,
+        place: found.place,
+        fault: found.fault,
+        kind: found.kind,
+        text: &found.text,
+        hint: &found.hint,
+        source: &found.source,
+        fix: &found.fix,
+    };
+    put_found(alloc, all, &finding)
 }

@@ -2,9 +2,7 @@
 ghost use Rattle.std.specs.Prelude.{◌≡◌, Option, IfOk};
 ghost use Rattle.std.specs.Option.{option_map};
 ghost use Rattle.hwdb_spec_commands.specs.Fixes;
-ghost use Rattle.hwdb_spec_commands.specs.Findings as spec;
-ghost use Rattle.hwdb_spec_commands.specs.Findings.{told};
-ghost use Rattle.hwdb_check.specs.Found.{with_fix};
+ghost use Rattle.hwdb_spec_commands.specs.Findings;
 ghost use Rattle.hwdb_check.specs.Internal.{line_of};
 
 use crate::fields::meant_field;
@@ -199,9 +197,8 @@ pub fn fix_for(
     source: &[u8],
     clean: &[u8],
 ) -> Result<Option<Vec<u8>>, AllocError>
-    ensures { IfOk result (λ found. (f : spec.Finding)
-        → told format (with_fix f (option_map (λ t. t.items) found))
-        ≡ told format (with_fix f (Fixes.fix kind (line_of 0 clean.now) source.now))) }
+    ensures { IfOk result (λ found. option_map (λ t. t.items) found
+        ≡ Findings.fix_for format kind (line_of 0 clean.now) source.now) }
 {
     match format {
         Format::Json | Format::Sarif => fix(alloc, kind, source, clean),

@@ -17,6 +17,10 @@ pub struct Telling<'a> {
     pub format: Format,
     /// The names of the kinds of warnings that aren't told.
     pub allowed: &'a [String],
+    /// The findings that a baseline has, as `marks_in` gives them.
+    pub known: &'a [Vec<u8>],
+    /// The path that findings of standard input have, if it isn't `-`.
+    pub name: Option<&'a str>,
 }
 
 /// How the findings of a line are told.

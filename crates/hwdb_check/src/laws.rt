@@ -1,5 +1,6 @@
 //! Laws over the definitions alone. Each function does nothing: its contract is the law.
 ghost use Rattle.hwdb_check.specs.Comments.{BareAreTold, CommentRows, FaultsStay, LeftAreTold, LinesAreMarked, RecordsAreApart};
+ghost use Rattle.hwdb_check.specs.Passing.{AsManyPass, BaselineRows, NothingPasses};
 ghost use Rattle.hwdb_check.specs.Laws.{FieldRows, KindsAreNamed, LikelihoodIsJudged, MendRows, MendsAreLikely, PatternsAreJudged, RunsAreAll, TooDeepRows, TooLongRows, UnmatchedRows};
 
 use hwdb_forms::forms_are_tested;
@@ -62,3 +63,11 @@ pub fn comments_are_told()
     hwdb_text::laws::sections_are_the_lines();
     hwdb_text::laws::faults_ascend();
 }
+
+/// A baseline lets as many findings with one path, kind and line pass as it has, and these are the first ones. Without it each is told.
+#[tactic(auto, using(crate::proofs::PassLemmas::as_many, crate::proofs::PassLemmas::nothing_passes, crate::proofs::PassLemmas::baseline_rows))]
+pub fn baselines_let_pass()
+    ensures passed { AsManyPass }
+    ensures without { NothingPasses }
+    ensures rows { BaselineRows }
+{}

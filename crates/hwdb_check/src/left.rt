@@ -2,20 +2,20 @@
 ghost use Rattle.std.specs.Prelude.{◌≡◌, ◌++◌, ◌∷◌, [], List, ℕ, codes, false, true, filter, flat_map, map, not, string_bytes, IfOk, OnOk};
 ghost use Rattle.hwdb_spec.specs.Lines.{Line};
 ghost use Rattle.hwdb_spec.specs.Records;
-ghost use Rattle.hwdb_spec_commands.specs.Findings.{line_text};
+ghost use Rattle.hwdb_spec_commands.specs.Findings.{found_warnings};
 ghost use Rattle.hwdb_spec_commands.specs.Properties;
-ghost use Rattle.hwdb_spec_commands.specs.Warnings.{line_warnings};
 ghost use Rattle.hwdb_text.specs.Views.{given_in};
 ghost use Rattle.hwdb_spec_commands.specs.AllowedKinds;
-ghost use Rattle.hwdb_spec_commands.specs.AllowedKinds.{comment_place, file_text, is_kind, told_unknown, unknown_hint, unknown_left, unknown_names, unknown_text, warnings_left};
+ghost use Rattle.hwdb_spec_commands.specs.AllowedKinds.{comment_place, file_findings, is_kind, one_unknown, unknown_hint, unknown_names, unknown_text};
+ghost use Rattle.hwdb_check.specs.Found.{finds};
 ghost use Rattle.hwdb_check.specs.Internal.{IsKnown, line_of, own, texts};
 ghost use Rattle.hwdb_check.specs.Leaving.{file_line, names_of};
 
 use crate::allowed::{after_line, allowed_text, any_allowed, is_kind, record_kinds, stripped};
-use crate::findings::{Finding, push_finding};
+use crate::findings::{Finding, Found, put_found};
 use crate::kinds::{Manner, Telling};
 use crate::known::{Known, known_of};
-use crate::line_faults::{FileLine, first_next, push_line_faults};
+use crate::line_faults::{FileLine, first_next, put_line_faults};
 use crate::warnings::{Warned, warnings_of};
 use hwdb_properties::{Likeness, first_row};
 use hwdb_show::push_shown;
@@ -84,21 +84,21 @@ fn hint_of(alloc: Global, name: &[u8]) -> Result<Vec<u8>, AllocError>
     Ok(hint)
 }
 
-/// Adds what is printed of a name in a line's comment.
-fn push_unknown(
+/// Adds a name in a line's comment to what is found.
+#[tactic(auto, unfolding(hwdb_spec_commands::specs::AllowedKinds::one_unknown))]
+fn put_unknown(
     alloc: Global,
-    format: Format,
-    text: &mut Vec<u8>,
+    found: &mut Vec<Found>,
     line: &FileLine<'_>,
     name: &[u8],
 ) -> Result<(), AllocError>
-    ensures { OnOk result (text.new.items ≡ text.old.items
-        ++ told_unknown format line.now.path.now (file_line line.now) name.now) }
+    ensures { OnOk result (finds found.new.items ≡ finds found.old.items
+        ++ one_unknown line.now.path.now (file_line line.now) name.now) }
 {
     let told = text_of(alloc, name)?;
     let hint = hint_of(alloc, name)?;
     let fix = None;
-    let found = Finding {
+    let unknown = Finding {
         path: line.path,
         line: line.number,
         place: place_of(line),
@@ -109,112 +109,74 @@ fn push_unknown(
         source: line.text,
         fix: &fix,
     };
-    push_finding(alloc, format, text, &found)
+    put_found(alloc, found, &unknown)
 }
 
-/// What is left of the lines of a file so far.
-#[derive(Drop)]
-pub struct Left<'b> {
-    /// The warnings, and what is printed of the lines, of their faults too.
-    pub warned: Warned,
-    /// The names in comments that are no kinds of warnings.
-    pub unknown: Vec<&'b [u8]>,
+/// Adds a name in a line's comment, if it is no kind.
+fn put_name(
+    alloc: Global,
+    found: &mut Vec<Found>,
+    line: &FileLine<'_>,
+    name: &[u8],
+) -> Result<(), AllocError>
+    ensures { OnOk result (finds found.new.items ≡ finds found.old.items
+        ++ flat_map (one_unknown line.now.path.now (file_line line.now))
+        (filter (λ n. not (is_kind n)) (name.now ∷ []))) }
+{
+    if !is_kind(name) {
+        put_unknown(alloc, found, line, name)?;
+    }
+    Ok(())
 }
 
-impl<'b> Left<'b> {
-    /// Adds a name in a line's comment, if it is no kind.
-    fn put_name(
-        &mut self,
-        alloc: Global,
-        format: Format,
-        line: &FileLine<'b>,
-        name: &'b [u8],
-    ) -> Result<(), AllocError>
-        ensures text { OnOk result (self.new.warned.text.items ≡ self.old.warned.text.items
-            ++ flat_map (told_unknown format line.now.path.now (file_line line.now))
-            (filter (λ n. not (is_kind n)) (name.now ∷ []))) }
-        ensures unknown { OnOk result (texts self.new.unknown.items
-            ≡ texts self.old.unknown.items ++ filter (λ n. not (is_kind n)) (name.now ∷ [])) }
-        ensures found { OnOk result (self.new.warned.found.items
-            ≡ self.old.warned.found.items) }
-    {
-        if !is_kind(name) {
-            push_unknown(alloc, format, &mut self.warned.text, line, name)?;
-            self.unknown.push(name)?;
-        }
-        Ok(())
+/// Adds the names in a line's comment that are no kinds.
+fn put_names(alloc: Global, found: &mut Vec<Found>, line: &FileLine<'_>) -> Result<(), AllocError>
+    ensures { OnOk result (finds found.new.items ≡ finds found.old.items
+        ++ flat_map (one_unknown line.now.path.now (file_line line.now))
+        (unknown_names line.now.text.now)) }
+{
+    for piece in Pieces::new(b',', allowed_text(line.text)) {
+        put_name(alloc, found, line, stripped(piece))?;
     }
-
-    /// Adds the names in a line's comment that are no kinds.
-    fn put_names(
-        &mut self,
-        alloc: Global,
-        format: Format,
-        line: &FileLine<'b>,
-    ) -> Result<(), AllocError>
-        ensures text { OnOk result (self.new.warned.text.items ≡ self.old.warned.text.items
-            ++ flat_map (told_unknown format line.now.path.now (file_line line.now))
-            (unknown_names line.now.text.now)) }
-        ensures unknown { OnOk result (texts self.new.unknown.items
-            ≡ texts self.old.unknown.items ++ unknown_names line.now.text.now) }
-        ensures found { OnOk result (self.new.warned.found.items
-            ≡ self.old.warned.found.items) }
-    {
-        for piece in Pieces::new(b',', allowed_text(line.text)) {
-            self.put_name(alloc, format, line, stripped(piece))?;
-        }
-        Ok(())
-    }
-
-    /// Adds what is left of a line.
-    fn put_line(
-        &mut self,
-        alloc: Global,
-        manner: &Manner<'_>,
-        known: &Known<'_>,
-        line: &FileLine<'b>,
-    ) -> Result<(), AllocError>
-        requires { IsKnown known.now }
-        ensures text { OnOk result (self.new.warned.text.items ≡ self.old.warned.text.items
-            ++ (flat_map (told_unknown manner.now.format line.now.path.now (file_line line.now))
-            (unknown_names line.now.text.now)
-            ++ line_text manner.now.format (names_of manner.now) line.now.path.now
-            known.now.bytes.now (file_line line.now))) }
-        ensures unknown { OnOk result (texts self.new.unknown.items
-            ≡ texts self.old.unknown.items ++ unknown_names line.now.text.now) }
-        ensures found { OnOk result (self.new.warned.found.items ≡ self.old.warned.found.items
-            ++ line_warnings (names_of manner.now) known.now.bytes.now (file_line line.now)) }
-    {
-        self.put_names(alloc, manner.format, line)?;
-        self.warned
-            .put_line(alloc, manner, line.path, known, line.number, line.text)
-    }
+    Ok(())
 }
 
-/// As `left_of`, of a file in which comments let kinds pass. What is printed of a line begins with its faults.
-fn left_by_line<'b>(
+/// Adds what is left of a line.
+fn put_left(
+    alloc: Global,
+    warned: &mut Warned,
+    manner: &Manner<'_>,
+    known: &Known<'_>,
+    line: &FileLine<'_>,
+) -> Result<(), AllocError>
+    requires { IsKnown known.now }
+    ensures { OnOk result (finds warned.new.found.items ≡ finds warned.old.found.items
+        ++ (flat_map (one_unknown line.now.path.now (file_line line.now))
+        (unknown_names line.now.text.now)
+        ++ found_warnings manner.now.format (names_of manner.now) line.now.path.now
+        known.now.bytes.now (file_line line.now))) }
+{
+    put_names(alloc, &mut warned.found, line)?;
+    warned.put_line(alloc, manner, line.path, known, line.number, line.text)
+}
+
+/// As `left_of`, of a file in which comments let kinds pass. The findings of a line begin with its faults.
+fn left_by_line(
     alloc: Global,
     manner: &Manner<'_>,
-    path: &'b [u8],
-    bytes: &'b [u8],
+    path: &[u8],
+    bytes: &[u8],
     assignments: &[Given<'_>],
     faults: &[Fault],
-) -> Result<Left<'b>, AllocError>
+) -> Result<Warned, AllocError>
     requires assignments { map (given_in own) assignments.now ≡ Records.assignments own bytes.now }
     requires faults { faults.now ≡ Records.faults bytes.now }
-    ensures text { IfOk result (λ l. l.warned.text.items
-        ≡ file_text manner.now.format (texts manner.now.allowed.now) path.now bytes.now) }
-    ensures found { IfOk result (λ l. l.warned.found.items
-        ≡ warnings_left (texts manner.now.allowed.now) bytes.now) }
-    ensures unknown { IfOk result (λ l. texts l.unknown.items ≡ unknown_left bytes.now) }
+    ensures { IfOk result (λ w. finds w.found.items
+        ≡ file_findings manner.now.format (texts manner.now.allowed.now) path.now bytes.now) }
 {
     let known = known_of(alloc, bytes, assignments)?;
-    let mut left = Left {
-        warned: Warned {
-            text: Vec::new(alloc),
-            found: Vec::new(alloc),
-        },
-        unknown: Vec::new(alloc),
+    let mut left = Warned {
+        found: Vec::new(alloc),
     };
     let mut lines = Lines::new(bytes);
     let mut kinds = record_kinds(alloc, manner.allowed, lines)?;
@@ -226,15 +188,8 @@ fn left_by_line<'b>(
             format: manner.format,
             allowed: &kinds,
         };
-        next = push_line_faults(
-            alloc,
-            manner.format,
-            &mut left.warned.text,
-            &line,
-            faults,
-            next,
-        )?;
-        left.put_line(alloc, &here, &known, &line)?;
+        next = put_line_faults(alloc, &mut left.found, &line, faults, next)?;
+        put_left(alloc, &mut left, &here, &known, &line)?;
         kinds = after_line(alloc, manner.allowed, kinds, text, lines)?;
         number += 1;
     }
@@ -253,21 +208,18 @@ fn words_of<'w>(alloc: Global, words: &'w [String]) -> Result<Vec<&'w [u8]>, All
 }
 
 /// As `left_of`, of words that are bytes.
-fn left_if<'b>(
+fn left_if(
     alloc: Global,
     manner: &Manner<'_>,
-    path: &'b [u8],
-    bytes: &'b [u8],
+    path: &[u8],
+    bytes: &[u8],
     scanned: &Scanned<'_>,
-) -> Result<Left<'b>, AllocError>
+) -> Result<Warned, AllocError>
     requires assignments { map (given_in own) scanned.now.assignments.items
         ≡ Records.assignments own bytes.now }
     requires faults { scanned.now.faults.items ≡ Records.faults bytes.now }
-    ensures text { IfOk result (λ l. l.warned.text.items
-        ≡ file_text manner.now.format (texts manner.now.allowed.now) path.now bytes.now) }
-    ensures found { IfOk result (λ l. l.warned.found.items
-        ≡ warnings_left (texts manner.now.allowed.now) bytes.now) }
-    ensures unknown { IfOk result (λ l. texts l.unknown.items ≡ unknown_left bytes.now) }
+    ensures { IfOk result (λ w. finds w.found.items
+        ≡ file_findings manner.now.format (texts manner.now.allowed.now) path.now bytes.now) }
 {
     if any_allowed(bytes) {
         return left_by_line(
@@ -279,36 +231,29 @@ fn left_if<'b>(
             &scanned.faults,
         );
     }
-    let warned = warnings_of(
+    warnings_of(
         alloc,
         manner,
         path,
         bytes,
         &scanned.assignments,
         &scanned.faults,
-    )?;
-    Ok(Left {
-        warned,
-        unknown: Vec::new(alloc),
-    })
+    )
 }
 
-/// What is left of a file of which this was scanned, and what is printed of it.
-pub fn left_of<'b>(
+/// The findings of a file of which this was scanned.
+pub fn left_of(
     alloc: Global,
     telling: &Telling<'_>,
-    path: &'b [u8],
-    bytes: &'b [u8],
+    path: &[u8],
+    bytes: &[u8],
     scanned: &Scanned<'_>,
-) -> Result<Left<'b>, AllocError>
+) -> Result<Warned, AllocError>
     requires assignments { map (given_in own) scanned.now.assignments.items
         ≡ Records.assignments own bytes.now }
     requires faults { scanned.now.faults.items ≡ Records.faults bytes.now }
-    ensures text { IfOk result (λ l. l.warned.text.items ≡ file_text telling.now.format
+    ensures { IfOk result (λ w. finds w.found.items ≡ file_findings telling.now.format
         (map string_bytes telling.now.allowed.now) path.now bytes.now) }
-    ensures found { IfOk result (λ l. l.warned.found.items
-        ≡ warnings_left (map string_bytes telling.now.allowed.now) bytes.now) }
-    ensures unknown { IfOk result (λ l. texts l.unknown.items ≡ unknown_left bytes.now) }
 {
     let words = words_of(alloc, telling.allowed)?;
     let manner = Manner {

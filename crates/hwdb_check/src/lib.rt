@@ -33,12 +33,14 @@
 //! | `warnings` | the warnings of a file, and their reports |
 //! | `too_long` | match lines that udev can't take, for `update --verbose` |
 //! | `tallies` | how much was found: the last line, and the status |
+//! | `baselines` | findings that are let pass since a baseline has them |
 //! | `files` | text files that are checked, one after another |
 //! | `laws` | what is proved of the definitions alone |
 #![tactic(auto)]
 
 mod allowed;
 mod annotations;
+mod baselines;
 mod companions;
 mod fields;
 mod files;
@@ -66,14 +68,15 @@ mod too_long;
 mod unread;
 mod warnings;
 
+pub use baselines::{BaselineFault, marks_in, wrong_text};
 pub use files::{Checked, TextFile, check_files, reports_of};
 pub use findings::{format_if, format_of};
 pub use hwdb_show::push_shown;
 pub use hwdb_spec_commands::KINDS;
 pub use kinds::Telling;
 pub use laws::{
-    comments_are_told, deep_lines_are_told, kinds_are_named, likelihood_is_judged,
-    mends_are_likely, patterns_are_judged,
+    baselines_let_pass, comments_are_told, deep_lines_are_told, kinds_are_named,
+    likelihood_is_judged, mends_are_likely, patterns_are_judged,
 };
 pub use line_texts::{LineStart, find_line, first_start};
 pub use tallies::push_count;

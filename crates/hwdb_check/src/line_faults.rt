@@ -2,12 +2,13 @@
 ghost use Rattle.std.specs.Prelude.{◌≡◌, ◌++◌, ◌+◌, filter, flat_map, IfOk, OnOk};
 ghost use Rattle.hwdb_spec.specs.Lines.{is};
 ghost use Rattle.hwdb_spec.specs.Records;
-ghost use Rattle.hwdb_spec_commands.specs.Findings.{told_fault};
+ghost use Rattle.hwdb_spec_commands.specs.Findings.{one_fault};
 ghost use Rattle.hwdb_check.specs.Following.{IsNext};
+ghost use Rattle.hwdb_check.specs.Found.{finds};
 
-use crate::reports::push_fault;
+use crate::findings::Found;
+use crate::reports::put_fault;
 use hwdb_spec::Fault;
-use hwdb_spec_commands::Format;
 use std::alloc::{AllocError, Global};
 
 /// A line of a file.
@@ -31,19 +32,18 @@ pub fn first_next(bytes: &[u8], faults: &[Fault]) -> usize
     0
 }
 
-/// Adds what is printed of the faults of a line. Among the faults of its file, which ascend by line, they begin at `next`. The result is
+/// Adds the faults of a line to what is found. Among the faults of its file, which ascend by line, they begin at `next`. The result is
 /// where those of the next line begin. The only error is `AllocError`.
-pub fn push_line_faults(
+pub fn put_line_faults(
     alloc: Global,
-    format: Format,
-    text: &mut Vec<u8>,
+    found: &mut Vec<Found>,
     line: &FileLine<'_>,
     faults: &[Fault],
     next: usize,
 ) -> Result<usize, AllocError>
     requires { IsNext line.now.number next faults.now }
-    ensures text { OnOk result (text.new.items ≡ text.old.items
-        ++ flat_map (told_fault format line.now.path.now line.now.text.now)
+    ensures found { OnOk result (finds found.new.items ≡ finds found.old.items
+        ++ flat_map (one_fault line.now.path.now line.now.text.now)
         (filter (λ f. is line.now.number f.line) faults.now)) }
     ensures next { IfOk result (λ after. IsNext (line.now.number + 1) after faults.now) }
 {
@@ -53,7 +53,7 @@ pub fn push_line_faults(
         if fault.line as u64 != line.number {
             return Ok(next);
         }
-        push_fault(alloc, format, text, line.path, line.text, fault)?;
+        put_fault(alloc, found, line.path, line.text, fault)?;
         next += 1;
     }
     Ok(next)

@@ -1,9 +1,10 @@
 //! What is printed of a fault.
 ghost use Rattle.std.specs.Prelude.{◌≡◌, ◌++◌, OnOk};
-ghost use Rattle.hwdb_spec_commands.specs.Findings.{told_fault};
+ghost use Rattle.hwdb_spec_commands.specs.Findings.{one_fault, told_fault};
+ghost use Rattle.hwdb_check.specs.Found.{finds};
 ghost use Rattle.hwdb_spec_commands.specs.Reports.{fault_hint};
 
-use crate::findings::{Finding, push_finding};
+use crate::findings::{Finding, Found, push_finding, put_found};
 use crate::kinds::fault_name;
 use crate::places::fault_place;
 use hwdb_spec::{Fault, FaultKind};
@@ -29,7 +30,34 @@ fn hint_of(kind: FaultKind) -> &'static str
     }
 }
 
-/// Adds what is printed of a fault of a line with this text. The only error is `AllocError`.
+/// Adds a fault of a line with this text to what is found. The only error, here and below, is `AllocError`.
+#[tactic(auto, unfolding(hwdb_spec_commands::specs::Findings::one_fault))]
+pub fn put_fault<'a>(
+    alloc: Global,
+    found: &mut Vec<Found>,
+    path: &'a [u8],
+    line: &'a [u8],
+    fault: Fault,
+) -> Result<(), AllocError>
+    ensures { OnOk result
+        (finds found.new.items ≡ finds found.old.items ++ one_fault path.now line.now fault) }
+{
+    let fix = None;
+    let told = Finding {
+        path,
+        line: fault.line as u64,
+        place: fault_place(fault.kind, line),
+        fault: true,
+        kind: fault_name(fault.kind),
+        text: fault.kind.text().as_bytes(),
+        hint: hint_of(fault.kind).as_bytes(),
+        source: line,
+        fix: &fix,
+    };
+    put_found(alloc, found, &told)
+}
+
+/// Adds what is printed of a fault of a line with this text.
 #[tactic(auto, unfolding(hwdb_spec_commands::specs::Findings::told_fault))]
 pub fn push_fault<'a>(
     alloc: Global,

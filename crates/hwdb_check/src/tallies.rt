@@ -1,12 +1,15 @@
 //! How much was found: the last line, and the status.
-ghost use Rattle.std.specs.Prelude.{◌≡◌, ◌≤◌, ◌++◌, codes, IfOk, OnOk};
+ghost use Rattle.std.specs.Prelude.{◌≡◌, ◌≤◌, ◌++◌, codes, filter, length, IfOk, OnOk};
+ghost use Rattle.hwdb_check.specs.Found.{finds, is_of, kept_of};
+ghost use Rattle.hwdb_spec_commands.specs.Checks;
 ghost use Rattle.hwdb_spec_commands.specs.Checks.{both, tally_of_both, empty_tally, count_text, tally_line, check_status};
 
+use crate::findings::Found;
 use hwdb_spec_commands::Tally;
 use itoa::Buffer;
 use std::alloc::{AllocError, Global};
 
-/// What is found in no file.
+/// What is in no file.
 pub fn empty_tally() -> Tally
     ensures { result ≡ empty_tally }
 {
@@ -25,7 +28,7 @@ pub fn both(one: u64, other: u64) -> u64
     one.saturating_add(other)
 }
 
-/// What was found in some files, and in more.
+/// What is in some files, and in more.
 pub fn together(so_far: Tally, found: Tally) -> Tally
     ensures { result ≡ tally_of_both so_far found }
 {
@@ -34,6 +37,38 @@ pub fn together(so_far: Tally, found: Tally) -> Tally
         assignments: both(so_far.assignments, found.assignments),
         faults: both(so_far.faults, found.faults),
         warnings: both(so_far.warnings, found.warnings),
+    }
+}
+
+/// Whether a finding is a fault, or whether it is a warning.
+fn is_of(found: &Found, fault: bool) -> bool
+    ensures { result ≡ is_of fault (kept_of found.now) }
+{
+    if fault { found.fault } else { !found.fault }
+}
+
+/// How many of some findings are faults, or how many are warnings.
+fn count_of(found: &[Found], fault: bool) -> u64
+    ensures { result ≡ length (filter (is_of fault) (finds found.now)) }
+{
+    let mut count = 0;
+    for one in found {
+        if is_of(one, fault) {
+            count += 1;
+        }
+    }
+    count
+}
+
+/// The same with how many faults and warnings these findings are.
+pub fn with_found(tally: Tally, found: &[Found]) -> Tally
+    ensures { result ≡ Checks.with_found tally (finds found.now) }
+{
+    Tally {
+        files: tally.files,
+        assignments: tally.assignments,
+        faults: count_of(found, true),
+        warnings: count_of(found, false),
     }
 }
 

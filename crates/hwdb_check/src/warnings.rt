@@ -2,23 +2,24 @@
 ghost use Rattle.std.specs.Prelude.{◌≡◌, ◌++◌, ◌∷◌, [], codes, filter, flat_map, map, take, IfOk, OnOk};
 ghost use Rattle.hwdb_spec.specs.Lines.{Line, clean_line};
 ghost use Rattle.hwdb_spec.specs.Records;
-ghost use Rattle.hwdb_spec_commands.specs.Findings.{findings_text, line_text, told_warning};
+ghost use Rattle.hwdb_spec_commands.specs.Findings.{bare_findings, found_warnings, one_warning};
 ghost use Rattle.hwdb_spec_commands.specs.Kinds.{warning_name};
-ghost use Rattle.hwdb_spec_commands.specs.Warnings.{all_warnings, gets, line_kinds, line_warnings, warnings, warning_text, warning_place, warning_hint, warning_line};
+ghost use Rattle.hwdb_spec_commands.specs.Warnings.{all_warnings, gets, line_kinds, warning_text, warning_place, warning_hint, warning_line};
 ghost use Rattle.hwdb_text.specs.Views.{given_in};
 ghost use Rattle.hwdb_check.specs.Internal.{IsKnown, IsPlain, IsRead, clean_of, line_of, number_text, own, read_line, texts};
 ghost use Rattle.hwdb_check.specs.Leaving.{names_of};
 ghost use Rattle.hwdb_spec_commands.specs.AllowedKinds.{names_in};
-ghost use Rattle.hwdb_check.specs.Plain.{IsPlainFile, IsQuiet, IsTame, warnings_text};
+ghost use Rattle.hwdb_check.specs.Plain.{IsPlainFile, IsQuiet, IsTame, plain_findings};
+ghost use Rattle.hwdb_check.specs.Found.{finds};
 
-use crate::findings::{Finding, push_finding};
+use crate::findings::{Finding, Found, put_found};
 use crate::fixes::fix_for;
 use crate::judgements::{
     judgement_place, judgement_text, push_judgement_hint, push_likelihood_hint, said_of,
 };
 use crate::kinds::{Manner, is_told, warning_name};
 use crate::known::{Known, known_of, nothing_known};
-use crate::line_faults::{FileLine, first_next, push_line_faults};
+use crate::line_faults::{FileLine, first_next, put_line_faults};
 use crate::line_warnings::{
     LONGEST_LINE, Read, closed, is_warned, is_warned_at_all, kinds_of, wild_place,
 };
@@ -188,24 +189,25 @@ fn words_of(alloc: Global, kind: WarningKind) -> Result<Vec<u8>, AllocError>
     Ok(words)
 }
 
-/// Adds what is printed of a warning.
-fn push_told<'a>(
+/// Adds a warning of a line to what is found.
+#[tactic(auto, unfolding(hwdb_spec_commands::specs::Findings::one_warning))]
+fn put_told<'a>(
     alloc: Global,
     format: Format,
-    text: &mut Vec<u8>,
+    found: &mut Vec<Found>,
     path: &'a [u8],
     line: &Read<'a>,
     kind: WarningKind,
 ) -> Result<(), AllocError>
     requires { IsRead line.now }
-    ensures { OnOk result (text.new.items
-        ≡ text.old.items ++ told_warning format path.now (read_line line.now) kind) }
+    ensures { OnOk result (finds found.new.items
+        ≡ finds found.old.items ++ one_warning format path.now (read_line line.now) kind) }
 {
     let words = words_of(alloc, kind)?;
     let mut hint = Vec::new(alloc);
     push_hint(alloc, &mut hint, kind, line.clean)?;
     let fix = fix_for(alloc, format, kind, line.text, line.clean)?;
-    let found = Finding {
+    let warning = Finding {
         path,
         line: line.number,
         place: warning_place(kind, line.text, line.clean),
@@ -216,7 +218,7 @@ fn push_told<'a>(
         source: line.text,
         fix: &fix,
     };
-    push_finding(alloc, format, text, &found)
+    put_found(alloc, found, &warning)
 }
 
 /// Whether a line gets a warning that is told.
@@ -231,10 +233,8 @@ fn gets(allowed: &[&[u8]], line: &Read<'_>, kind: WarningKind) -> bool
 /// What was found in the lines so far.
 #[derive(Drop)]
 pub struct Warned {
-    /// The reports.
-    pub text: Vec<u8>,
-    /// The warnings.
-    pub found: Vec<WarningKind>,
+    /// The findings.
+    pub found: Vec<Found>,
 }
 
 impl Warned {
@@ -248,17 +248,13 @@ impl Warned {
         kind: WarningKind,
     ) -> Result<(), AllocError>
         requires { IsRead line.now }
-        ensures text { OnOk result (self.new.text.items ≡ self.old.text.items
-            ++ flat_map (told_warning telling.now.format path.now (read_line line.now))
+        ensures { OnOk result (finds self.new.found.items ≡ finds self.old.found.items
+            ++ flat_map (one_warning telling.now.format path.now (read_line line.now))
             (filter (gets (names_of telling.now) line.now.bytes.now
             (read_line line.now) (clean_of line.now)) (kind ∷ []))) }
-        ensures found { OnOk result (self.new.found.items ≡ self.old.found.items
-            ++ filter (gets (names_of telling.now) line.now.bytes.now
-            (read_line line.now) (clean_of line.now)) (kind ∷ [])) }
     {
         if gets(telling.allowed, line, kind) {
-            push_told(alloc, telling.format, &mut self.text, path, line, kind)?;
-            self.found.push(kind)?;
+            put_told(alloc, telling.format, &mut self.found, path, line, kind)?;
         }
         Ok(())
     }
@@ -272,13 +268,10 @@ impl Warned {
         line: &Read<'_>,
     ) -> Result<(), AllocError>
         requires { IsRead line.now }
-        ensures text { OnOk result (self.new.text.items ≡ self.old.text.items
-            ++ flat_map (told_warning telling.now.format path.now (read_line line.now))
+        ensures { OnOk result (finds self.new.found.items ≡ finds self.old.found.items
+            ++ flat_map (one_warning telling.now.format path.now (read_line line.now))
             (all_warnings (names_of telling.now) line.now.bytes.now
             (read_line line.now) (clean_of line.now))) }
-        ensures found { OnOk result (self.new.found.items ≡ self.old.found.items
-            ++ all_warnings (names_of telling.now) line.now.bytes.now
-            (read_line line.now) (clean_of line.now)) }
     {
         if !is_warned_at_all(line) {
             return Ok(());
@@ -303,13 +296,10 @@ impl Warned {
     ) -> Result<(), AllocError>
         requires known { IsKnown known.now }
         requires clean { clean.now ≡ (clean_line (line_of number text.now)).text }
-        ensures text { OnOk result (self.new.text.items ≡ self.old.text.items
-            ++ flat_map (told_warning telling.now.format path.now (line_of number text.now))
+        ensures { OnOk result (finds self.new.found.items ≡ finds self.old.found.items
+            ++ flat_map (one_warning telling.now.format path.now (line_of number text.now))
             (all_warnings (names_of telling.now) known.now.bytes.now
             (line_of number text.now) (clean_line (line_of number text.now)))) }
-        ensures found { OnOk result (self.new.found.items ≡ self.old.found.items
-            ++ all_warnings (names_of telling.now) known.now.bytes.now
-            (line_of number text.now) (clean_line (line_of number text.now))) }
     {
         let said = said_of(alloc, clean)?;
         let line = Read {
@@ -340,12 +330,9 @@ impl Warned {
         text: &[u8],
     ) -> Result<(), AllocError>
         requires { IsKnown known.now }
-        ensures text { OnOk result (self.new.text.items ≡ self.old.text.items
-            ++ line_text telling.now.format (names_of telling.now) path.now
+        ensures { OnOk result (finds self.new.found.items ≡ finds self.old.found.items
+            ++ found_warnings telling.now.format (names_of telling.now) path.now
             known.now.bytes.now (line_of number text.now)) }
-        ensures found { OnOk result (self.new.found.items ≡ self.old.found.items
-            ++ line_warnings (names_of telling.now) known.now.bytes.now
-            (line_of number text.now)) }
     {
         match content_of(text) {
             Content::Comment => Ok(()),
@@ -371,12 +358,9 @@ impl Warned {
         requires known { IsKnown known.now }
         requires quiet { IsQuiet known.now.bytes.now (line_of number text.now) }
         requires tame { IsTame 10 (take tame text.now) }
-        ensures text { OnOk result (self.new.text.items ≡ self.old.text.items
-            ++ line_text telling.now.format (names_of telling.now) path.now
+        ensures { OnOk result (finds self.new.found.items ≡ finds self.old.found.items
+            ++ found_warnings telling.now.format (names_of telling.now) path.now
             known.now.bytes.now (line_of number text.now)) }
-        ensures found { OnOk result (self.new.found.items ≡ self.old.found.items
-            ++ line_warnings (names_of telling.now) known.now.bytes.now
-            (line_of number text.now)) }
     {
         if text.len() <= tame {
             return Ok(());
@@ -397,22 +381,19 @@ fn warnings_by_line(
 ) -> Result<Warned, AllocError>
     requires assignments { map (given_in own) assignments.now ≡ Records.assignments own bytes.now }
     requires faults { faults.now ≡ Records.faults bytes.now }
-    ensures text { IfOk result (λ w. w.text.items
-        ≡ findings_text telling.now.format (names_of telling.now)
+    ensures { IfOk result (λ w. finds w.found.items
+        ≡ bare_findings telling.now.format (names_of telling.now)
         path.now bytes.now) }
-    ensures found { IfOk result (λ w. w.found.items
-        ≡ warnings (names_of telling.now) bytes.now) }
 {
     let known = known_of(alloc, bytes, assignments)?;
     let mut warned = Warned {
-        text: Vec::new(alloc),
         found: Vec::new(alloc),
     };
     let mut next = first_next(bytes, faults);
     let mut number = 1;
     for text in Lines::new(bytes) {
         let line = FileLine { path, number, text };
-        next = push_line_faults(alloc, telling.format, &mut warned.text, &line, faults, next)?;
+        next = put_line_faults(alloc, &mut warned.found, &line, faults, next)?;
         warned.put_line(alloc, telling, path, &known, number, text)?;
         number += 1;
     }
@@ -428,15 +409,12 @@ fn cut_warnings(
     bytes: &[u8],
 ) -> Result<Warned, AllocError>
     requires { IsPlainFile bytes.now }
-    ensures text { IfOk result (λ w. w.text.items
-        ≡ warnings_text telling.now.format (names_of telling.now)
+    ensures { IfOk result (λ w. finds w.found.items
+        ≡ plain_findings telling.now.format (names_of telling.now)
         path.now bytes.now) }
-    ensures found { IfOk result (λ w. w.found.items
-        ≡ warnings (names_of telling.now) bytes.now) }
 {
     let known = nothing_known(alloc, bytes);
     let mut warned = Warned {
-        text: Vec::new(alloc),
         found: Vec::new(alloc),
     };
     let mut number = 1;
@@ -456,7 +434,7 @@ fn cut_warnings(
     Ok(warned)
 }
 
-/// The warnings of a file with these assignments and these faults that are told. And what is printed of both, line by line.
+/// The findings of a file with these assignments and these faults, line by line.
 pub fn warnings_of(
     alloc: Global,
     telling: &Manner<'_>,
@@ -467,11 +445,9 @@ pub fn warnings_of(
 ) -> Result<Warned, AllocError>
     requires assignments { map (given_in own) assignments.now ≡ Records.assignments own bytes.now }
     requires faults { faults.now ≡ Records.faults bytes.now }
-    ensures text { IfOk result (λ w. w.text.items
-        ≡ findings_text telling.now.format (names_of telling.now)
+    ensures { IfOk result (λ w. finds w.found.items
+        ≡ bare_findings telling.now.format (names_of telling.now)
         path.now bytes.now) }
-    ensures found { IfOk result (λ w. w.found.items
-        ≡ warnings (names_of telling.now) bytes.now) }
 {
     if is_plain(alloc, bytes, assignments, faults)? {
         return cut_warnings(alloc, telling, path, bytes);

@@ -4,7 +4,7 @@ ghost use Rattle.clap.specs.Walk.{rows_of};
 ghost use Rattle.clap.specs.Matches.{found_of};
 ghost use Rattle.hwdb_cli.specs.Drafts.{IsArgument, IsDraft};
 ghost use Rattle.hwdb_spec_commands.specs.Jobs.{IsTask};
-ghost use Rattle.hwdb_spec_commands.specs.CommandLine.{allow_rule, check_app, format_rule};
+ghost use Rattle.hwdb_spec_commands.specs.CommandLine.{allow_rule, baseline_rule, check_app, format_rule, name_rule};
 
 use crate::drafts::{Draft, json_option, option, shared, with_argument, word};
 use crate::matched::{any_values_of, copied, has_flag, text_of};
@@ -20,7 +20,7 @@ const ABOUT: &str = "Says what is wrong in text files, or hardly meant, and writ
 
 /// What help ends with.
 const AFTER: &str =
-    "Exit status: 0 if nothing is wrong; 1 if there is a fault, with --strict also if there is a warning, and on errors.\nExample: hwdb check 60-keyboard.hwdb";
+    "Exit status: 0 if nothing is wrong; 1 if there is a fault, with --strict also if there is a warning; 2 on errors.\nExample: hwdb check 60-keyboard.hwdb";
 
 /// The command.
 pub fn command<'a>(alloc: Global) -> Draft<'a>
@@ -30,7 +30,9 @@ pub fn command<'a>(alloc: Global) -> Draft<'a>
         "A text file, a folder of them, or - for standard input; without one those of /etc/udev/hwdb.d and /usr/lib/udev/hwdb.d";
     let command = shared(alloc, "check", ABOUT, AFTER);
     let with_allow = with_argument(command, allow_option(alloc));
-    let with_format = with_argument(with_allow, format_option(alloc));
+    let with_baseline = with_argument(with_allow, baseline_option(alloc));
+    let with_name = with_argument(with_baseline, name_option(alloc));
+    let with_format = with_argument(with_name, format_option(alloc));
     let with_json = with_argument(with_format, json_option(alloc));
     with_argument(with_json, word(alloc, "FILE", help, ArgAction::Append))
 }
@@ -41,6 +43,23 @@ fn allow_option<'a>(alloc: Global) -> Arg<'a>
 {
     let help = "Leave out warnings of these kinds, with commas between; may come more than once";
     option(alloc, "allow", "KIND", help).action(ArgAction::Append)
+}
+
+/// `--baseline`.
+fn baseline_option<'a>(alloc: Global) -> Arg<'a>
+    ensures { IsArgument baseline_rule result }
+{
+    let help =
+        "Leave out what this file has, which check --json printed once, as often as it is there";
+    option(alloc, "baseline", "FILE", help)
+}
+
+/// `--name`.
+fn name_option<'a>(alloc: Global) -> Arg<'a>
+    ensures { IsArgument name_rule result }
+{
+    let help = "The path that findings of standard input have";
+    option(alloc, "name", "NAME", help)
 }
 
 /// `--format`.
@@ -60,10 +79,14 @@ pub fn task(alloc: Global, inner: &ArgMatches<'_>) -> Result<Task, AllocError>
     let allowed = any_values_of(alloc, inner, "allow")?;
     let json = has_flag(inner, "json");
     let format = copied(alloc, text_of(inner, "format"))?;
+    let name = copied(alloc, text_of(inner, "name"))?;
+    let baseline = copied(alloc, text_of(inner, "baseline"))?;
     Ok(Task::Check {
         files,
         allowed,
         json,
         format,
+        name,
+        baseline,
     })
 }

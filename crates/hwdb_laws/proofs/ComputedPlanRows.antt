@@ -5,7 +5,7 @@ use Rattle.hex.specs.Hex.{encode_with}
 use Rattle.hwdb_spec.specs.Lines.{pieces}
 use Rattle.hwdb_spec.specs.Visible.{visible_after}
 use Rattle.hwdb_spec_commands.specs.DeviceTree.{last_after}
-use Rattle.hwdb_laws.specs.PlanRows.{AfterRows, BesidesRows, CheckRows, DeviceRows, DiffRows, FreshRows, InputRows, KeysRows, ListRows, MisuseRows, NamedRows, NearRows, NoneRows, QueryRows, StatusRows, SysfsRows, TextRows, NoUpdateRows, UpdateRows}
+use Rattle.hwdb_laws.specs.PlanRows.{AfterRows, BaselineRows, BesidesRows, CheckRows, DeviceRows, DiffRows, FreshRows, InputRows, KeysRows, ListRows, MisuseRows, NamedRows, NearRows, NoneRows, QueryRows, StatusRows, SysfsRows, TextRows, NoUpdateRows, UpdateRows}
 use Rattle.hwdb_plan.specs.OverText.{said_after}
 use Rattle.std.specs.Char.{encode_utf8}
 use Rattle.std.specs.Fmt.{digits}
@@ -35,6 +35,10 @@ named_rows = λ a. refl
 pub check_rows : CheckRows
 unfolding pieces visible_after is_utf8 chars encode_utf8 encode_with digits bundle_met walked flags_fault walk_fault defaults_fault last_after
 check_rows = λ a. refl
+
+pub baseline_rows : BaselineRows
+unfolding pieces visible_after is_utf8 chars encode_utf8 encode_with digits bundle_met walked flags_fault walk_fault defaults_fault last_after
+baseline_rows = λ a. refl
 
 pub diff_rows : DiffRows
 unfolding pieces visible_after is_utf8 chars encode_utf8 encode_with digits bundle_met walked flags_fault walk_fault defaults_fault last_after

@@ -79,7 +79,7 @@ module _ (top : List Row) (found : Text × List Row) where
   tasks (ListHits after limit device json) is = inl (command (codes "list") is.0 (λ a. refl))
   tasks (Near files device limit json) is = inl (command (codes "near") is.0 (λ a. refl))
   tasks (Device path strings json pattern all) is = inl (command (codes "device") is.0 (λ a. refl))
-  tasks (Check files allowed json format) is = inl (command (codes "check") is.0 (λ a. refl))
+  tasks (Check files allowed json format name baseline) is = inl (command (codes "check") is.0 (λ a. refl))
   tasks (Test files database json) is = inl (command (codes "test") is.0 (λ a. refl))
   tasks (Diff old new devices json stat) is = inl (command (codes "diff") is.0 (λ a. refl))
   tasks (Verify database) is = inl (command (codes "verify") is.0 (λ a. refl))

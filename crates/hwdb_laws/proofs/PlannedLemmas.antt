@@ -32,7 +32,7 @@ use Rattle.hwdb_spec_commands.specs.declared.unread.Unread.{Unread}
 use Rattle.hwdb_spec_commands.specs.declared.unread.Unread.TheVariants as unread
 use Rattle.hwdb_plan.specs.Ask.{lone_answer}
 use Rattle.hwdb_plan.specs.Asking.{asked, if_read, named}
-use Rattle.hwdb_plan.specs.Check.{check_plan, said_of}
+use Rattle.hwdb_plan.specs.Check.{check_plan, checked_plan, if_marked, over_baseline, said_of}
 use Rattle.hwdb_plan.specs.Device.{all_misuse, device_answer, device_asked, device_plan, every_plan, folder_of as folder_place, none_there, one_of, place_of, says, strings_answer, strings_plan, sysfs_of}
 use Rattle.hwdb_spec_program.specs.DeviceErrors.{asked_names}
 use Rattle.hwdb_plan.specs.Diff.{change_of, compared, diff_plan, once, sides_compared}
@@ -58,7 +58,9 @@ use Rattle.hwdb_plan.specs.Sides.{bytes_if, file_bytes, made_at, made_of, plain_
 use Rattle.hwdb_plan.specs.Status.{status_plan}
 use Rattle.hwdb_plan.specs.Test.{tested}
 use Rattle.hwdb_plan.specs.Verify.{summary}
-use Rattle.hwdb_spec_commands.specs.Checks.{format_of}
+use Rattle.hwdb_spec_commands.specs.Baselines.{marks_in}
+use Rattle.hwdb_spec_commands.specs.Checks.{format_of, names_nothing, nothing_named}
+use Rattle.hwdb_spec_commands.specs.OverText.{text_if}
 
 -- an end that is no error
 abbrev pub IsDone : End → Type 0
@@ -333,6 +335,25 @@ module _ (w : Reads) (e : End) (Lost : Type 0) where
         paths_move (path ∷ more) [] (λ paths. given_files (path ∷ more) one paths (λ sources. Done (say sources))) (λ paths. given_files (path ∷ more) other paths (λ sources. Done (say sources)))
         (λ paths. files_move (path ∷ more) paths one other (λ sources. Done (say sources)) serves) ends
 
+    -- a baseline is no standard input
+    baseline_moves : (path : Option (List ℕ)) (p q : List (List ℕ) → Plan) → ((known : List (List ℕ)) → Moves (p known) (q known)) → Moves (over_baseline path p) (over_baseline path q)
+    unfolding Ends
+    baseline_moves None p q step = step []
+    baseline_moves (Some path) p q step =
+        read_moves path (λ at bytes. if_marked at (marks_in bytes) p) (λ at bytes. if_marked at (marks_in bytes) q) (λ bytes. marked_moves path (marks_in bytes)) (w.input path)
+      where
+        marked_moves : (at : List ℕ) (marks : Result (List (List ℕ)) ℕ) → Moves (if_marked at marks p) (if_marked at marks q)
+        marked_moves at (Ok known) ends = step known ends
+        marked_moves at (Err number) ends = inl ends
+
+    checked_moves : (given : List (List ℕ)) (root : List ℕ) (name baseline : Option (List ℕ)) (say : (known : List (List ℕ)) → List Source → End)
+        → Moves (checked_plan one given root name baseline say) (checked_plan other given root name baseline say)
+    checked_moves given root name baseline say = by (text_if (names_nothing name given) nothing_named)
+      where
+        by : (misuse : Option (List ℕ)) → Moves (if_fit misuse (over_baseline baseline (λ known. check_plan one given root (say known)))) (if_fit misuse (over_baseline baseline (λ known. check_plan other given root (say known))))
+        by None ends = baseline_moves baseline (λ known. check_plan one given root (say known)) (λ known. check_plan other given root (say known)) (λ known. check_moves given root (say known)) ends
+        by (Some text) ends = inl ends
+
     meant_moves : (root : List ℕ) (form : DeviceForm) (all : Bool) (given : Option (List ℕ)) → Moves (device_asked sight cause asked_names root form all given) (device_asked sight cause2 asked_names root form all given)
     meant_moves root form all given = by causes
       where
@@ -367,6 +388,7 @@ module _ (w : Reads) (e : End) (Lost : Type 0) where
         let given = values_of (codes "devices") rows in
         let old = value_of (codes "OLD") rows in
         let new = value_of (codes "NEW") rows in
+        let name = first_of (codes "name") rows in
         let database = first_of (codes "DATABASE") rows in ((
           refl,
           λ ends. inl ends,
@@ -387,7 +409,7 @@ module _ (w : Reads) (e : End) (Lost : Type 0) where
                     meant_moves root (device_form (has_flag (codes "strings") rows) json (has_flag (codes "pattern") rows)) (has_flag (codes "all") rows) (first_of (codes "DEVICE") rows),
                     (
                       refl,
-                      check_moves files root (said_of (format_of json (first_of (codes "format") rows)) strict (values_of (codes "allow") rows)),
+                      checked_moves files root name (first_of (codes "baseline") rows) (said_of (format_of json (first_of (codes "format") rows)) strict (values_of (codes "allow") rows) name),
                       (
                         refl,
                         files_move files files one other (λ sources. named (first_of (codes "database") rows) root (tested json sources)) serves,

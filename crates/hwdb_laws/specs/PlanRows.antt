@@ -17,7 +17,7 @@ use Rattle.hwdb_spec_program.specs.GivenDatabases.{twice_text}
 use Rattle.hwdb_spec_program.specs.ProgramPlan.{Around, AskedUpdate, error_status, program_plan, update_of}
 use Rattle.hwdb_plan.specs.Answers.{explain_plan, query_plan}
 use Rattle.hwdb_plan.specs.Ask.{ask_plan}
-use Rattle.hwdb_plan.specs.Check.{check_plan, said_of}
+use Rattle.hwdb_plan.specs.Check.{check_plan, over_baseline, said_of}
 use Rattle.hwdb_plan.specs.Device.{device_plan, says, strings_plan}
 use Rattle.hwdb_plan.specs.Diff.{change_of, diff_plan}
 use Rattle.hwdb_plan.specs.Dump.{dump_plan}
@@ -85,8 +85,18 @@ CheckRows =
     (a : Around)
     → asked a (codes "--strict" ∷ codes "check" ∷ codes "--allow" ∷ codes "near-name" ∷ codes "-r" ∷ codes "/r" ∷ codes "--allow=scan-code" ∷ codes "f" ∷ codes "-" ∷ []) ∷ asked a (codes "check" ∷ codes "--json" ∷ [])
     ∷ asked a (codes "check" ∷ codes "--format" ∷ codes "sarif" ∷ []) ∷ []
-    ≡ Some (check_plan a.input (codes "f" ∷ codes "-" ∷ []) (codes "/r") (said_of Reports true (codes "near-name" ∷ codes "scan-code" ∷ []))) ∷ Some (check_plan a.input [] [] (said_of JsonLines false []))
-    ∷ Some (check_plan a.input [] [] (said_of Sarif false [])) ∷ []
+    ≡ Some (check_plan a.input (codes "f" ∷ codes "-" ∷ []) (codes "/r") (said_of Reports true (codes "near-name" ∷ codes "scan-code" ∷ []) None [])) ∷ Some (check_plan a.input [] [] (said_of JsonLines false [] None []))
+    ∷ Some (check_plan a.input [] [] (said_of Sarif false [] None [])) ∷ []
+
+-- A path of a baseline, and a name for standard input. If no file is that, nothing is asked, and this is said.
+abbrev pub BaselineRows : Type 0
+BaselineRows =
+    (a : Around)
+    → asked a (codes "check" ∷ codes "--baseline" ∷ codes "b" ∷ codes "f" ∷ []) ∷ asked a (codes "check" ∷ codes "--name" ∷ codes "n" ∷ codes "-" ∷ codes "--baseline=b" ∷ [])
+    ∷ asked a (codes "check" ∷ codes "--name=n" ∷ codes "--baseline=b" ∷ codes "f" ∷ []) ∷ asked a (codes "check" ∷ codes "--name=n" ∷ []) ∷ []
+    ≡ Some (over_baseline (Some (codes "b")) (λ known. check_plan a.input (codes "f" ∷ []) [] (said_of Reports false [] None known)))
+    ∷ Some (over_baseline (Some (codes "b")) (λ known. check_plan a.input (codes "-" ∷ []) [] (said_of Reports false [] (Some (codes "n")) known)))
+    ∷ Some (Done (Stops (Says (codes "--name names standard input: give - as FILE")))) ∷ Some (Done (Stops (Says (codes "--name names standard input: give - as FILE")))) ∷ []
 
 -- Files of devices are told as they are given, and both sides by their places. Two of `diff` that are `-` are an error before anything is
 -- asked.
@@ -188,11 +198,11 @@ NoUpdateRows =
     ∷ asks (codes "keys" ∷ codes "update" ∷ []) ∷ asks [] ∷ [] ≡ None ∷ None ∷ None ∷ None ∷ None ∷ None ∷ []
 
 -- ---- statuses
--- The status of an error, as EXIT STATUS of hwdb(8) has it: 2 of `diff`, whose 1 says that something changed.
+-- The status of an error, as EXIT STATUS of hwdb(8) has it: 2 of `diff` and `check`, whose 1 says that something changed or was found.
 abbrev pub StatusRows : Type 0
 StatusRows =
     let status = λ (words : List Text). error_status (subcommand_of hwdb_app (codes "hwdb" ∷ words)) in
-    status (codes "diff" ∷ codes "a" ∷ codes "b" ∷ []) ∷ status (codes "-r/r" ∷ codes "query" ∷ codes "diff" ∷ []) ∷ status [] ∷ [] ≡ 2 ∷ 1 ∷ 1 ∷ []
+    status (codes "diff" ∷ codes "a" ∷ codes "b" ∷ []) ∷ status (codes "--strict" ∷ codes "check" ∷ codes "f" ∷ []) ∷ status (codes "-r/r" ∷ codes "query" ∷ codes "diff" ∷ []) ∷ status [] ∷ [] ≡ 2 ∷ 2 ∷ 1 ∷ 1 ∷ []
 
 -- ---- what a plan ends in
 -- `-` is standard input: that is too long, and nothing else is asked.

@@ -312,6 +312,7 @@ pub fn plan_rows()
     ensures near { PlanRows.NearRows }
     ensures device { PlanRows.DeviceRows }
     ensures check { PlanRows.CheckRows }
+    ensures baseline { PlanRows.BaselineRows }
     ensures named { PlanRows.NamedRows }
     ensures diff { PlanRows.DiffRows }
     ensures fresh { PlanRows.FreshRows }

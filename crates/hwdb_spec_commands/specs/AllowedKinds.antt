@@ -3,7 +3,7 @@ use Rattle.std.specs.Prelude.{Bool, false, ℕ, List, None, [], ◌∷◌, ◌++
 use Rattle.std.specs.List.{after_first, before_first, list_any, position_or_len, prefix_len, starts_with}
 use Rattle.hwdb_spec.specs.Folders.{same}
 use Rattle.hwdb_spec.specs.Lines.{Line, byte, clean_line, is, is_dropped, is_empty, is_indent, pieces, trimmed}
-use Rattle.hwdb_spec_commands.specs.Findings.{Finding, line_faults_text, line_text, told}
+use Rattle.hwdb_spec_commands.specs.Findings.{Finding, found_faults, found_warnings, told}
 use Rattle.hwdb_spec_commands.specs.Properties.{did_you_mean, near_row}
 use Rattle.hwdb_spec_commands.specs.Reports.{shown}
 use Rattle.hwdb_spec_commands.specs.Warnings.{line_warnings}
@@ -108,6 +108,10 @@ unknown_found path l name = record {
 unfoldable pub told_unknown : Format → (path : List ℕ) → Line → (name : List ℕ) → List ℕ
 told_unknown format path l name = told format (unknown_found path l name)
 
+-- one such name of a line
+unfoldable pub one_unknown : (path : List ℕ) → Line → (name : List ℕ) → List Finding
+one_unknown path l name = unknown_found path l name ∷ []
+
 -- ---- What is left
 
 -- what is let pass at a line: the names in the words of `--allow`, and those of its record
@@ -118,23 +122,23 @@ names_at allowed m = flat_map names_in allowed ++ m.names
 abbrev pub left_warnings : (allowed : List (List ℕ)) → (file : List ℕ) → Marked → List WarningKind
 left_warnings allowed file m = line_warnings (names_at allowed m) file m.line
 
--- what is printed of a line beside its faults: of names that are no kinds, and of the warnings that are left
-abbrev pub left_of_line : Format → (allowed : List (List ℕ)) → (path file : List ℕ) → Marked → List ℕ
+-- the findings of a line beside its faults: names that are no kinds, and the warnings that are left
+abbrev pub left_of_line : Format → (allowed : List (List ℕ)) → (path file : List ℕ) → Marked → List Finding
 left_of_line format allowed path file m =
-    flat_map (told_unknown format path m.line) (unknown_names m.line.text) ++ line_text format (names_at allowed m) path file m.line
+    flat_map (one_unknown path m.line) (unknown_names m.line.text) ++ found_warnings format (names_at allowed m) path file m.line
 
--- what is printed of a line: its faults come first
-abbrev pub told_of_line : Format → (allowed : List (List ℕ)) → (path file : List ℕ) → Marked → List ℕ
-told_of_line format allowed path file m = line_faults_text format path file m.line ++ left_of_line format allowed path file m
+-- the findings of a line: its faults come first
+abbrev pub found_in_line : Format → (allowed : List (List ℕ)) → (path file : List ℕ) → Marked → List Finding
+found_in_line format allowed path file m = found_faults path file m.line ++ left_of_line format allowed path file m
 
 -- the warnings of a file that are left
 abbrev pub warnings_left : (allowed : List (List ℕ)) → (file : List ℕ) → List WarningKind
 warnings_left allowed file = flat_map (left_warnings allowed file) (marked file)
 
--- the names in the comments of a file that are no kinds
-abbrev pub unknown_left : (file : List ℕ) → List (List ℕ)
-unknown_left file = flat_map (λ m. unknown_names m.line.text) (marked file)
+-- the findings of a file, line by line
+abbrev pub file_findings : Format → (allowed : List (List ℕ)) → (path file : List ℕ) → List Finding
+file_findings format allowed path file = flat_map (found_in_line format allowed path file) (marked file)
 
--- what is printed of a file, line by line
+-- what is printed of them
 abbrev pub file_text : Format → (allowed : List (List ℕ)) → (path file : List ℕ) → List ℕ
-file_text format allowed path file = flat_map (told_of_line format allowed path file) (marked file)
+file_text format allowed path file = flat_map (told format) (file_findings format allowed path file)

@@ -1,12 +1,15 @@
 -- What `check` prints of text files, how much it finds in them, and its status. Our choice.
-use Rattle.std.specs.Prelude.{Bool, true, false, ℕ, List, Option, [], ◌∷◌, ◌++◌, ◌+◌, ◌-◌, ◌^◌, ◌==◌, if◌then◌else◌, codes, flat_map, length, nat_lt}
+use Rattle.std.specs.Prelude.{Bool, true, false, ℕ, List, Option, None, Some, [], ◌∷◌, ◌++◌, ◌+◌, ◌-◌, ◌^◌, ◌==◌, if◌then◌else◌, codes, filter, flat_map, length, nat_lt, not}
 use Rattle.std.specs.Fmt.{decimal}
 use Rattle.hwdb_spec.specs.Lines.{byte}
-use Rattle.hwdb_spec.specs.Records.{assignments, faults}
+use Rattle.hwdb_spec.specs.Records.{assignments}
 use Rattle.std.specs.Option.{unwrap_or}
 use Rattle.std.specs.Str.{bytes_eq}
 use Rattle.hwdb_spec.specs.Folders.{Source}
-use Rattle.hwdb_spec_commands.specs.AllowedKinds.{file_text, unknown_left, warnings_left}
+use Rattle.hwdb_spec_commands.specs.AllowedKinds.{file_findings}
+use Rattle.hwdb_spec_commands.specs.Baselines.{new_findings}
+use Rattle.hwdb_spec_commands.specs.Findings.{Finding, told}
+use Rattle.hwdb_spec_commands.specs.Given.{any_dash, is_dash}
 use Rattle.hwdb_spec_commands.specs.Logs.{log_text}
 use Rattle.hwdb_spec_commands.specs.declared.Tally.{Tally}
 use Rattle.hwdb_spec_commands.specs.declared.formats.Format.{Format}
@@ -16,16 +19,16 @@ use Rattle.hwdb_spec_commands.specs.declared.formats.Format.TheVariants.{Github,
 abbrev pub both : ℕ → ℕ → ℕ
 both m n = if nat_lt (m + n) (2 ^ 64) then m + n else 2 ^ 64 - 1
 
--- Of one file how many assignments, faults and warnings it has. A warning that is let pass doesn't count, and a name that is no kind does.
-abbrev pub tally_of : (allowed : List (List ℕ)) → List ℕ → Tally
-tally_of allowed file = record {
+-- of one file how many assignments it has
+abbrev pub tally_of : List ℕ → Tally
+tally_of file = record {
   files = 1;
   assignments = length (assignments (record { path = []; priority = 1 }) file);
-  faults = length (faults file);
-  warnings = both (length (warnings_left allowed file)) (length (unknown_left file));
+  faults = 0;
+  warnings = 0;
 }
 
--- what was found in some files, and in more
+-- what is in some files, and in more
 abbrev pub tally_of_both : Tally → Tally → Tally
 tally_of_both s t = record {
   files = both s.files t.files;
@@ -34,14 +37,23 @@ tally_of_both s t = record {
   warnings = both s.warnings t.warnings;
 }
 
--- what is found in no file
+-- what is in no file
 abbrev pub empty_tally : Tally
 empty_tally = record { files = 0; assignments = 0; faults = 0; warnings = 0 }
 
--- what is found in some files, the later ones counted to the earlier ones
-abbrev pub tally_from : (allowed : List (List ℕ)) → Tally → List Source → Tally
-tally_from allowed so_far [] = so_far
-tally_from allowed so_far (s ∷ more) = tally_from allowed (tally_of_both so_far (tally_of allowed s.bytes)) more
+-- how much is in some files, the later ones counted to the earlier ones
+abbrev pub tally_from : Tally → List Source → Tally
+tally_from so_far [] = so_far
+tally_from so_far (s ∷ more) = tally_from (tally_of_both so_far (tally_of s.bytes)) more
+
+-- the same with how many faults and warnings these findings are
+abbrev pub with_found : Tally → List Finding → Tally
+with_found t found = record {
+  files = t.files;
+  assignments = t.assignments;
+  faults = length (filter (λ f. f.fault) found);
+  warnings = length (filter (λ f. not f.fault) found);
+}
 
 -- a count, and what is counted: `1 file`, `2 files`
 abbrev pub count_text : ℕ → (word : List ℕ) → List ℕ
@@ -73,12 +85,38 @@ ended JsonLines t findings = findings
 ended Github t findings = findings ++ tally_line t
 ended Sarif t findings = log_text findings
 
--- what `check` prints of some files; the name of each is the path that is printed
-abbrev pub check_text : Format → (allowed : List (List ℕ)) → List Source → List ℕ
-check_text format allowed files =
-    ended format (tally_from allowed empty_tally files) (flat_map (λ s. file_text format allowed s.name s.bytes) files)
+-- the findings of some files, one file after another; the name of each is the path that is printed
+abbrev pub all_findings : Format → (allowed : List (List ℕ)) → List Source → List Finding
+all_findings format allowed files = flat_map (λ s. file_findings format allowed s.name s.bytes) files
+
+-- those that a baseline doesn't have
+abbrev pub told_findings : Format → (allowed known : List (List ℕ)) → List Source → List Finding
+told_findings format allowed known files = new_findings known (all_findings format allowed files)
+
+-- How much `check` tells of some files. What is let pass doesn't count, and a name in a comment that is no kind does.
+abbrev pub told_tally : Format → (allowed known : List (List ℕ)) → List Source → Tally
+told_tally format allowed known files = with_found (tally_from empty_tally files) (told_findings format allowed known files)
+
+-- what `check` prints of some files
+abbrev pub check_text : Format → (allowed known : List (List ℕ)) → List Source → List ℕ
+check_text format allowed known files =
+    ended format (told_tally format allowed known files) (flat_map (told format) (told_findings format allowed known files))
 
 -- 1 if there is a fault, or `strict` and a warning, else 0
 abbrev pub check_status : (strict : Bool) → Tally → ℕ
 check_status true t = if t.faults == 0 then (if t.warnings == 0 then 0 else 1) else 1
 check_status false t = if t.faults == 0 then 0 else 1
+
+-- the name of a file as findings have it: standard input has the one that `--name` gives
+abbrev pub named : (name : Option (List ℕ)) → Source → Source
+named None s = s
+named (Some name) s = if is_dash s.name then record { name = name; bytes = s.bytes } else s
+
+-- whether a name is given, and no file is standard input
+abbrev pub names_nothing : (name : Option (List ℕ)) (files : List (List ℕ)) → Bool
+names_nothing None files = false
+names_nothing (Some name) files = not (any_dash files)
+
+-- what an error says then
+abbrev pub nothing_named : List ℕ
+nothing_named = codes "--name names standard input: give - as FILE"

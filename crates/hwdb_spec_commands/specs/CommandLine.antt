@@ -90,6 +90,14 @@ allow_rule = record (new_rule (codes "allow")) { value_names = 1; long = Some (c
 abbrev pub format_rule : Rule
 format_rule = record (new_rule (codes "format")) { value_names = 1; long = Some (codes "format"); action = Some Set }
 
+-- `--baseline`, with a path
+abbrev pub baseline_rule : Rule
+baseline_rule = record (new_rule (codes "baseline")) { value_names = 1; long = Some (codes "baseline"); action = Some Set }
+
+-- `--name`, with a path
+abbrev pub name_rule : Rule
+name_rule = record (new_rule (codes "name")) { value_names = 1; long = Some (codes "name"); action = Some Set }
+
 -- `--json`
 abbrev pub json_rule : Rule
 json_rule = record (new_rule (codes "json")) { long = Some (codes "json"); action = Some SetTrue }
@@ -165,7 +173,7 @@ device_app =
 
 -- `check`
 abbrev pub check_app : App
-check_app = with_rule (with_rule (with_rule (with_rule (with_shared (new_app (codes "check"))) allow_rule) format_rule) json_rule) files_rule
+check_app = with_rule (with_rule (with_rule (with_rule (with_rule (with_rule (with_shared (new_app (codes "check"))) allow_rule) baseline_rule) name_rule) format_rule) json_rule) files_rule
 
 -- `test`
 abbrev pub test_app : App

@@ -99,9 +99,15 @@ fault_found path text f = record {
   fix = None;
 }
 
+-- the line as it was likely meant, if that is sure, in a format that has it
+abbrev pub fix_for : Format → WarningKind → (clean : Line) (source : List ℕ) → Option (List ℕ)
+fix_for JsonLines kind clean source = fix kind clean source
+fix_for Sarif kind clean source = fix kind clean source
+fix_for format kind clean source = None
+
 -- a warning of a line
-abbrev pub warning_found : (path : List ℕ) → Line → WarningKind → Finding
-warning_found path l kind = record {
+abbrev pub warning_found : Format → (path : List ℕ) → Line → WarningKind → Finding
+warning_found format path l kind = record {
   path = path;
   line = l.number;
   place = warning_place kind l.text (clean_line l).text;
@@ -110,7 +116,7 @@ warning_found path l kind = record {
   text = warning_text kind;
   hint = warning_hint kind (clean_line l);
   source = l.text;
-  fix = fix kind (clean_line l) l.text;
+  fix = fix_for format kind (clean_line l) l.text;
 }
 
 -- lines of JSON, or reports
@@ -124,24 +130,38 @@ told_fault format path text f = told format (fault_found path text f)
 
 -- what is printed of a warning
 unfoldable pub told_warning : Format → (path : List ℕ) → Line → WarningKind → List ℕ
-told_warning format path l kind = told format (warning_found path l kind)
+told_warning format path l kind = told format (warning_found format path l kind)
+
+-- ---- findings of a file
+
+-- one fault of a line with this text
+unfoldable pub one_fault : (path text : List ℕ) → Fault → List Finding
+one_fault path text f = fault_found path text f ∷ []
+
+-- one warning of a line
+unfoldable pub one_warning : Format → (path : List ℕ) → Line → WarningKind → List Finding
+one_warning format path l kind = warning_found format path l kind ∷ []
 
 -- the faults of the line of a file with this number, in their order
 abbrev pub faults_at : (file : List ℕ) (number : ℕ) → List Fault
 faults_at file number = filter (λ f. is number f.line) (faults file)
 
+-- the findings of the faults of a line of a file
+abbrev pub found_faults : (path file : List ℕ) → Line → List Finding
+found_faults path file l = flat_map (one_fault path l.text) (faults_at file l.number)
+
 -- what is printed of the faults of a line of a file
 abbrev pub line_faults_text : Format → (path file : List ℕ) → Line → List ℕ
-line_faults_text format path file l = flat_map (told_fault format path l.text) (faults_at file l.number)
+line_faults_text format path file l = flat_map (told format) (found_faults path file l)
 
--- what is printed of the warnings of a line of a file, of a kind that isn't allowed
-abbrev pub line_text : Format → (allowed : List (List ℕ)) → (path file : List ℕ) → Line → List ℕ
-line_text format allowed path file l = flat_map (told_warning format path l) (line_warnings allowed file l)
+-- the findings of the warnings of a line of a file, of a kind that isn't allowed
+abbrev pub found_warnings : Format → (allowed : List (List ℕ)) → (path file : List ℕ) → Line → List Finding
+found_warnings format allowed path file l = flat_map (one_warning format path l) (line_warnings allowed file l)
 
--- what is printed of a line of a file: its faults, and then its warnings
-abbrev pub line_findings : Format → (allowed : List (List ℕ)) → (path file : List ℕ) → Line → List ℕ
-line_findings format allowed path file l = line_faults_text format path file l ++ line_text format allowed path file l
+-- the findings of a line of a file: its faults, and then its warnings
+abbrev pub line_findings : Format → (allowed : List (List ℕ)) → (path file : List ℕ) → Line → List Finding
+line_findings format allowed path file l = found_faults path file l ++ found_warnings format allowed path file l
 
--- what is printed of a file whose comments let nothing pass, line by line
-abbrev pub findings_text : Format → (allowed : List (List ℕ)) → (path file : List ℕ) → List ℕ
-findings_text format allowed path file = flat_map (line_findings format allowed path file) (lines file)
+-- the findings of a file whose comments let nothing pass, line by line
+abbrev pub bare_findings : Format → (allowed : List (List ℕ)) → (path file : List ℕ) → List Finding
+bare_findings format allowed path file = flat_map (line_findings format allowed path file) (lines file)

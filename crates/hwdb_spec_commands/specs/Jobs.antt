@@ -43,9 +43,10 @@ IsTask name inner (Near files device limit json) = (name ≡ codes "near") × (j
     × IsLimit (one_of (codes "limit") inner) limit
 IsTask name inner (Device path strings json pattern all) = (name ≡ codes "device") × (option_map string_bytes path ≡ first_of (codes "DEVICE") inner) × (strings ≡ has_flag (codes "strings") inner)
     × (json ≡ has_flag (codes "json") inner) × (pattern ≡ has_flag (codes "pattern") inner) × (all ≡ has_flag (codes "all") inner)
-IsTask name inner (Check files allowed json format) = (name ≡ codes "check") × AreAnyValues (codes "FILE") inner (map string_bytes files.items)
+IsTask name inner (Check files allowed json format input_name baseline) = (name ≡ codes "check") × AreAnyValues (codes "FILE") inner (map string_bytes files.items)
     × AreAnyValues (codes "allow") inner (map string_bytes allowed.items) × (json ≡ has_flag (codes "json") inner)
-    × (option_map string_bytes format ≡ first_of (codes "format") inner)
+    × (option_map string_bytes format ≡ first_of (codes "format") inner) × (option_map string_bytes input_name ≡ first_of (codes "name") inner)
+    × (option_map string_bytes baseline ≡ first_of (codes "baseline") inner)
 IsTask name inner (Test files database json) = (name ≡ codes "test") × (json ≡ has_flag (codes "json") inner) × (option_map string_bytes database ≡ first_of (codes "database") inner)
     × AreValues (codes "FILE") inner (map string_bytes files.items)
 IsTask name inner (Diff old new devices json stat) = (name ≡ codes "diff") × (json ≡ has_flag (codes "json") inner) × (stat ≡ has_flag (codes "stat") inner) × AreAnyValues (codes "devices") inner (map string_bytes devices.items)

@@ -19,6 +19,7 @@ pub mod Logs
 pub mod Fixes
 pub mod Findings
 pub mod AllowedKinds
+pub mod Baselines
 pub mod Checks
 pub mod Once
 pub mod Progress

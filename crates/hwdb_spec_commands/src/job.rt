@@ -57,6 +57,10 @@ pub enum Task {
         json: bool,
         /// The name of the format, if one is given.
         format: Option<String>,
+        /// The path that findings of standard input have, if one is given.
+        name: Option<String>,
+        /// The path of a file with findings that are let pass; none if each is told.
+        baseline: Option<String>,
     },
     /// Say whether a database gives devices what test files want.
     Test {

@@ -25,6 +25,7 @@
 //! | `Fixes` | lines as they were likely meant, of which a warning is told |
 //! | `Findings` | what `check` prints of a finding, in each format |
 //! | `AllowedKinds` | comments that let kinds of warnings pass in their record, and what they leave |
+//! | `Baselines` | findings that are let pass since a baseline has them |
 //! | `Checks` | what `check` prints, how much it finds, and its status |
 //! | `Once` | some assignments, each once |
 //! | `Progress` | what `update` says of its work |

@@ -23,7 +23,7 @@ root_of job = option_map_or string_bytes job.root []
 abbrev pub looks_below_root : Task → Bool
 looks_below_root (Ask file device) = false
 looks_below_root (Diff old_path new_path devices json stat) = false
-looks_below_root (Check files allowed json format) = length files.items == 0
+looks_below_root (Check files allowed json format name baseline) = length files.items == 0
 looks_below_root (Near files device limit json) = length files.items == 0
 looks_below_root (Verify database) = not (is_some database)
 looks_below_root (Dump database) = not (is_some database)
@@ -55,7 +55,7 @@ abbrev pub reads_input : Task → Bool
 reads_input (Query devices json) = is_input (map string_bytes devices.items)
 reads_input (Explain device json) = is_dash (string_bytes device)
 reads_input (Ask file device) = is_dash (string_bytes file)
-reads_input (Check files allowed json format) = any_dash (map string_bytes files.items)
+reads_input (Check files allowed json format name baseline) = any_dash (map string_bytes files.items)
 reads_input (Near files device limit json) = any_dash (map string_bytes files.items)
 reads_input (Test files database json) = any_dash (map string_bytes files.items)
 reads_input (Diff old_path new_path devices json stat) = any_dash (string_bytes old_path ∷ string_bytes new_path ∷ map string_bytes devices.items)

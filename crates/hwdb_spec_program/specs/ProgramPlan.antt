@@ -28,7 +28,7 @@ use Rattle.hwdb_spec_program.specs.HidingPlan.{UpdatesTelling}
 use Rattle.hwdb_spec_program.specs.TaskRefusals.{IsRootRefused, IsSaid}
 use Rattle.hwdb_plan.specs.Answers.{explain_plan, query_plan}
 use Rattle.hwdb_plan.specs.Ask.{lone_answer}
-use Rattle.hwdb_plan.specs.Check.{check_plan, said_of}
+use Rattle.hwdb_plan.specs.Check.{checked_plan, said_of}
 use Rattle.hwdb_plan.specs.Device.{OfCause, device_asked}
 use Rattle.hwdb_plan.specs.Diff.{change_of, diff_plan, once}
 use Rattle.hwdb_plan.specs.Dump.{text_form}
@@ -95,7 +95,9 @@ device_of a root rows =
 -- of `check`
 abbrev pub check_of : Around → (root : List ℕ) (strict : Bool) → List Row → Plan
 check_of a root strict rows =
-    check_plan a.input (values_of (codes "FILE") rows) root (said_of (format_of (has_flag (codes "json") rows) (first_of (codes "format") rows)) strict (values_of (codes "allow") rows))
+    let name = first_of (codes "name") rows in
+    checked_plan a.input (values_of (codes "FILE") rows) root name (first_of (codes "baseline") rows)
+    (said_of (format_of (has_flag (codes "json") rows) (first_of (codes "format") rows)) strict (values_of (codes "allow") rows) name)
 
 -- of `ask`
 abbrev pub ask_of : Around → List Row → Plan
@@ -247,10 +249,10 @@ OldOrAsked None w causes old outcomes = outcomes
 OldOrAsked (Some u) w causes old outcomes = OldOrPut w (update_plan u.root u.usr u.strict u.verbose u.skip causes) old outcomes
 
 -- ---- the program
--- the status of an error, by the word of its command: 2 of `diff`, whose 1 says that something changed, else 1
+-- the status of an error, by the word of its command: 2 of `diff` and `check`, whose 1 says that something changed or was found; else 1
 abbrev pub error_status : Option (Text × List Row) → ℕ
 error_status None = 1
-error_status (Some found) = if bytes_eq found.0 (codes "diff") then 2 else 1
+error_status (Some found) = if bytes_eq found.0 (codes "diff") || bytes_eq found.0 (codes "check") then 2 else 1
 
 -- The program's status after a command. Standard error takes the line of an error then. If the reader of standard output went away, nothing
 -- is said, and the status is 0.

@@ -5,7 +5,7 @@ use Rattle.clap.specs.Faults.{fault_of}
 use Rattle.hwdb_spec_commands.specs.CommandLine.{hwdb_app}
 use Rattle.hwdb_spec_program.specs.Words.{AskFor, AskForText, AreToldBy}
 use Rattle.hwdb_spec_commands.specs.declared.job.Job.{Job}
-use Rattle.hwdb_spec_commands.specs.declared.job.Task.TheVariants.{Diff}
+use Rattle.hwdb_spec_commands.specs.declared.job.Task.TheVariants.{Check, Diff}
 use Rattle.hwdb_spec_commands.specs.declared.job.Task.{Task}
 use Rattle.hwdb_spec_commands.specs.declared.job.WordsFault.TheVariants as words_fault
 use Rattle.hwdb_spec_commands.specs.declared.job.WordsFault.{WordsFault}
@@ -17,9 +17,10 @@ use Rattle.hwdb_spec_commands.specs.Refusals.{HasReason, IsAt, IsUnentered, Refu
 use Rattle.hwdb_spec_commands.specs.declared.refusals.Refusal.TheVariants.{Plain}
 use Rattle.hwdb_spec_commands.specs.declared.refusals.Refusal.{Refusal}
 
--- the status of an error: 2 of `diff`, whose 1 says that something changed, else 1
+-- the status of an error: 2 of `diff` and `check`, whose 1 says that something changed or was found; else 1
 abbrev pub refused_status : Task → ℕ
 refused_status (Diff old_path new_path devices json stat) = 2
+refused_status (Check files allowed json format name baseline) = 2
 refused_status _ = 1
 
 -- what is said of an error: if standard output fails and the system tells why, that it can't be written
@@ -75,7 +76,7 @@ AreTold gone words before now = IsTold words before now ⊎ IsTextCutShort gone 
 abbrev pub IsRootUnread : Job → Refusal → Type 0
 IsRootUnread job refusal = (root : List ℕ) × (option_map string_bytes job.root ≡ Some root) × (looks_below_root job.task ≡ true) × IsUnentered root refusal
 
--- the words ask for a job below such a root: the status is 1, the files are as they were, standard error took the line
+-- the words ask for a job below such a root: the status is an error's, the files are as they were, standard error took the line
 pub record IsRootRefused (words : List (List ℕ)) (status : ℕ) (before now : World) : Type 0 where
   pub job : Job
   pub asked : AskFor words job
@@ -86,4 +87,4 @@ pub record IsRootRefused (words : List (List ℕ)) (status : ℕ) (before now : 
   pub kept : AreKept before.files now.files
   pub said : IsSaid refusal before.err now.err
   pub out : now.out ≡ before.out
-  pub says : status ≡ 1
+  pub says : status ≡ refused_status job.task

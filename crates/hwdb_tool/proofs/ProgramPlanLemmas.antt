@@ -28,7 +28,7 @@ use Rattle.hwdb_spec_program.specs.ProgramPlan.{Around, ShowsPlan, before_last, 
 use Rattle.hwdb_spec_program.specs.Words.{AskFor}
 use Rattle.hwdb_plan.specs.Answers.{explain_plan, query_plan}
 use Rattle.hwdb_plan.specs.Ask.{ask_plan, lone_answer}
-use Rattle.hwdb_plan.specs.Check.{check_plan, said_of}
+use Rattle.hwdb_plan.specs.Check.{checked_plan, said_of}
 use Rattle.hwdb_plan.specs.Asking.{if_read, named}
 use Rattle.hwdb_plan.specs.Device.{OfCause, device_asked}
 use Rattle.hwdb_plan.specs.Diff.{change_of, diff_plan, once}
@@ -51,6 +51,7 @@ use Rattle.hwdb_tool.specs.Views.{end_of}
 use Rattle.hwdb_tool.specs.declared.answer.Answer.{Answer}
 use Rattle.hwdb_tool.proofs.JobLemmas.{one_root}
 use Rattle.hwdb_spec_commands.specs.Checks.{format_of}
+use Rattle.hwdb_spec_commands.specs.declared.formats.Format.{Format}
 
 -- ---- what words give
 -- texts before a last one
@@ -158,6 +159,10 @@ module _ {Y : Type 0} (end_of : Y → End) (w : Reads) (input : Option (List ℕ
 abbrev diff_once : (told : Result (List ℕ) Unread) (given : List Text) (old new : Text) (stat json : Bool) → Plan
 diff_once told given old new stat json = once (names_twice given old new) twice_text (diff_plan told given old new (change_of stat json))
 
+-- ---- the plan of `check`
+abbrev pub check_as : (told : Result (List ℕ) Unread) (root : Text) (strict : Bool) (files : List Text) (name baseline : Option Text) → Format → (allowed : List Text) → Plan
+check_as told root strict files name baseline format allowed = checked_plan told files root name baseline (said_of format strict allowed name)
+
 -- ---- runs
 module _ (w : Reads) (sight : Sight) (input_before input_now : Told) (before now : Outs) (result : Result ℕ Refusal) where
   abbrev Shows : Plan → Type 0
@@ -188,8 +193,8 @@ module _ (w : Reads) (sight : Sight) (input_before input_now : Told) (before now
     At = Planned (λ a. command_plan a root strict word rows)
 
     -- ---- `update`, by its `--check`
-    abbrev checked_plan : Bool → Option Plan
-    checked_plan b = option_map (λ (row : Text × Plan). row.1) (find (λ (row : Text × Plan). bytes_eq row.0 (codes "update")) (if b then (codes "update", status_plan root false true) ∷ [] else []))
+    abbrev fresh_plan : Bool → Option Plan
+    fresh_plan b = option_map (λ (row : Text × Plan). row.1) (find (λ (row : Text × Plan). bytes_eq row.0 (codes "update")) (if b then (codes "update", status_plan root false true) ∷ [] else []))
 
     pub update_unplanned : (verbose skip : Bool) → IsTask word rows (Update verbose skip) → At
     update_unplanned verbose skip is = (
@@ -199,7 +204,7 @@ module _ (w : Reads) (sight : Sight) (input_before input_now : Told) (before now
         [],
         refl,
         at_word (around (Err unread.Memory) []) (codes "update") is.0
-            (subst (λ (b : Bool). IfSome (checked_plan b) Shows) (sym is.1) tt),
+            (subst (λ (b : Bool). IfSome (fresh_plan b) Shows) (sym is.1) tt),
       ),
     )
 
@@ -271,22 +276,31 @@ module _ (w : Reads) (sight : Sight) (input_before input_now : Told) (before now
         ),
       )
 
-      pub check_planned : (files allowed : Vec (String Global) Global) (json : Bool) (format : Option (String Global)) → IsTask word rows (Check files allowed json format)
-          → Told' (λ told. Follows end_of w (check_plan told (map string_bytes files.items) root (said_of (format_of json (option_map string_bytes format)) strict (map string_bytes allowed.items))) answer) → At
-      check_planned files allowed json format is (told, so, follows) =
+      pub check_planned : (files allowed : Vec (String Global) Global) (json : Bool) (format name baseline : Option (String Global)) → IsTask word rows (Check files allowed json format name baseline)
+          → Told' (λ told. Follows end_of w
+          (check_as told root strict (map string_bytes files.items) (option_map string_bytes name) (option_map string_bytes baseline) (format_of json (option_map string_bytes format)) (map string_bytes allowed.items)) answer) → At
+      check_planned files allowed json format name baseline is (told, so, follows) =
           let fs = map string_bytes files.items in
+          let n = option_map string_bytes name in
+          let b = option_map string_bytes baseline in
           let form = format_of json (option_map string_bytes format) in
-          let kinds = map string_bytes allowed.items in (
+          let kinds = map string_bytes allowed.items in
+          let fs2 = values_of (codes "FILE") rows in
+          let n2 = first_of (codes "name") rows in
+          let b2 = first_of (codes "baseline") rows in
+          let kinds2 = values_of (codes "allow") rows in (
             told,
             so,
             (
               [],
               refl,
               at_word (around told []) (codes "check") is.0
-                  (subst (λ (j : Bool). Shows (check_plan told (values_of (codes "FILE") rows) root (said_of (format_of j (first_of (codes "format") rows)) strict (values_of (codes "allow") rows)))) is.3
-                  (subst (λ (f : Option Text). Shows (check_plan told (values_of (codes "FILE") rows) root (said_of (format_of json f) strict (values_of (codes "allow") rows)))) is.4
-                  (subst (λ (ks : List Text). Shows (check_plan told (values_of (codes "FILE") rows) root (said_of form strict ks))) is.2
-                  (subst (λ (xs : List Text). Shows (check_plan told xs root (said_of form strict kinds))) is.1 (answered (check_plan told fs root (said_of form strict kinds)) follows))))),
+                  (subst (λ (j : Bool). Shows (check_as told root strict fs2 n2 b2 (format_of j (first_of (codes "format") rows)) kinds2)) is.3
+                  (subst (λ (f : Option Text). Shows (check_as told root strict fs2 n2 b2 (format_of json f) kinds2)) is.4
+                  (subst (λ (x : Option Text). Shows (check_as told root strict fs2 x b2 form kinds2)) is.5
+                  (subst (λ (x : Option Text). Shows (check_as told root strict fs2 n x form kinds2)) is.6
+                  (subst (λ (ks : List Text). Shows (check_as told root strict fs2 n b form ks)) is.2
+                  (subst (λ (xs : List Text). Shows (check_as told root strict xs n b form kinds)) is.1 (answered (check_as told root strict fs n b form kinds) follows))))))),
             ),
           )
 
@@ -371,7 +385,7 @@ module _ (w : Reads) (sight : Sight) (input_before input_now : Told) (before now
           [],
           refl,
           at_word (around (Err unread.Memory) []) (codes "update") is.0
-              (subst (λ (b : Bool). IfSome (checked_plan b) Shows) (sym is.1)
+              (subst (λ (b : Bool). IfSome (fresh_plan b) Shows) (sym is.1)
               (subst (λ (j : Bool). Shows (status_plan root j true)) is.2 (answered (status_plan root json true) follows))),
         ),
       )

@@ -1,6 +1,6 @@
 -- What the program reports after a command.
 use Rattle.std.proofs.Common.{◌≡◌, ◌∙◌, ◌<◌, ◌⊎◌, ◌∷◌, ⊎_elim, arith, inl, inr, ap, refl, subst, sym, Bool, List, Option, None, Result, Some, Ok, Err, ℕ, [], true, false}
-use Rattle.std.specs.Prelude.{codes, if◌then◌else◌}
+use Rattle.std.specs.Prelude.{◌||◌, codes, if◌then◌else◌}
 use Rattle.std.specs.Str.{bytes_eq}
 use Rattle.clap.specs.Faults.{fault_of}
 use Rattle.clap.specs.Simple.{matches_of, subcommand_of}
@@ -22,7 +22,7 @@ use Rattle.hwdb_spec_program.specs.Words.{AskFor}
 
 -- ---- the status of an error
 abbrev of_word : Text → ℕ
-of_word word = if bytes_eq word (codes "diff") then 2 else 1
+of_word word = if bytes_eq word (codes "diff") || bytes_eq word (codes "check") then 2 else 1
 
 by_task : (word : Text) (rows : List Row) (task : Task) → IsTask word rows task → refused_status task ≡ of_word word
 by_task word rows (Update verbose skip) is = ap of_word (sym is.0)
@@ -32,7 +32,7 @@ by_task word rows (Ask file device) is = ap of_word (sym is.0)
 by_task word rows (ListHits after limit device json) is = ap of_word (sym is.0)
 by_task word rows (Near files device limit json) is = ap of_word (sym is.0)
 by_task word rows (Device path strings json pattern all) is = ap of_word (sym is.0)
-by_task word rows (Check files allowed json format) is = ap of_word (sym is.0)
+by_task word rows (Check files allowed json format name baseline) is = ap of_word (sym is.0)
 by_task word rows (Test files database json) is = ap of_word (sym is.0)
 by_task word rows (Diff old new devices json stat) is = ap of_word (sym is.0)
 by_task word rows (Verify database) is = ap of_word (sym is.0)

@@ -125,7 +125,7 @@ taker_found task word rows is takes = absurd (true≢false (sym takes))
 none_found : (task : Task) (word : Text) (rows : List Row) → IsTask word rows task → takes_text task ≡ false → Found word rows ≡ None
 none_found (Update verbose skip) word rows is not = subst (λ (n : Text). Found n rows ≡ None) (sym is.0) refl
 none_found (Ask file device) word rows is not = subst (λ (n : Text). Found n rows ≡ None) (sym is.0) refl
-none_found (Check files allowed json format) word rows is not = subst (λ (n : Text). Found n rows ≡ None) (sym is.0) refl
+none_found (Check files allowed json format name baseline) word rows is not = subst (λ (n : Text). Found n rows ≡ None) (sym is.0) refl
 none_found (Diff old new devices json stat) word rows is not = subst (λ (n : Text). Found n rows ≡ None) (sym is.0) refl
 none_found (Status json false) word rows is not = subst (λ (n : Text). Found n rows ≡ None) (sym is.0) refl
 none_found (Status json true) word rows is not = subst (λ (n : Text). Found n rows ≡ None) (sym is.0) refl

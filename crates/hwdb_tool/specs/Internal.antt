@@ -1,7 +1,13 @@
 -- What the steps of a task hold.
 use Rattle.std.specs.Prelude.{◌≡◌, ℕ, Bool, true, false, List, None, Option, Some, Ok, codes, map, string_bytes, String}
 use Rattle.std.specs.Global.{Global}
+use Rattle.hwdb_check.specs.declared.baselines.BaselineFault.{BaselineFault}
+use Rattle.hwdb_check.specs.declared.baselines.BaselineFault.TheVariants as baseline
+use Rattle.hwdb_spec_commands.specs.Baselines.{wrong_text}
 use Rattle.hwdb_spec_commands.specs.Given.{is_dash}
+use Rattle.hwdb_spec_commands.specs.Refusals.{IsInWords}
+use Rattle.hwdb_spec_commands.specs.declared.refusals.Refusal.{Refusal}
+use Rattle.hwdb_spec_commands.specs.declared.refusals.Refusal.TheVariants as refusal
 use Rattle.hwdb_spec.specs.Folders.{Source}
 use Rattle.hwdb_spec.specs.Store.{Contents}
 use Rattle.hwdb_spec.specs.System.{AreFilesIn, bytes_at, etc_files, usr_files}
@@ -59,3 +65,8 @@ abbrev pub input_stop : ReadError → Option Cause → Stop
 input_stop reading.Failed cause = unread_stop (codes "standard input") (Failed cause)
 input_stop reading.TooLong cause = Over TooLong (codes "standard input") None
 input_stop reading.Memory cause = Plain Memory
+
+-- the error of a baseline: its first line that has no finding, or want of memory
+abbrev pub IsOfBaseline : (path : List ℕ) → BaselineFault → Refusal → Type 0
+IsOfBaseline path (baseline.Line number) r = IsInWords (wrong_text path number) r
+IsOfBaseline path baseline.Memory r = r ≡ refusal.Plain Memory

@@ -1,27 +1,29 @@
 //! `check`: text files that are read and looked over. Nothing is written.
-ghost use Rattle.std.specs.Prelude.{◌≡◌, ◌≤◌, ◌==◌, All, List, [], true, false, map, string_bytes, IfOk, IfErr, IfNone, IfSome, length};
+ghost use Rattle.std.specs.Prelude.{◌≡◌, ◌≤◌, ◌==◌, All, List, [], true, false, map, option_map, string_bytes, Some, IfOk, IfErr, IfNone, IfSome, length};
 ghost use Rattle.hwdb_check.specs.Checks.{source_of};
 ghost use Rattle.hwdb_spec_commands.specs.Runs.{OnOut};
+ghost use Rattle.hwdb_spec_commands.specs.Checks.{names_nothing, nothing_named};
+ghost use Rattle.hwdb_spec_commands.specs.Refusals.{IsInWords};
 ghost use Rattle.hwdb_spec.specs.Folders.{Source, path_of};
 ghost use Rattle.hwdb_text.specs.Views.{choice_of};
 ghost use Rattle.hwdb_spec_commands.specs.CheckedFiles.{AreGivenFiles, IsChecked};
-ghost use Rattle.hwdb_plan.specs.Check.{check_plan, said_of, stored};
+ghost use Rattle.hwdb_plan.specs.Check.{check_plan, checked_plan, over_baseline, said_of, stored};
 ghost use Rattle.hwdb_plan.specs.Files.{AreFiles, OfInput, ReachesFiles, given_files, is_word, read_files};
 ghost use Rattle.hwdb_plan.specs.Folders.{texts_of_folders};
 ghost use Rattle.hwdb_plan.specs.GivenFolders.{named_files};
-ghost use Rattle.hwdb_plan.specs.Plans.{Follows};
+ghost use Rattle.hwdb_plan.specs.Plans.{Follows, ReachesValue};
 ghost use Rattle.hwdb_plan.specs.Plans.Plan.{Done};
-ghost use Rattle.hwdb_tool.specs.Internal.{AreTextsGiven, AreWords};
+ghost use Rattle.hwdb_tool.specs.Internal.{AreTextsGiven, AreWords, IsOfBaseline};
 ghost use Rattle.hwdb_spec_commands.specs.Given.{any_dash};
 ghost use Rattle.hwdb_spec.specs.Texts.{max_file};
 ghost use Rattle.hwdb_spec_commands.specs.Undone.{AreNotChecked};
 ghost use Rattle.hwdb_tool.specs.Views.{end_of, texts_in};
 
 use crate::answer::Answer;
-use crate::given::{bytes_given, input_text};
+use crate::given::{any_dash, bytes_given, input_text};
 use crate::given_folders::named_files;
 use hwdb_answers::ToolError;
-use hwdb_check::{Telling, TextFile, check_files};
+use hwdb_check::{BaselineFault, Telling, TextFile, check_files, marks_in, wrong_text};
 use hwdb_io::Source;
 use hwdb_spec_commands::Format;
 use hwdb_system::{Refusal, System, selected};
@@ -35,6 +37,8 @@ pub fn check<D: System, I: Source>(
     alloc: Global,
     root: &str,
     given: &[String],
+    name: Option<&str>,
+    known: &[Vec<u8>],
     format: Format,
     allowed: &[String],
     strict: bool,
@@ -44,13 +48,16 @@ pub fn check<D: System, I: Source>(
     ensures follows { D.Store.tells → OfInput (I.left input.old) (I.failures input.old)
         (I.failures input.new) (λ told. Follows end_of (D.System.reads system.now)
         (check_plan told (map string_bytes given.now) root.now
-        (said_of format strict (map string_bytes allowed.now))) result) }
+        (said_of format strict (map string_bytes allowed.now)
+        (option_map (λ t. t.now) name.entry) (map (λ t. t.items) known.now))) result) }
     ensures unread { any_dash (map string_bytes given.now) ≡ false → input.new ≡ input.old }
 {
     if given.is_empty() {
-        check_chosen(alloc, root, format, allowed, strict, system)
+        check_chosen(alloc, root, name, known, format, allowed, strict, system)
     } else {
-        check_named(alloc, given, format, allowed, strict, system, input)
+        check_named(
+            alloc, given, name, known, format, allowed, strict, system, input,
+        )
     }
 }
 
@@ -58,6 +65,8 @@ pub fn check<D: System, I: Source>(
 fn check_named<D: System, I: Source>(
     alloc: Global,
     given: &[String],
+    name: Option<&str>,
+    known: &[Vec<u8>],
     format: Format,
     allowed: &[String],
     strict: bool,
@@ -68,11 +77,14 @@ fn check_named<D: System, I: Source>(
         (I.failures input.new) (λ told. Follows end_of (D.System.reads system.now)
         (named_files (map string_bytes given.now) [] (λ paths.
         given_files (map string_bytes given.now) told paths (λ sources.
-        Done (said_of format strict (map string_bytes allowed.now) sources)))) result) }
+        Done (said_of format strict (map string_bytes allowed.now)
+        (option_map (λ t. t.now) name.entry) (map (λ t. t.items) known.now) sources)))) result) }
     ensures unread { any_dash (map string_bytes given.now) ≡ false → input.new ≡ input.old }
 {
     let paths = named_files(alloc, given, system)?;
-    check_given(alloc, given, &paths, format, allowed, strict, system, input)
+    check_given(
+        alloc, given, &paths, name, known, format, allowed, strict, system, input,
+    )
 }
 
 /// The same of the files with these paths. What a folder lists, and none of the words names, is a regular file.
@@ -80,6 +92,8 @@ fn check_given<D: System, I: Source>(
     alloc: Global,
     words: &[String],
     given: &[String],
+    name: Option<&str>,
+    known: &[Vec<u8>],
     format: Format,
     allowed: &[String],
     strict: bool,
@@ -89,18 +103,21 @@ fn check_given<D: System, I: Source>(
     ensures follows { D.Store.tells → OfInput (I.left input.old) (I.failures input.old)
         (I.failures input.new) (λ told. Follows end_of (D.System.reads system.now)
         (given_files (map string_bytes words.now) told (map string_bytes given.now)
-        (λ sources. Done (said_of format strict (map string_bytes allowed.now) sources))) result) }
+        (λ sources. Done (said_of format strict (map string_bytes allowed.now)
+        (option_map (λ t. t.now) name.entry) (map (λ t. t.items) known.now) sources))) result) }
     ensures unread { any_dash (map string_bytes given.now) ≡ false → input.new ≡ input.old }
 {
     let texts = given_texts(alloc, words, given, system, input)?;
     let files = with_paths(alloc, given, &texts)?;
-    check_read(alloc, &files, format, allowed, strict)
+    check_read(alloc, &files, name, known, format, allowed, strict)
 }
 
 /// The same of the text files of both folders.
 fn check_chosen<D: System>(
     alloc: Global,
     root: &str,
+    name: Option<&str>,
+    known: &[Vec<u8>],
     format: Format,
     allowed: &[String],
     strict: bool,
@@ -108,33 +125,127 @@ fn check_chosen<D: System>(
 ) -> Result<Answer, Refusal>
     ensures follows { D.Store.tells → Follows end_of (D.System.reads system.now)
         (texts_of_folders root.now (λ texts. Done (said_of format strict
-        (map string_bytes allowed.now) (stored texts.chosen texts.texts)))) result }
+        (map string_bytes allowed.now) (option_map (λ t. t.now) name.entry)
+        (map (λ t. t.items) known.now) (stored texts.chosen texts.texts)))) result }
 {
     let selection = selected(alloc, root, system)?;
     let paths = stored_paths(alloc, &selection.chosen)?;
     let files = with_paths(alloc, &paths, &selection.texts)?;
-    check_read(alloc, &files, format, allowed, strict)
+    check_read(alloc, &files, name, known, format, allowed, strict)
 }
 
 /// The same of files that were read.
 fn check_read(
     alloc: Global,
     files: &[TextFile<'_>],
+    name: Option<&str>,
+    known: &[Vec<u8>],
     format: Format,
     allowed: &[String],
     strict: bool,
 ) -> Result<Answer, Refusal>
     ensures checked { IfOk result (λ a. OnOut (λ text. IsChecked
         (λ sources. sources ≡ map source_of files.now) format strict
-        (map string_bytes allowed.now) text a.status) (texts_in a)) }
+        (map string_bytes allowed.now) (map (λ t. t.items) known.now)
+        (option_map (λ t. t.now) name.entry) text a.status) (texts_in a)) }
     ensures refused { IfErr result
         (AreNotChecked (λ sources. sources ≡ map source_of files.now)) }
 {
-    let telling = Telling { format, allowed };
+    let telling = Telling {
+        format,
+        allowed,
+        known,
+        name,
+    };
     match check_files(alloc, &telling, files, strict) {
         Ok(checked) => Ok(Answer::new(alloc, checked.text, checked.status)),
         Err(error) => Err(Refusal::from(ToolError::from(error))),
     }
+}
+
+/// Whether a name is given, and no file is standard input.
+fn names_nothing(name: Option<&str>, given: &[String]) -> bool
+    ensures { result ≡ names_nothing (option_map (λ t. t.now) name.entry)
+        (map string_bytes given.now) }
+{
+    match name {
+        Some(_) => !any_dash(given),
+        None => false,
+    }
+}
+
+/// The error of that.
+fn nothing_named(alloc: Global) -> Refusal
+    ensures { IsInWords nothing_named result }
+{
+    let words = b"--name names standard input: give - as FILE";
+    match Vec::from_slice(alloc, words) {
+        Ok(text) => Refusal::InWords(text),
+        Err(refused) => Refusal::from(refused),
+    }
+}
+
+/// The error of a baseline.
+fn refused_baseline(alloc: Global, path: &str, fault: BaselineFault) -> Refusal
+    ensures { IsOfBaseline path.now fault result }
+{
+    match fault {
+        BaselineFault::Memory => Refusal::from(ToolError::Memory),
+        BaselineFault::Line(number) => match wrong_text(alloc, path.as_bytes(), number) {
+            Ok(text) => Refusal::InWords(text),
+            Err(refused) => Refusal::from(refused),
+        },
+    }
+}
+
+/// The findings of the baseline at a path, if one is given.
+fn known_at<D: System>(
+    alloc: Global,
+    baseline: Option<&str>,
+    system: &D,
+) -> Result<Vec<Vec<u8>>, Refusal>
+    ensures { D.Store.tells → ReachesValue (λ known. map (λ t. t.items) known.items)
+        (D.System.reads system.now)
+        (over_baseline (option_map (λ t. t.now) baseline.entry)) result }
+{
+    let Some(path) = baseline else {
+        return Ok(Vec::new(alloc));
+    };
+    let bytes = system.input(alloc, path)?;
+    match marks_in(alloc, &bytes) {
+        Ok(known) => Ok(known),
+        Err(fault) => Err(refused_baseline(alloc, path, fault)),
+    }
+}
+
+/// The same as `check`, by what the baseline at a path has, and with a name for standard input.
+pub fn check_as_asked<D: System, I: Source>(
+    alloc: Global,
+    root: &str,
+    given: &[String],
+    name: Option<&str>,
+    baseline: Option<&str>,
+    format: Format,
+    allowed: &[String],
+    strict: bool,
+    system: &D,
+    input: &mut I,
+) -> Result<Answer, Refusal>
+    ensures follows { D.Store.tells → OfInput (I.left input.old) (I.failures input.old)
+        (I.failures input.new) (λ told. Follows end_of (D.System.reads system.now)
+        (checked_plan told (map string_bytes given.now) root.now
+        (option_map (λ t. t.now) name.entry) (option_map (λ t. t.now) baseline.entry)
+        (said_of format strict (map string_bytes allowed.now)
+        (option_map (λ t. t.now) name.entry))) result) }
+    ensures unread { any_dash (map string_bytes given.now) ≡ false → input.new ≡ input.old }
+{
+    if names_nothing(name, given) {
+        return Err(nothing_named(alloc));
+    }
+    let known = known_at(alloc, baseline, system)?;
+    check(
+        alloc, root, given, name, &known, format, allowed, strict, system, input,
+    )
 }
 
 /// The words after the first one that is this path; None if none is.

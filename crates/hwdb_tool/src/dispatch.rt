@@ -19,7 +19,7 @@ ghost use Rattle.hwdb_spec_commands.specs.declared.refusals.Refusal.TheVariants.
 ghost use Rattle.hwdb_tool.specs.Updating.{UpdatesAsAsked};
 
 use crate::answers::{ask_file, explain, list};
-use crate::check_command::check;
+use crate::check_command::check_as_asked;
 use crate::device_command::device_form;
 use crate::diff_command::diff;
 use crate::dump_command::dump;
@@ -99,7 +99,7 @@ pub fn program<D: Machine, I: Source, O: Outlet, E: Sink>(
             },
             Err(refusal) => {
                 refuse_for(alloc, &refusal, err);
-                1
+                refused_status(&job.task)
             }
         },
         Err(WordsFault::Help { text }) => match write_text(out, text.as_bytes()) {
@@ -176,14 +176,15 @@ fn refuse_job<O: Outlet, E: Sink>(
     status
 }
 
-/// The status if the task ends with an error: 2 of `diff`, whose 1 says that something changed, else 1.
+/// The status if the task ends with an error: 2 of `diff` and `check`, whose 1 says that something changed or was found.
+/// Else it is 1.
 fn refused_status(task: &Task) -> u8
     ensures is { result ≡ refused_status task.now }
     ensures small { result ≤ 2 }
     ensures some { 0 < result }
 {
     match task {
-        Task::Diff { .. } => 2,
+        Task::Diff { .. } | Task::Check { .. } => 2,
         _ => 1,
     }
 }
@@ -316,9 +317,16 @@ pub fn run<D: Machine, I: Source, O: Sink, E: Sink>(
             allowed,
             json,
             format,
+            name,
+            baseline,
         } => {
             let form = format_of(*json, format);
-            let answer = check(alloc, root, files, form, allowed, job.strict, system, input);
+            let name = text_of(name);
+            let known = text_of(baseline);
+            let strict = job.strict;
+            let answer = check_as_asked(
+                alloc, root, files, name, known, form, allowed, strict, system, input,
+            );
             printed(answer, out, err)
         }
         Task::Near {

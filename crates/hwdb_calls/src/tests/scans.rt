@@ -1,6 +1,5 @@
-//! What a scanner tells of events that come in any pieces. The bytes are by hand from linux/input.h.
+//! What a scanner tells of events. The bytes are by hand from linux/input.h.
 use hwdb_scan::Scanner;
-use std::alloc::{AllocError, Global};
 
 /// Caps Lock of a keyboard on USB is pressed and let go, and the left button of a mouse is pressed. The bytes of time are 0.
 const EVENTS: &[u8] = b"\
@@ -16,29 +15,13 @@ const EVENTS: &[u8] = b"\
 /// What is told of them.
 const TOLD: &[u8] = b"70039 capslock KEYBOARD_KEY_70039=capslock\n- btn_left -\n";
 
-/// What is told of the bytes in pieces of this size.
-fn told(alloc: Global, count: Option<u64>, size: usize) -> Result<Vec<u8>, AllocError> {
-    let mut scanner = Scanner::new(alloc, count);
-    let mut text = Vec::new(alloc);
-    for piece in EVENTS.chunks(size) {
-        scanner.take(alloc, piece, &mut text)?;
-    }
-    Ok(text)
-}
-
-/// Whole, byte by byte, by records, and cut in records.
+/// All keys that are pressed are told.
 #[test]
-fn pieces_tell_the_same(rt: HostRuntime) {
-    for size in [192, 1, 7, 24, 25, 47] {
-        assert!(rt; matches!(told(rt.alloc(), None, size), Ok(text) if text.as_slice() == TOLD));
-    }
-}
-
-/// One key, and none.
-#[test]
-fn keys_are_counted(rt: HostRuntime) {
-    assert!(rt; matches!(told(rt.alloc(), Some(1), 7), Ok(text) if text.as_slice() == &TOLD[..43]));
-    assert!(rt; matches!(told(rt.alloc(), Some(0), 7), Ok(text) if text.is_empty()));
+fn keys_are_told(rt: HostRuntime) {
+    let mut scanner = Scanner::new(rt.alloc(), None);
+    let mut text = Vec::new(rt.alloc());
+    assert!(rt; scanner.take(rt.alloc(), EVENTS, &mut text).is_ok());
+    assert!(rt; text.as_slice() == TOLD);
 }
 
 /// A scanner is done once as many are told as are asked for.

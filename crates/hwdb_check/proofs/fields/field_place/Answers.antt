@@ -1,4 +1,4 @@
-use Rattle.std.proofs.Common.{◌∙◌, ◌≡◌, ◌+◌, Bool, ℕ, List, ap, arith, codes, drop, false, if◌then◌else◌, nat_eq, subst, sym, true}
+use Rattle.std.proofs.Common.{◌∙◌, ◌+◌, Bool, ℕ, List, ap, arith, codes, drop, if◌then◌else◌, nat_eq, sym, true}
 use Rattle.std.specs.List.{starts_with}
 use Rattle.hwdb_spec_commands.specs.Fields.{field_place, is_odd_at}
 use Rattle.hwdb_check.proofs.FieldLemmas.{further}

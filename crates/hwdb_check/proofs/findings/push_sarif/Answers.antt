@@ -1,6 +1,6 @@
 use Rattle.std.proofs.Common.{◌≡◌, ◌∙◌, ◌++◌, ℕ, List, OnOk, length, subst}
 use Rattle.std.specs.Option.{option_map}
-use Rattle.hwdb_spec_commands.specs.Findings.{column, message, severity_name}
+use Rattle.hwdb_spec_commands.specs.Findings.{column, message}
 use Rattle.hwdb_spec_commands.specs.Logs.{result_line}
 use Rattle.hwdb_check.specs.Found.{finding_of}
 use Rattle.hwdb_check.proofs.findings.push_sarif.Goals as goal

@@ -3,8 +3,9 @@ use Rattle.std.specs.Prelude.{filter, flat_map}
 use Rattle.hwdb_spec.specs.Lines.{is}
 use Rattle.hwdb_spec.specs.declared.Fault.{Fault}
 use Rattle.hwdb_text.specs.PiecesLeft.{lines_left}
-use Rattle.hwdb_spec_commands.specs.AllowedKinds.{ends_record, left_warnings, marked_from, names_in, names_to_end, told_of_line, told_unknown, unknown_names}
-use Rattle.hwdb_spec_commands.specs.Findings.{line_faults_text, told_fault, told_warning}
+use Rattle.hwdb_spec_commands.specs.AllowedKinds.{ends_record, found_in_line, marked_from, names_in, names_to_end, one_unknown, unknown_names}
+use Rattle.hwdb_spec_commands.specs.Findings.{found_faults, one_fault, one_warning}
+use Rattle.hwdb_check.specs.Found.{finds}
 use Rattle.hwdb_spec_commands.specs.Kinds.{is_told}
 use Rattle.hwdb_spec_commands.specs.declared.WarningKind.{WarningKind}
 use Rattle.hwdb_check.specs.Internal.{line_of, texts}
@@ -26,12 +27,8 @@ lines-init c =
       next = c.first_next-next.ensures;
       names = names_to_end left;
       are = c.in_ok-kinds.ensures;
-      text = ap (λ (own : List ℕ). own ++ flat_map (told_of_line format allowed path bytes) (marked_from (names_to_end left) 1 left)) c.new.ensures.items
-          ∙ ap (λ (ts : List (List ℕ)). flat_map (told_of_line format allowed path bytes) (marked_from (names_to_end ts) 1 ts)) c.new-lines.ensures.lines;
-      found = ap (λ own. own ++ flat_map (left_warnings allowed bytes) (marked_from (names_to_end left) 1 left)) c.new-2.ensures.items
-          ∙ ap (λ (ts : List (List ℕ)). flat_map (left_warnings allowed bytes) (marked_from (names_to_end ts) 1 ts)) c.new-lines.ensures.lines;
-      unknown = ap (λ own. texts own ++ flat_map (λ m. unknown_names m.line.text) (marked_from (names_to_end left) 1 left)) c.new-3.ensures.items
-          ∙ ap (λ (ts : List (List ℕ)). flat_map (λ m. unknown_names m.line.text) (marked_from (names_to_end ts) 1 ts)) c.new-lines.ensures.lines;
+      found = ap (λ own. finds own ++ flat_map (found_in_line format allowed path bytes) (marked_from (names_to_end left) 1 left)) c.new.ensures.items
+          ∙ ap (λ (ts : List (List ℕ)). flat_map (found_in_line format allowed path bytes) (marked_from (names_to_end ts) 1 ts)) c.new-lines.ensures.lines;
     }
 
 pub lines-preserved : goal.lines-preserved
@@ -53,27 +50,14 @@ lines-preserved c =
       next = c.in_ok-next.ensures.next;
       names = cond (ends_record text) (names_to_end rest) names;
       are = c.in_ok-kinds-2.ensures names c.lines.invariant.are;
-      text = marked_step (told_of_line format allowed path bytes) _ _ _ names n left text rest c.in-Some.ensures.steps
-          (two_pieces _ _ _ (line_faults_text format path bytes line) _
-          (c.in_ok-next.ensures.text ∙ ap (λ (fs : List Fault). c.lines.left.warned.text.items ++ flat_map (told_fault format path text) (filter (λ f. is n f.line) fs)) c.requires.faults)
-          (grown_alike (λ ws. flat_map (told_unknown format path line) (unknown_names text) ++ flat_map (told_warning format path line) ws) _ _ _ all _ bytes line here c.in_ok-known.ensures.1 c.in_ok-put_line.ensures.text))
-          c.lines.invariant.text;
-      found = marked_step (left_warnings allowed bytes) _ _ _ names n left text rest c.in-Some.ensures.steps
-          (grown_alike (λ ws. ws) _ _ _ all _ bytes line here c.in_ok-known.ensures.1 c.in_ok-put_line.ensures.found)
+      found = marked_step (found_in_line format allowed path bytes) _ _ _ names n left text rest c.in-Some.ensures.steps
+          (two_pieces _ _ _ (found_faults path bytes line) _
+          (c.in_ok-next.ensures.found ∙ ap (λ (fs : List Fault). finds c.lines.left.found.items ++ flat_map (one_fault path text) (filter (λ f. is n f.line) fs)) c.requires.faults)
+          (grown_alike (λ ws. flat_map (one_unknown path line) (unknown_names text) ++ flat_map (one_warning format path line) ws) _ _ _ all _ bytes line here c.in_ok-known.ensures.1 c.in_ok-put_left.ensures))
           c.lines.invariant.found;
-      unknown = marked_step (λ m. unknown_names m.line.text) _ _ _ names n left text rest c.in-Some.ensures.steps c.in_ok-put_line.ensures.unknown c.lines.invariant.unknown;
     }
 
-pub returns-clause-text : goal.returns-clause-text
-returns-clause-text c =
-    marked_end (told_of_line c.args.manner.now.format (texts c.args.manner.now.allowed.now) c.args.path.now c.args.bytes.now) _ _ c.lines.invariant.names c.lines.number (lines_left c.lines.lines)
-    c.in_default.ensures.steps.0 c.lines.invariant.text
-
-pub returns-clause-found : goal.returns-clause-found
-returns-clause-found c =
-    marked_end (left_warnings (texts c.args.manner.now.allowed.now) c.args.bytes.now) _ _ c.lines.invariant.names c.lines.number (lines_left c.lines.lines) c.in_default.ensures.steps.0
-    c.lines.invariant.found
-
-pub returns-clause-unknown : goal.returns-clause-unknown
-returns-clause-unknown c =
-    marked_end (λ m. unknown_names m.line.text) _ _ c.lines.invariant.names c.lines.number (lines_left c.lines.lines) c.in_default.ensures.steps.0 c.lines.invariant.unknown
+pub returns : goal.returns
+returns c =
+    marked_end (found_in_line c.args.manner.now.format (texts c.args.manner.now.allowed.now) c.args.path.now c.args.bytes.now) _ _ c.lines.invariant.names c.lines.number (lines_left c.lines.lines)
+    c.in_default.ensures.steps.0 c.lines.invariant.found

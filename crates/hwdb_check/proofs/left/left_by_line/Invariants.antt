@@ -1,7 +1,8 @@
 use Rattle.std.proofs.Common.{length, ◌+◌, ◌≡◌, ◌≤◌, ◌++◌, ℕ, List}
 use Rattle.std.specs.Prelude.{flat_map}
 use Rattle.hwdb_text.specs.PiecesLeft.{lines_left}
-use Rattle.hwdb_spec_commands.specs.AllowedKinds.{file_text, left_warnings, marked_from, names_in, told_of_line, unknown_left, unknown_names, warnings_left}
+use Rattle.hwdb_spec_commands.specs.AllowedKinds.{file_findings, found_in_line, marked_from, names_in}
+use Rattle.hwdb_check.specs.Found.{finds}
 use Rattle.hwdb_check.specs.Following.{IsNext}
 use Rattle.hwdb_check.specs.Internal.{texts}
 use Rattle.hwdb_check.specs.Kept.{AreAlike}
@@ -15,10 +16,8 @@ invariant-lines l =
       next : IsNext l.number l.next l.faults;
       names : List (List ℕ);
       are : AreAlike (flat_map names_in (texts l.kinds.items)) (flat_map names_in allowed ++ names);
-      text : l.left.warned.text.items ++ flat_map (told_of_line l.manner.format allowed l.path l.bytes) (marked_from names l.number (lines_left l.lines))
-          ≡ file_text l.manner.format allowed l.path l.bytes;
-      found : l.left.warned.found.items ++ flat_map (left_warnings allowed l.bytes) (marked_from names l.number (lines_left l.lines)) ≡ warnings_left allowed l.bytes;
-      unknown : texts l.left.unknown.items ++ flat_map (λ m. unknown_names m.line.text) (marked_from names l.number (lines_left l.lines)) ≡ unknown_left l.bytes;
+      found : finds l.left.found.items ++ flat_map (found_in_line l.manner.format allowed l.path l.bytes) (marked_from names l.number (lines_left l.lines))
+          ≡ file_findings l.manner.format allowed l.path l.bytes;
     }
 
 abbrev pub decreases-lines : goal.decreases-lines

@@ -1,4 +1,4 @@
-use Rattle.std.proofs.Common.{List, ℕ, codes}
+use Rattle.std.proofs.Common.{codes}
 use Rattle.std.specs.Prelude.{flat_map}
 use Rattle.std.proofs.lemmas.Result.{on_ok_weaker}
 use Rattle.hwdb_spec_commands.specs.Logs.{uri_byte}

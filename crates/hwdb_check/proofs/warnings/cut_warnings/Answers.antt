@@ -1,11 +1,11 @@
 use Rattle.std.proofs.Common.{◌-◌, ◌++◌, ◌∙◌, ap, arith, drop, length, refl, subst, sym, take, List, ℕ}
 use Rattle.std.proofs.lemmas.List.{length-drop, take_rest}
-use Rattle.hwdb_spec_commands.specs.Findings.{line_text}
-use Rattle.hwdb_spec_commands.specs.Warnings.{line_warnings}
+use Rattle.hwdb_spec_commands.specs.Findings.{found_warnings}
+use Rattle.hwdb_check.specs.Found.{finds}
 use Rattle.hwdb_check.specs.Internal.{line_of}
 use Rattle.hwdb_check.specs.Leaving.{names_of}
 use Rattle.hwdb_check.specs.Plain.{IsQuiet, IsTame}
-use Rattle.hwdb_check.proofs.MarkLemmas.{found_tame, front_tame, quiet_on, tame_on, told_end, told_on, told_tame}
+use Rattle.hwdb_check.proofs.MarkLemmas.{front_tame, quiet_on, tame_on, told_end, told_on, told_tame}
 use Rattle.hwdb_check.proofs.warnings.cut_warnings.Goals as goal
 
 pub loop-at-preserved : goal.loop-at-preserved
@@ -22,32 +22,20 @@ loop-at-preserved c =
       near = omega (arith, c.loop-at.invariant.near);
       tame = tame_on file _ at end _ rest c.tame_after-tame.ensures;
       quiet = (quiet_on file n at end _ c.loop-at-test.true rest c.end_of-end.ensures.place c.loop-at.invariant.quiet).1;
-      text = told_on (line_text c.args.telling.now.format allowed c.args.path.now file) file _ _ _ n at end _ c.loop-at-test.true rest c.end_of-end.ensures.place
-          (c.in_ok-put_tame.ensures.text ∙ ap (λ (b : List ℕ). c.loop-at.warned.text.items ++ line_text c.args.telling.now.format allowed c.args.path.now b line) c.nothing_known-known.ensures.1)
-          c.loop-at.invariant.text;
-      found = told_on (line_warnings allowed file) file _ _ _ n at end _ c.loop-at-test.true rest c.end_of-end.ensures.place
-          (c.in_ok-put_tame.ensures.found ∙ ap (λ (b : List ℕ). c.loop-at.warned.found.items ++ line_warnings allowed b line) c.nothing_known-known.ensures.1)
+      found = told_on (found_warnings c.args.telling.now.format allowed c.args.path.now file) file _ _ _ n at end _ c.loop-at-test.true rest c.end_of-end.ensures.place
+          (c.in_ok-put_tame.ensures ∙ ap (λ (b : List ℕ). finds c.loop-at.warned.found.items ++ found_warnings c.args.telling.now.format allowed c.args.path.now b line) c.nothing_known-known.ensures.1)
           c.loop-at.invariant.found;
     }
 
-pub returns-then-rest-tame-clause-text : goal.returns-then-rest-tame-clause-text
-returns-then-rest-tame-clause-text c =
+pub returns-then-rest-tame : goal.returns-then-rest-tame
+returns-then-rest-tame c =
     told_tame c.args.telling.now.format (names_of c.args.telling.now) c.args.path.now c.args.bytes.now _ _ _ c.loop-at.number c.loop-at.at c.loop-at.tame
-    (take_rest c.args.bytes.now c.loop-at.at) c.if-rest-tame.true c.loop-at.invariant.tame c.loop-at.invariant.quiet c.loop-at.invariant.text
-
-pub returns-then-rest-tame-clause-found : goal.returns-then-rest-tame-clause-found
-returns-then-rest-tame-clause-found c =
-    found_tame (names_of c.args.telling.now) c.args.bytes.now _ _ _ c.loop-at.number c.loop-at.at c.loop-at.tame
     (take_rest c.args.bytes.now c.loop-at.at) c.if-rest-tame.true c.loop-at.invariant.tame c.loop-at.invariant.quiet c.loop-at.invariant.found
 
-pub returns-clause-text : goal.returns-clause-text
-returns-clause-text c =
-    told_end (line_text c.args.telling.now.format (names_of c.args.telling.now) c.args.path.now c.args.bytes.now) c.args.bytes.now _ _ c.loop-at.number c.loop-at.at
-    c.loop-at-test.false c.loop-at.invariant.text
-
-pub returns-clause-found : goal.returns-clause-found
-returns-clause-found c =
-    told_end (line_warnings (names_of c.args.telling.now) c.args.bytes.now) c.args.bytes.now _ _ c.loop-at.number c.loop-at.at c.loop-at-test.false c.loop-at.invariant.found
+pub returns : goal.returns
+returns c =
+    told_end (found_warnings c.args.telling.now.format (names_of c.args.telling.now) c.args.path.now c.args.bytes.now) c.args.bytes.now _ _ c.loop-at.number c.loop-at.at
+    c.loop-at-test.false c.loop-at.invariant.found
 
 pub put_tame-requires-clause-quiet : goal.put_tame-requires-clause-quiet
 put_tame-requires-clause-quiet c =

@@ -2,8 +2,8 @@ use Rattle.std.proofs.Common.{◌∙◌, ◌++◌, ap, arith, filter, length, Li
 use Rattle.std.specs.Prelude.{flat_map}
 use Rattle.hwdb_spec.specs.Lines.{is}
 use Rattle.hwdb_spec.specs.declared.Fault.{Fault}
-use Rattle.hwdb_spec_commands.specs.Findings.{line_faults_text, line_findings, line_text, told_fault}
-use Rattle.hwdb_spec_commands.specs.Warnings.{line_warnings}
+use Rattle.hwdb_spec_commands.specs.Findings.{found_faults, found_warnings, line_findings, one_fault}
+use Rattle.hwdb_check.specs.Found.{finds}
 use Rattle.hwdb_text.specs.PiecesLeft.{lines_left}
 use Rattle.hwdb_check.specs.Internal.{line_of}
 use Rattle.hwdb_check.specs.Leaving.{names_of}
@@ -24,12 +24,9 @@ loop-text-preserved c =
     record {
       near = omega (arith, ap length c.in-Some.ensures.steps, c.loop-text.invariant.near);
       next = c.in_ok-next.ensures.next;
-      text = line_step (line_findings format allowed path bytes) _ _ _ n left text rest c.in-Some.ensures.steps
-          (two_pieces _ _ _ (line_faults_text format path bytes line) (line_text format allowed path bytes line)
-          (c.in_ok-next.ensures.text ∙ ap (λ (fs : List Fault). c.loop-text.warned.text.items ++ flat_map (told_fault format path text) (filter (λ f. is n f.line) fs)) c.requires.faults)
-          (c.in_ok-put_line.ensures.text ∙ ap (λ (b : List ℕ). c.push_line_faults.new.text.items ++ line_text format allowed path b line) c.in_ok-known.ensures.1))
-          c.loop-text.invariant.text;
-      found = line_step (line_warnings allowed bytes) _ _ _ n left text rest c.in-Some.ensures.steps
-          (c.in_ok-put_line.ensures.found ∙ ap (λ (b : List ℕ). c.loop-text.warned.found.items ++ line_warnings allowed b line) c.in_ok-known.ensures.1)
+      found = line_step (line_findings format allowed path bytes) _ _ _ n left text rest c.in-Some.ensures.steps
+          (two_pieces _ _ _ (found_faults path bytes line) (found_warnings format allowed path bytes line)
+          (c.in_ok-next.ensures.found ∙ ap (λ (fs : List Fault). finds c.loop-text.warned.found.items ++ flat_map (one_fault path text) (filter (λ f. is n f.line) fs)) c.requires.faults)
+          (c.in_ok-put_line.ensures ∙ ap (λ (b : List ℕ). finds c.put_line_faults.new.found.items ++ found_warnings format allowed path b line) c.in_ok-known.ensures.1))
           c.loop-text.invariant.found;
     }

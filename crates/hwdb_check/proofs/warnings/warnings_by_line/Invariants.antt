@@ -1,8 +1,8 @@
 use Rattle.std.proofs.Common.{length, ◌+◌, ◌≡◌, ◌≤◌, ◌++◌}
 use Rattle.std.specs.Prelude.{flat_map}
-use Rattle.hwdb_spec_commands.specs.Findings.{findings_text, line_findings}
+use Rattle.hwdb_spec_commands.specs.Findings.{bare_findings, line_findings}
 use Rattle.hwdb_spec.specs.Lines.{numbered}
-use Rattle.hwdb_spec_commands.specs.Warnings.{line_warnings, warnings}
+use Rattle.hwdb_check.specs.Found.{finds}
 use Rattle.hwdb_text.specs.PiecesLeft.{lines_left}
 use Rattle.hwdb_check.specs.Following.{IsNext}
 use Rattle.hwdb_check.specs.Leaving.{names_of}
@@ -12,10 +12,7 @@ abbrev pub invariant-loop-text : goal.invariant-loop-text
 invariant-loop-text l = record {
   near : l.number + length (lines_left l.text-iterator) ≤ length l.bytes + 1;
   next : IsNext l.number l.next l.faults;
-  text : l.warned.text.items
+  found : finds l.warned.found.items
       ++ flat_map (line_findings l.telling.format (names_of l.telling) l.path l.bytes) (numbered l.number (lines_left l.text-iterator))
-      ≡ findings_text l.telling.format (names_of l.telling) l.path l.bytes;
-  found : l.warned.found.items
-      ++ flat_map (line_warnings (names_of l.telling) l.bytes) (numbered l.number (lines_left l.text-iterator))
-      ≡ warnings (names_of l.telling) l.bytes;
+      ≡ bare_findings l.telling.format (names_of l.telling) l.path l.bytes;
 }

@@ -1,4 +1,4 @@
-use Rattle.hwdb_laws.proofs.ComputedPlanRows.{after_rows, besides_rows, check_rows, device_rows, diff_rows, fresh_rows, input_rows, keys_rows, list_rows, misuse_rows, named_rows, near_rows, none_rows, query_rows, status_rows, sysfs_rows, text_rows, no_update_rows, update_rows}
+use Rattle.hwdb_laws.proofs.ComputedPlanRows.{after_rows, baseline_rows, besides_rows, check_rows, device_rows, diff_rows, fresh_rows, input_rows, keys_rows, list_rows, misuse_rows, named_rows, near_rows, none_rows, query_rows, status_rows, sysfs_rows, text_rows, no_update_rows, update_rows}
 use Rattle.hwdb_laws.proofs.rows.plan_rows.Goals as goal
 
 pub returns : goal.returns
@@ -8,6 +8,7 @@ returns c = record {
   near = near_rows;
   device = device_rows;
   check = check_rows;
+  baseline = baseline_rows;
   named = named_rows;
   diff = diff_rows;
   fresh = fresh_rows;

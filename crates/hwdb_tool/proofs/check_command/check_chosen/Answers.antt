@@ -1,4 +1,4 @@
-use Rattle.std.proofs.Common.{map, string_bytes, subst, ap, ◌∙◌, ◌≡◌}
+use Rattle.std.proofs.Common.{map, option_map, string_bytes, subst, ap, ◌∙◌, ◌≡◌}
 use Rattle.hwdb_spec.specs.Folders.{path_of}
 use Rattle.hwdb_text.specs.Views.{choice_of}
 use Rattle.hwdb_check.specs.Checks.{source_of}
@@ -16,7 +16,7 @@ use Rattle.hwdb_tool.proofs.check_command.check_chosen.Goals as goal
 pub returns-in_err-selection : goal.returns-in_err-selection
 returns-in_err-selection g c = record {
   follows = λ tells.
-      let next : Texts → Plan = λ texts. Done (said_of c.args.format c.args.strict (map string_bytes c.args.allowed.now) (stored texts.chosen texts.texts)) in
+      let next : Texts → Plan = λ texts. Done (said_of c.args.format c.args.strict (map string_bytes c.args.allowed.now) (option_map (λ t. t.now) c.args.name) (map (λ t. t.items) c.args.known.now) (stored texts.chosen texts.texts)) in
       value_ends_in (g.D.System.reads c.args.system.now) texts_in end_of (texts_of_folders c.args.root.now) next c.in_err-selection.field-0.0 c.from_residual.result
       (c.in_err-selection.ensures.told tells) c.from_residual.ensures.1;
 }
@@ -27,7 +27,9 @@ returns g c = record {
       let w = g.D.System.reads c.args.system.now in
       let root = c.args.root.now in
       let allowed = map string_bytes c.args.allowed.now in
-      let next : Texts → Plan = λ texts. Done (said_of c.args.format c.args.strict allowed (stored texts.chosen texts.texts)) in
+      let name = option_map (λ t. t.now) c.args.name in
+      let known = map (λ t. t.items) c.args.known.now in
+      let next : Texts → Plan = λ texts. Done (said_of c.args.format c.args.strict allowed name known (stored texts.chosen texts.texts)) in
       let selection = c.in_ok-selection.selection in
       let chosen = map choice_of selection.chosen.items in
       let texts = map (λ t. t.items) selection.texts.items in
@@ -39,6 +41,6 @@ returns g c = record {
       ap (map (λ f. f.bytes.now)) c.deref-4.ensures.value ∙ c.in_ok-files.ensures.bytes ∙ ap (map (λ t. t.items)) c.deref-3.ensures.value in
       let are = chosen_sources root (g.D.Store.seen c.args.system.now) _ chosen _ files (c.in_ok-selection.ensures.selected tells) named held in
       value_ends w texts_in end_of (texts_of_folders root) next selection c.check_read.result (c.in_ok-selection.ensures.told tells)
-      (subst (λ l. Follows end_of w (Done (said_of c.args.format c.args.strict allowed l)) c.check_read.result) (files_stored chosen texts files named held)
-      (checked_ends w c.args.format c.args.strict allowed (map source_of files) are.within c.check_read.result c.check_read.ensures.checked c.check_read.ensures.refused));
+      (subst (λ l. Follows end_of w (Done (said_of c.args.format c.args.strict allowed name known l)) c.check_read.result) (files_stored chosen texts files named held)
+      (checked_ends w c.args.format c.args.strict allowed name known (map source_of files) are.within c.check_read.result c.check_read.ensures.checked c.check_read.ensures.refused));
 }

@@ -1,4 +1,4 @@
-use Rattle.std.proofs.Common.{◌≡◌, false, inl, inr, map, string_bytes, subst, sym, Err, Global, List, Result, String, Vec, [], ℕ}
+use Rattle.std.proofs.Common.{◌≡◌, false, inl, inr, map, option_map, string_bytes, subst, sym, Err, Global, List, Result, String, Vec, [], ℕ}
 use Rattle.hwdb_spec_commands.specs.Given.{any_dash}
 use Rattle.hwdb_spec_commands.specs.declared.unread.Unread.{Unread}
 use Rattle.hwdb_spec_commands.specs.declared.unread.Unread.TheVariants as unread
@@ -18,7 +18,7 @@ returns-clause-unread g c = λ none.
 pub returns-in_err-paths-clause-follows : goal.returns-in_err-paths-clause-follows
 returns-in_err-paths-clause-follows g c = λ tells.
     let given = map string_bytes c.args.given.now in
-    let next : Result (List ℕ) Unread → List (List ℕ) → Plan = λ told paths. given_files given told paths (λ sources. Done (said_of c.args.format c.args.strict (map string_bytes c.args.allowed.now) sources)) in (
+    let next : Result (List ℕ) Unread → List (List ℕ) → Plan = λ told paths. given_files given told paths (λ sources. Done (said_of c.args.format c.args.strict (map string_bytes c.args.allowed.now) (option_map (λ t. t.now) c.args.name) (map (λ t. t.items) c.args.known.now) sources)) in (
       Err unread.Memory,
       tt,
       value_ends_in (g.D.System.reads c.args.system.now) (λ (v : Vec (String Global) Global). map string_bytes v.items) end_of (named_files given []) (next (Err unread.Memory)) c.in_err-paths.field-0.0
@@ -29,7 +29,7 @@ pub returns-clause-follows : goal.returns-clause-follows
 returns-clause-follows g c = λ tells.
     let w = g.D.System.reads c.args.system.now in
     let given = map string_bytes c.args.given.now in
-    let next : Result (List ℕ) Unread → List (List ℕ) → Plan = λ told paths. given_files given told paths (λ sources. Done (said_of c.args.format c.args.strict (map string_bytes c.args.allowed.now) sources)) in
+    let next : Result (List ℕ) Unread → List (List ℕ) → Plan = λ told paths. given_files given told paths (λ sources. Done (said_of c.args.format c.args.strict (map string_bytes c.args.allowed.now) (option_map (λ t. t.now) c.args.name) (map (λ t. t.items) c.args.known.now) sources)) in
     let told = subst (λ l. OfInput (g.I.Source.left c.args.input.now) (g.I.Source.failures c.args.input.now) (g.I.Source.failures c.check_given.new.input)
     (λ told. Follows end_of w (next told (map string_bytes l)) c.check_given.result)) c.deref.ensures.value (c.check_given.ensures.follows tells) in (
       told.0,

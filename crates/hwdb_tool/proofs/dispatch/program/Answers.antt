@@ -118,7 +118,7 @@ returns-in-Ok-clause-follows g c = λ tells faultless.
       kept = subst (λ (s : g.row.D.Denot). AreKept (F c.args.system.now) (F s)) (sym (c.enter_root.ensures.same tells)) (record { same = λ p. refl; no_more = λ p v l. l });
       said = record { said = c.in-Err.refusal; of = inl refl; words = c.refuse_for.ensures.line.0; one_line = c.refuse_for.ensures.line.1; line = c.refuse_for.ensures.line.2 };
       out = refl;
-      says = refl;
+      says = c.refused_status-in-Err.ensures.is;
     })
 
 pub returns-clause-follows : goal.returns-clause-follows

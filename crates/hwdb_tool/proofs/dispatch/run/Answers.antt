@@ -1,4 +1,4 @@
-use Rattle.std.proofs.Common.{◌∷◌, ◌≡◌, false, ap, inl, refl, string_bytes, subst, sym, ◌==◌, length, map, not, Global, IfOk, IfErr, List, Option, String, ℕ}
+use Rattle.std.proofs.Common.{◌∷◌, ◌≡◌, false, ap, inl, refl, string_bytes, subst, sym, ◌==◌, length, map, not, Global, IfOk, IfErr, List, Option, Result, String, ℕ}
 use Rattle.std.specs.Prelude.{option_map}
 use Rattle.hwdb_spec_program.specs.GivenDatabases.{names_input}
 use Rattle.hwdb_spec_commands.specs.Given.{any_dash, is_dash}
@@ -12,7 +12,6 @@ use Rattle.hwdb_tool.specs.Views.{end_of}
 use Rattle.hwdb_tool.proofs.KeyLemmas.{keys_follow}
 use Rattle.hwdb_plan.specs.Answers.{explain_plan, query_plan}
 use Rattle.hwdb_plan.specs.Ask.{ask_plan}
-use Rattle.hwdb_plan.specs.Check.{check_plan, said_of}
 use Rattle.hwdb_plan.specs.Device.{OfCause, device_asked}
 use Rattle.hwdb_plan.specs.Dump.{dump_plan}
 use Rattle.hwdb_plan.specs.Ended.{ShowsEnd, outs}
@@ -20,16 +19,17 @@ use Rattle.hwdb_plan.specs.Files.{OfInput}
 use Rattle.hwdb_plan.specs.Input.{OverGiven, OverNamed}
 use Rattle.hwdb_plan.specs.List.{list_plan}
 use Rattle.hwdb_plan.specs.Near.{near_plan}
-use Rattle.hwdb_plan.specs.Plans.{Follows}
+use Rattle.hwdb_plan.specs.Plans.{Follows, Plan}
 use Rattle.hwdb_plan.specs.Status.{status_plan}
 use Rattle.hwdb_plan.specs.Test.{test_plan}
 use Rattle.hwdb_plan.specs.Verify.{verify_plan}
 use Rattle.hwdb_spec_commands.specs.Jobs.{IsTask}
 use Rattle.hwdb_spec_commands.specs.declared.devices.DeviceForm.{DeviceForm}
-use Rattle.hwdb_tool.proofs.ProgramPlanLemmas.{ask_planned, check_planned, device_planned, diff_planned, dump_planned, explain_planned, list_planned, near_planned, of_words, query_planned, status_planned, test_planned, update_unplanned, verify_planned}
+use Rattle.hwdb_tool.proofs.ProgramPlanLemmas.{ask_planned, check_as, check_planned, device_planned, diff_planned, dump_planned, explain_planned, list_planned, near_planned, of_words, query_planned, status_planned, test_planned, update_unplanned, verify_planned}
 use Rattle.hwdb_tool.proofs.UpdatingLemmas.{task_crash, task_moment, task_updates}
 use Rattle.hwdb_tool.proofs.dispatch.run.Goals as goal
 use Rattle.hwdb_spec_commands.specs.declared.formats.Format.{Format}
+use Rattle.hwdb_spec_commands.specs.declared.unread.Unread.{Unread}
 
 pub returns-in-Update-clause-any_moment : goal.returns-in-Update-clause-any_moment
 returns-in-Update-clause-any_moment g c = λ tells.
@@ -173,22 +173,32 @@ returns-in-Check-clause-follows g c = λ tells words asked.
     let O = told_by g.O.Sink.taken g.O.Sink.failures in
     let E = told_by g.E.Sink.taken g.E.Sink.failures in
     let input = I c.args.input.now in
-    let left = I c.check-answer.new.input in
+    let left = I c.check_as_asked-answer.new.input in
     let before = outs (E c.args.err.now) (O c.args.out.now) in
     let now = outs (E c.printed-in-Check.new.err) (O c.printed-in-Check.new.out) in
     let result = c.printed-in-Check.result in
     let root = root_of c.args.job.now in
     let strict = c.args.job.now.strict in
     let form = c.format_of-form.result in
-    let files = c.deref-in-Check.result.now in
-    let kinds = map string_bytes c.in-Check.allowed.items in
-    let answer = c.check-answer.result in
+    let files = map string_bytes c.deref-in-Check.result.now in
+    let kinds = map string_bytes c.deref-in-Check-2.result.now in
+    let name = option_map (λ t. t.now) c.text_of-name.result in
+    let known = option_map (λ t. t.now) c.text_of-known.result in
+    let name2 = option_map string_bytes c.in-Check.name in
+    let known2 = option_map string_bytes c.in-Check.baseline in
+    let kinds2 = map string_bytes c.in-Check.allowed.items in
+    let files2 = map string_bytes c.in-Check.files.items in
+    let answer = c.check_as_asked-answer.result in
+    let Told = λ (is : Result (List ℕ) Unread → Plan). OfInput input.bytes input.failures left.failures (λ told. Follows end_of w (is told) answer) in
     of_words w sight input left before now result words c.args.job.now asked
-    (λ word rows is. check_planned w sight input left before now result root strict word rows answer c.printed-in-Check.ensures.prints c.in-Check.files c.in-Check.allowed c.in-Check.json c.in-Check.format (subst (λ t. IsTask word rows t) c.in-Check.is is)
-    (subst (λ (f : Format). OfInput input.bytes input.failures left.failures (λ told. Follows end_of w (check_plan told (map string_bytes c.in-Check.files.items) root (said_of f strict kinds)) answer)) c.format_of-form.ensures
-    (subst (λ (fs : List (String Global)). OfInput input.bytes input.failures left.failures (λ told. Follows end_of w (check_plan told (map string_bytes fs) root (said_of form strict kinds)) answer)) c.deref-in-Check.ensures.value
-    (subst (λ (ks : List (String Global)). OfInput input.bytes input.failures left.failures (λ told. Follows end_of w (check_plan told (map string_bytes files) root (said_of form strict (map string_bytes ks))) answer)) c.deref-in-Check-2.ensures.value
-    (subst (λ (r : List ℕ). OfInput input.bytes input.failures left.failures (λ told. Follows end_of w (check_plan told (map string_bytes files) r (said_of form strict (map string_bytes c.deref-in-Check-2.result.now))) answer)) c.root_of-root.ensures (c.check-answer.ensures.follows tells))))))
+    (λ word rows is. check_planned w sight input left before now result root strict word rows answer c.printed-in-Check.ensures.prints c.in-Check.files c.in-Check.allowed c.in-Check.json c.in-Check.format c.in-Check.name
+    c.in-Check.baseline (subst (λ t. IsTask word rows t) c.in-Check.is is)
+    (subst (λ (f : Format). Told (λ told. check_as told root strict files2 name2 known2 f kinds2)) c.format_of-form.ensures
+    (subst (λ (fs : List (String Global)). Told (λ told. check_as told root strict (map string_bytes fs) name2 known2 form kinds2)) c.deref-in-Check.ensures.value
+    (subst (λ (n : Option (List ℕ)). Told (λ told. check_as told root strict files n known2 form kinds2)) c.text_of-name.ensures
+    (subst (λ (b : Option (List ℕ)). Told (λ told. check_as told root strict files name b form kinds2)) c.text_of-known.ensures
+    (subst (λ (ks : List (String Global)). Told (λ told. check_as told root strict files name known form (map string_bytes ks))) c.deref-in-Check-2.ensures.value
+    (subst (λ (r : List ℕ). Told (λ told. check_as told r strict files name known form kinds)) c.root_of-root.ensures (c.check_as_asked-answer.ensures.follows tells))))))))
 
 pub returns-in-Near-clause-follows : goal.returns-in-Near-clause-follows
 returns-in-Near-clause-follows g c = λ tells words asked.
