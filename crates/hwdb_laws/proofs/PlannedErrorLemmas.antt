@@ -1,11 +1,11 @@
 -- Two runs with the same words that end with an error end with one.
-use Rattle.std.proofs.Common.{◌≡◌, ◌∙◌, ◌++◌, ◌⊎◌, ◌∷◌, ⊎_elim, inl, inr, ap, refl, subst, sym, drop, length, Bool, IfSome, List, Option, None, Result, Some, Ok, Err, ℕ, [], true, false, ◌≤◌, ◌<◌}
+use Rattle.std.proofs.Common.{◌≡◌, ◌∙◌, ◌++◌, ◌⊎◌, ◌∷◌, ⊎_elim, inl, inr, ap, refl, subst, sym, length, Bool, IfSome, List, Option, None, Result, Some, Ok, Err, ℕ, [], true, false, ◌≤◌, ◌<◌}
 use Rattle.std.specs.Io.KnownBytes.{Appends}
 use Rattle.std.specs.Option.{option_map_or}
 use Rattle.std.specs.Prelude.{codes, find, if◌then◌else◌, nat_le, option_map}
 use Rattle.std.specs.Str.{bytes_eq}
 use Rattle.clap.specs.Simple.{matches_of, subcommand_of}
-use Rattle.clap.specs.Walk.{Row, Text, first_of}
+use Rattle.clap.specs.Walk.{Row, Text}
 use Rattle.hwdb_spec.specs.Folders.{Choice, Source, choice, max_files, names}
 use Rattle.hwdb_spec.specs.System.{etc_files, usr_files}
 use Rattle.hwdb_spec.specs.Errors.{refusal_of_compile}
@@ -21,19 +21,17 @@ use Rattle.hwdb_spec.specs.declared.errors.ToolError.TheVariants.{BadDatabase, B
 use Rattle.hwdb_spec.specs.declared.causes.Cause.{Cause}
 use Rattle.hwdb_spec_commands.specs.AnsweredLines.{answered_lines, line_error}
 use Rattle.hwdb_spec_commands.specs.CommandLine.{hwdb_app}
-use Rattle.hwdb_spec_commands.specs.DeviceAsked.{device_form, device_list, missing_text, no_sysfs_text, unread_text}
-use Rattle.hwdb_spec_commands.specs.DeviceTree.{Sight, device_at, unread_for}
+use Rattle.hwdb_spec_commands.specs.DeviceAsked.{missing_text, no_sysfs_text, unread_text}
+use Rattle.hwdb_spec_commands.specs.DeviceTree.{Sight, unread_for}
 use Rattle.hwdb_spec_commands.specs.Jobs.{has_flag}
 use Rattle.hwdb_spec_commands.specs.Runs.{Told}
 use Rattle.hwdb_spec_commands.specs.Told.{Reads, Stop, Unlisted, stop_of, unlisted_stop, unread_stop}
 use Rattle.hwdb_spec_commands.specs.Told.Stop.{Over, Plain, Says}
-use Rattle.hwdb_spec_commands.specs.declared.devices.DeviceForm.{DeviceForm}
 use Rattle.hwdb_spec_commands.specs.declared.refusals.Refusal.{Refusal}
 use Rattle.hwdb_spec_commands.specs.declared.refusals.Refusal.TheVariants as refusal
 use Rattle.hwdb_spec_commands.specs.declared.unread.Unread.{Unread}
 use Rattle.hwdb_spec_commands.specs.declared.unread.Unread.TheVariants as unread
-use Rattle.hwdb_plan.specs.Asking.{asked}
-use Rattle.hwdb_plan.specs.Device.{all_misuse, device_answer, device_asked, device_plan, every_plan, folder_of, none_there, one_of, place_of, says, strings_answer, strings_plan, sysfs_of}
+use Rattle.hwdb_plan.specs.Sysfs.{folder_of, none_there, one_of, place_of, says, sysfs_of}
 use Rattle.hwdb_plan.specs.Ended.{OnLines, Outs, Shows, ShowsEnd, StreamStops}
 use Rattle.hwdb_plan.specs.Input.{IsInputTold}
 use Rattle.hwdb_plan.specs.Laws.{AreAlike, OverIsNoMore, OverIsOver, PlansEndAlike}
@@ -41,7 +39,10 @@ use Rattle.hwdb_plan.specs.Plans.{AreMadeOf, End, Ends, Plan, over, reads_over}
 use Rattle.hwdb_plan.specs.Plans.End.{Answers, Lines, Replaces, Stops, Streams}
 use Rattle.hwdb_plan.specs.Plans.Plan.{Done}
 use Rattle.hwdb_spec_program.specs.DeviceErrors.{asked_names}
-use Rattle.hwdb_spec_program.specs.ProgramPlan.{Around, ShowsPlan, Taker, as_given, files_plan, found_plan, over_texts, plans, program_plan, root_given, strict_given, takers}
+use Rattle.hwdb_spec_program.specs.ProgramPlan.{ShowsPlan, Taker, as_given, command_of, files_plan, over_texts, program_plan, root_given, takers}
+use Rattle.hwdb_plan.specs.Requests.{Around, Command, Search, found_plan, plan_of, told_plan}
+use Rattle.hwdb_plan.specs.Requests.Command.{OfDevices, OfFiles}
+use Rattle.hwdb_plan.specs.Requests.Search.{AtPlace, Below, Fitting, Found}
 use Rattle.hwdb_laws.proofs.PlannedLemmas.{OverLaws, Serves, mapped, no_memory, one_told, plan_moves, too_long}
 use Rattle.hwdb_laws.specs.PlannedErrors.{AreButForCause, AreOneEnd, AreOneError, IsOfReading, PlannedErrorsAreOne}
 use Rattle.hwdb_laws.specs.PlannedRuns.{HavePlan, Tells}
@@ -73,36 +74,29 @@ module _ (alike : PlansEndAlike) where
         folder_alike (root ++ codes "/sys") (λ sys. folder_of sight cause (sys ++ codes "/devices") (λ devices. one sys)) (λ sys. folder_of sight cause2 (sys ++ codes "/devices") (λ devices. two sys))
         (λ sys. folder_alike (sys ++ codes "/devices") (λ devices. one sys) (λ devices. two sys) (λ devices. step sys))
 
-    place_alike : (root given sys : List ℕ) (next : List ℕ → Plan) → Alike (place_of sight cause asked_names root given sys next) (place_of sight cause2 asked_names root given sys next)
-    place_alike root given sys next = by (places_meant sight asked_names root sys given)
+    place_alike : (root given sys : List ℕ) (one two : List ℕ → Plan) → ((place : List ℕ) → Alike (one place) (two place))
+        → Alike (place_of sight cause asked_names root given sys one) (place_of sight cause2 asked_names root given sys two)
+    place_alike root given sys one two step = by (places_meant sight asked_names root sys given)
       where
         none : (u : Option (List ℕ)) → Alike (option_map_or (λ path. says (unread_text path cause)) u (says (missing_text sight asked_names root sys given cause)))
             (option_map_or (λ path. says (unread_text path cause2)) u (says (missing_text sight asked_names root sys given cause2)))
         none None = says_alike (missing_text sight asked_names root sys given cause) (missing_text sight asked_names root sys given cause2) (cause, cause2, inr (inr (sight, root, sys, given, refl, refl)))
         none (Some path) = says_alike (unread_text path cause) (unread_text path cause2) (cause, cause2, inr (inl (path, refl, refl)))
 
-        by : (places : List (List ℕ)) → Alike (one_of next (λ l. says (several_text sight asked_names sys given l)) (none_there sight cause asked_names root given sys) places)
-            (one_of next (λ l. says (several_text sight asked_names sys given l)) (none_there sight cause2 asked_names root given sys) places)
+        by : (places : List (List ℕ)) → Alike (one_of one (λ l. says (several_text sight asked_names sys given l)) (none_there sight cause asked_names root given sys) places)
+            (one_of two (λ l. says (several_text sight asked_names sys given l)) (none_there sight cause2 asked_names root given sys) places)
         by [] = none (unread_for sight root sys given)
-        by (place ∷ []) = same_alike (next place)
-        by (place ∷ two ∷ more) = same_alike (says (several_text sight asked_names sys given (place ∷ two ∷ more)))
+        by (place ∷ []) = step place
+        by (place ∷ other ∷ more) = same_alike (says (several_text sight asked_names sys given (place ∷ other ∷ more)))
 
-    device_alike : (root : List ℕ) (form : DeviceForm) (given : Option (List ℕ)) → Alike (device_plan sight cause asked_names root form given) (device_plan sight cause2 asked_names root form given)
-    device_alike root form None = let all = λ (sys : List ℕ). Done (Answers 0 [] (device_list sight asked_names sys)) in sysfs_alike root all all (λ sys. same_alike (all sys))
-    device_alike root form (Some given) =
-        let meant = λ (sys place : List ℕ). asked root (device_answer form (device_at sight asked_names sys place)) in
-        sysfs_alike root (λ sys. place_of sight cause asked_names root given sys (meant sys)) (λ sys. place_of sight cause2 asked_names root given sys (meant sys)) (λ sys. place_alike root given sys (meant sys))
-
-    every_alike : (root : List ℕ) (form : DeviceForm) (given : Option (List ℕ)) → Alike (every_plan sight cause asked_names root form given) (every_plan sight cause2 asked_names root form given)
-    every_alike root form given = by (all_misuse form given)
-      where
-        by : (o : Option (List ℕ)) → Alike (option_map_or says o (strings_plan sight cause asked_names root)) (option_map_or says o (strings_plan sight cause2 asked_names root))
-        by None = let all = λ (sys : List ℕ). asked root (strings_answer sight asked_names sys) in sysfs_alike root all all (λ sys. same_alike (all sys))
-        by (Some text) = same_alike (says text)
-
-    asked_alike : (root : List ℕ) (form : DeviceForm) (all : Bool) (given : Option (List ℕ)) → Alike (device_asked sight cause asked_names root form all given) (device_asked sight cause2 asked_names root form all given)
-    asked_alike root form true given = every_alike root form given
-    asked_alike root form false given = device_alike root form given
+    search_alike : (search : Search) → Alike (found_plan sight asked_names cause search) (found_plan sight asked_names cause2 search)
+    search_alike (Found p) = same_alike p
+    search_alike (Below root next) =
+        sysfs_alike root (λ sys. found_plan sight asked_names cause (next sys)) (λ sys. found_plan sight asked_names cause2 (next sys)) (λ sys. search_alike (next sys))
+    search_alike (AtPlace root given sys next) =
+        place_alike root given sys (λ place. found_plan sight asked_names cause (next place)) (λ place. found_plan sight asked_names cause2 (next place)) (λ place. search_alike (next place))
+    search_alike (Fitting None search) = search_alike search
+    search_alike (Fitting (Some text) search) = same_alike (says text)
 
   -- ---- `--text`
   -- two runs read the same up to a place, from which each goes on; or they end alike before
@@ -255,36 +249,6 @@ module _ (alike : PlansEndAlike) where
         by true = taker_alike (root_given top found.1) taken
         by false = both
 
-  -- ---- tables of plans
-  abbrev AllAlike : (rows others : List (Text × Plan)) → Type 0
-  AllAlike [] [] = Unit {0}
-  AllAlike (row ∷ rows) (other ∷ others) = (row.0 ≡ other.0) × Alike row.1 other.1 × AllAlike rows others
-  AllAlike rows others = ⊥
-
-  all_same : (rows : List (Text × Plan)) → AllAlike rows rows
-  all_same [] = tt
-  all_same (row ∷ rows) = (refl, same_alike row.1, all_same rows)
-
-  abbrev Finds : (word : Text) (rows : List (Text × Plan)) (p : Plan) → Type 0
-  Finds word rows p = option_map (λ row. row.1) (find (λ row. bytes_eq row.0 word) rows) ≡ Some p
-
-  row_alike : (word : Text) (rows others : List (Text × Plan)) (p q : Plan) → AllAlike rows others → Finds word rows p → Finds word others q → Alike p q
-  row_alike word [] [] p q all is is2 = absurd cc
-  row_alike word (row ∷ rows) [] p q all is is2 = absurd all
-  row_alike word [] (other ∷ others) p q all is is2 = absurd all
-  row_alike word (row ∷ rows) (other ∷ others) p q (same, one, more) is is2 =
-      by (row_alike word rows others p q more) (bytes_eq row.0 word) is
-      (subst (λ (n : Text). option_map (λ (r : Text × Plan). r.1) (if bytes_eq n word then Some other else find (λ (r : Text × Plan). bytes_eq r.0 word) others) ≡ Some q) (sym same) is2)
-    where
-      some : {X : Type 0} (x y : X) → Some x ≡ Some y → x ≡ y
-      some x y equal = cc
-
-      by : (Finds word rows p → Finds word others q → Alike p q) → (b : Bool) → option_map (λ (r : Text × Plan). r.1) (if b then Some row else find (λ (r : Text × Plan). bytes_eq r.0 word) rows) ≡ Some p
-          → option_map (λ (r : Text × Plan). r.1) (if b then Some other else find (λ (r : Text × Plan). bytes_eq r.0 word) others) ≡ Some q → Alike p q
-      by rest true is is2 w e f ends ends2 =
-          one w e f (subst (λ (x : Plan). Ends w x e) (sym (some row.1 p is)) ends) (subst (λ (x : Plan). Ends w x f) (sym (some other.1 q is2)) ends2)
-      by rest false is is2 w e f ends ends2 = rest is is2 w e f ends ends2
-
   -- ---- the plans of words, with other words of a cause
   module _ (sight : Sight) (cause cause2 : List ℕ) (told : Result (List ℕ) Unread) where
     abbrev first : Around
@@ -293,30 +257,18 @@ module _ (alike : PlansEndAlike) where
     abbrev second : Around
     second = record { input = told; sight = sight; cause = cause2 }
 
-    rows_alike : (root : List ℕ) (strict : Bool) (rows : List Row) → AllAlike (plans first root strict rows) (plans second root strict rows)
-    rows_alike root strict rows =
-        let form = device_form (has_flag (codes "strings") rows) (has_flag (codes "json") rows) (has_flag (codes "pattern") rows) in (
-          refl,
-          same_alike _,
-          (
-            refl,
-            same_alike _,
-            (
-              refl,
-              same_alike _,
-              (
-                refl,
-                same_alike _,
-                (refl, same_alike _, (refl, asked_alike sight cause cause2 root form (has_flag (codes "all") rows) (first_of (codes "DEVICE") rows), all_same (drop 6 (plans first root strict rows)))),
-              ),
-            ),
-          ),
-        )
+    command_alike : (command : Command) → Alike (plan_of asked_names first command) (plan_of asked_names second command)
+    command_alike (OfFiles request) = same_alike (told_plan told request)
+    command_alike (OfDevices search) = search_alike sight cause cause2 search
 
-    found_alike : (top : List Row) (found : Option (Text × List Row)) (p q : Plan) → found_plan first top found ≡ Some p → found_plan second top found ≡ Some q → Alike p q
-    found_alike top None p q is is2 = absurd cc
-    found_alike top (Some f) p q is is2 =
-        row_alike f.0 (plans first (root_given top f.1) (strict_given top f.1) f.1) (plans second (root_given top f.1) (strict_given top f.1) f.1) p q (rows_alike (root_given top f.1) (strict_given top f.1) f.1) is is2
+    found_alike : (found : Option Command) (p q : Plan) → option_map (plan_of asked_names first) found ≡ Some p → option_map (plan_of asked_names second) found ≡ Some q → Alike p q
+    found_alike None p q is is2 w e f ends ends2 = absurd cc
+    found_alike (Some command) p q is is2 w e f ends ends2 =
+        command_alike command w e f (subst (λ (x : Plan). Ends w x e) (sym (some (plan_of asked_names first command) p is)) ends)
+        (subst (λ (x : Plan). Ends w x f) (sym (some (plan_of asked_names second command) q is2)) ends2)
+      where
+        some : {X : Type 0} (x y : X) → Some x ≡ Some y → x ≡ y
+        some x y equal = cc
 
     plan_alike : OverLaws → (words : List Text) (p q : Plan) → program_plan first words ≡ Some p → program_plan second words ≡ Some q → Alike p q
     plan_alike laws words p q is is2 w e f ends ends2 =
@@ -324,7 +276,7 @@ module _ (alike : PlansEndAlike) where
         let found = subcommand_of hwdb_app words in
         let x = mapped (as_given top found) (files_plan first words) p is in
         let y = mapped (as_given top found) (files_plan second words) q is2 in
-        given_alike laws x.0 y.0 (found_alike top found x.0 y.0 x.1 y.1) top found w e f (subst (λ (z : Plan). Ends w z e) (sym x.2) ends) (subst (λ (z : Plan). Ends w z f) (sym y.2) ends2)
+        given_alike laws x.0 y.0 (found_alike (command_of sight words) x.0 y.0 x.1 y.1) top found w e f (subst (λ (z : Plan). Ends w z e) (sym x.2) ends) (subst (λ (z : Plan). Ends w z f) (sym y.2) ends2)
 
 -- ---- ends of streams
 one_grown : (had : List ℕ) (now now2 : Option (List ℕ)) (text : List ℕ) → Appends (Some had) now text → Appends (Some had) now2 text → now ≡ now2
@@ -428,8 +380,8 @@ shown_error input input_now before now r bytes tells reading (Replaces folder ma
 -- ---- two runs
 module _ (alike : PlansEndAlike) (laws : OverLaws) (words : List Text) (w : Reads) (sight : Sight) (input input_now input_now2 : Told) (before now now2 : Outs) (r r2 : Refusal) (have : HavePlan words)
     (of_input : Tells input) (of_out : Tells before.out) (reading : IsOfReading input input_now r) (reading2 : IsOfReading input input_now2 r2) where
-  abbrev plan_of : (told : Result (List ℕ) Unread) (cause : List ℕ) → Plan
-  plan_of told cause = have.plan (record { input = told; sight = sight; cause = cause })
+  abbrev plan_told : (told : Result (List ℕ) Unread) (cause : List ℕ) → Plan
+  plan_told told cause = have.plan (record { input = told; sight = sight; cause = cause })
 
   -- an end that says that memory was refused
   abbrev IsForgone : End → Type 0
@@ -459,18 +411,18 @@ module _ (alike : PlansEndAlike) (laws : OverLaws) (words : List Text) (w : Read
   shared e f (Err unread.TooLong) (Err unread.TooLong) is is2 = (Err unread.TooLong, inl refl, inl refl)
   shared e f (Err unread.TooLong) (Ok y) is is2 = long_or_short y input_now2.failures input_now.failures is2 is
 
-  moved : (e : End) (told t : Result (List ℕ) Unread) (cause : List ℕ) → ServesBut e told t → Ends w (plan_of told cause) e → Ends w (plan_of t cause) e ⊎ IsForgone e
+  moved : (e : End) (told t : Result (List ℕ) Unread) (cause : List ℕ) → ServesBut e told t → Ends w (plan_told told cause) e → Ends w (plan_told t cause) e ⊎ IsForgone e
   moved e told t cause serves ends =
-      plan_moves laws w e (IsForgone e) sight cause cause told t serves (inl refl) words (plan_of told cause) (plan_of t cause)
+      plan_moves laws w e (IsForgone e) sight cause cause told t serves (inl refl) words (plan_told told cause) (plan_told t cause)
       (have.is (record { input = told; sight = sight; cause = cause })) (have.is (record { input = t; sight = sight; cause = cause })) ends
 
   one_end : (e f : End) (told told2 : Result (List ℕ) Unread) (cause cause2 : List ℕ) → IsInputTold input.bytes input.failures input_now.failures told
-      → IsInputTold input.bytes input.failures input_now2.failures told2 → Ends w (plan_of told cause) e → Ends w (plan_of told2 cause2) f → AreOneEnd e f ⊎ (IsForgone e ⊎ IsForgone f)
+      → IsInputTold input.bytes input.failures input_now2.failures told2 → Ends w (plan_told told cause) e → Ends w (plan_told told2 cause2) f → AreOneEnd e f ⊎ (IsForgone e ⊎ IsForgone f)
   one_end e f told told2 cause cause2 is is2 ends ends2 =
       let (t, serves, serves2) = shared e f told told2 is is2 in
       ⊎_elim
       (λ one. ⊎_elim
-      (λ two. inl (plan_alike alike sight cause cause2 t laws words (plan_of t cause) (plan_of t cause2)
+      (λ two. inl (plan_alike alike sight cause cause2 t laws words (plan_told t cause) (plan_told t cause2)
       (have.is (record { input = t; sight = sight; cause = cause })) (have.is (record { input = t; sight = sight; cause = cause2 })) w e f one two))
       (λ gone. inr (inr gone)) (moved f told2 t cause2 serves2 ends2))
       (λ gone. inr (inl gone)) (moved e told t cause serves ends)
@@ -518,7 +470,7 @@ module _ (alike : PlansEndAlike) (laws : OverLaws) (words : List Text) (w : Read
       (subst (λ (o : Option Plan). IfSome o (λ p. ShowsEnd w p input input_now before now (Err r))) (have.is (record { input = told; sight = sight; cause = cause })) shows)
       (subst (λ (o : Option Plan). IfSome o (λ p. ShowsEnd w p input input_now2 before now2 (Err r2))) (have.is (record { input = told2; sight = sight; cause = cause2 })) shows2)
     where
-      by : ShowsEnd w (plan_of told cause) input input_now before now (Err r) → ShowsEnd w (plan_of told2 cause2) input input_now2 before now2 (Err r2) → AreOne
+      by : ShowsEnd w (plan_told told cause) input input_now before now (Err r) → ShowsEnd w (plan_told told2 cause2) input input_now2 before now2 (Err r2) → AreOne
       by (inr none) two = absurd (reading.memory none.0)
       by (inl one) (inr none) = absurd (reading2.memory none.0)
       by (inl (e, ends, shows)) (inl (f, ends2, shows2)) =

@@ -4,20 +4,16 @@ use Rattle.std.specs.Option.{option_map_or}
 use Rattle.std.specs.Prelude.{codes, find, if◌then◌else◌, nat_le, option_map}
 use Rattle.std.specs.Str.{bytes_eq}
 use Rattle.clap.specs.Simple.{matches_of, subcommand_of}
-use Rattle.clap.specs.Walk.{Row, Text, first_of}
+use Rattle.clap.specs.Walk.{Row, Text}
 use Rattle.hwdb_spec.specs.Folders.{Choice, Source, choice, max_files, names}
 use Rattle.hwdb_spec.specs.System.{etc_files, usr_files}
-use Rattle.hwdb_spec.specs.Tree.{Tree}
 use Rattle.hwdb_spec_commands.specs.CheckedFiles.{files_in, folder_of}
 use Rattle.hwdb_spec_commands.specs.CommandLine.{hwdb_app}
-use Rattle.hwdb_spec_commands.specs.DeviceAsked.{device_form, device_list, missing_text, no_sysfs_text, unread_text}
+use Rattle.hwdb_spec_commands.specs.DeviceAsked.{missing_text, no_sysfs_text, unread_text}
 use Rattle.hwdb_spec_commands.specs.DeviceFound.{places_meant, several_text}
-use Rattle.hwdb_spec_commands.specs.DeviceTree.{Sight, device_at, last_after, unread_for}
-use Rattle.hwdb_spec_commands.specs.declared.devices.DeviceForm.{DeviceForm}
+use Rattle.hwdb_spec_commands.specs.DeviceTree.{Sight, unread_for}
 use Rattle.hwdb_spec_commands.specs.Given.{any_dash, is_dash}
 use Rattle.hwdb_spec_commands.specs.Jobs.{has_flag}
-use Rattle.hwdb_spec_commands.specs.Near.{PatternAt}
-use Rattle.hwdb_spec_commands.specs.NearAsked.{near_form, near_limit, patterns_from}
 use Rattle.hwdb_spec_commands.specs.Runs.{Told, World}
 use Rattle.hwdb_spec_commands.specs.Sides.{as_etc, names_text}
 use Rattle.hwdb_spec_commands.specs.Told.{Reads, Stop, Unlisted, stop_of, unread_stop}
@@ -30,13 +26,10 @@ use Rattle.hwdb_spec_commands.specs.declared.refusals.Refusal.{Refusal}
 use Rattle.hwdb_spec_commands.specs.declared.refusals.Refusal.TheVariants as refusal
 use Rattle.hwdb_spec_commands.specs.declared.unread.Unread.{Unread}
 use Rattle.hwdb_spec_commands.specs.declared.unread.Unread.TheVariants as unread
-use Rattle.hwdb_plan.specs.Ask.{lone_answer}
-use Rattle.hwdb_plan.specs.Asking.{asked, if_read, named}
-use Rattle.hwdb_plan.specs.Check.{check_plan, checked_plan, if_marked, over_baseline, said_of}
-use Rattle.hwdb_plan.specs.Device.{all_misuse, device_answer, device_asked, device_plan, every_plan, folder_of as folder_place, none_there, one_of, place_of, says, strings_answer, strings_plan, sysfs_of}
+use Rattle.hwdb_plan.specs.Asking.{if_read}
+use Rattle.hwdb_plan.specs.Baseline.{if_marked, over_baseline}
+use Rattle.hwdb_plan.specs.Sysfs.{folder_of as folder_place, none_there, one_of, place_of, says, sysfs_of}
 use Rattle.hwdb_spec_program.specs.DeviceErrors.{asked_names}
-use Rattle.hwdb_plan.specs.Diff.{change_of, compared, diff_plan, once, sides_compared}
-use Rattle.hwdb_plan.specs.Dump.{text_form}
 use Rattle.hwdb_plan.specs.Ended.{Leaves, OnLines, Outs, Shows, ShowsEnd, StreamStops, Streamed}
 use Rattle.hwdb_plan.specs.Files.{ask_file, given_files, if_input, is_word, read_files, source_at}
 use Rattle.hwdb_plan.specs.Folders.{Texts, choose, if_listed, names_of, paths_of, read_texts, texts_of_folders, texts_of_names, with_texts}
@@ -46,21 +39,18 @@ use Rattle.hwdb_plan.specs.Input.{IsInputTold}
 use Rattle.hwdb_plan.specs.Laws.{DoneIsOne, OverIsNoMore, OverIsOver}
 use Rattle.hwdb_plan.specs.Lemmas.Ends.{leaves_one, nothing_changed}
 use Rattle.hwdb_plan.specs.Lemmas.OverText.{said_is_after, said_is_no_more}
-use Rattle.hwdb_plan.specs.Near.{near_plan}
 use Rattle.hwdb_plan.specs.OverText.{Basis, basis, basis_of, from_basis, if_fit, is_first, text_plan, with_after}
 use Rattle.hwdb_plan.specs.Plans.{End, Ends, Next, Plan, over, reads_over}
 use Rattle.hwdb_plan.specs.Plans.End.{Answers, Lines, Replaces, Stops, Streams}
 use Rattle.hwdb_plan.specs.Plans.Plan.{Done, Input}
-use Rattle.hwdb_spec_program.specs.GivenDatabases.{names_twice, twice_text}
-use Rattle.hwdb_spec_program.specs.ProgramPlan.{Around, ShowsPlan, Taker, as_given, before_last, files_plan, found_plan, limit_of, over_texts, plans, program_plan, root_given, strict_given, takers, update_plans, value_of, values_of}
+use Rattle.hwdb_spec_program.specs.ProgramPlan.{ShowsPlan, Taker, as_given, command_of, files_plan, over_texts, program_plan, root_given, takers}
+use Rattle.hwdb_plan.specs.Requests.{Around, Command, Request, Search, found_plan, plan_of, told_plan}
+use Rattle.hwdb_plan.specs.Requests.Command.{OfDevices, OfFiles}
+use Rattle.hwdb_plan.specs.Requests.Request.{Alone, AtPath, Fit, Meant, OfBase, OfSide, Over, Texts as OfTexts}
+use Rattle.hwdb_plan.specs.Requests.Search.{AtPlace, Below, Fitting, Found}
 use Rattle.hwdb_laws.specs.PlannedRuns.{HavePlan, PlannedDoneIsNoError, PlannedRunsAreOne, Tells}
 use Rattle.hwdb_plan.specs.Sides.{bytes_if, file_bytes, made_at, made_of, plain_side, root_made, side, taken_from}
-use Rattle.hwdb_plan.specs.Status.{status_plan}
-use Rattle.hwdb_plan.specs.Test.{tested}
-use Rattle.hwdb_plan.specs.Verify.{summary}
 use Rattle.hwdb_spec_commands.specs.Baselines.{marks_in}
-use Rattle.hwdb_spec_commands.specs.Checks.{format_of, names_nothing, nothing_named}
-use Rattle.hwdb_spec_commands.specs.OverText.{text_if}
 
 -- an end that is no error
 abbrev pub IsDone : End → Type 0
@@ -260,59 +250,56 @@ module _ (w : Reads) (e : End) (Lost : Type 0) where
         folder_moves (root ++ codes "/sys") (λ sys. folder_place sight cause (sys ++ codes "/devices") (λ devices. one sys)) (λ sys. folder_place sight other (sys ++ codes "/devices") (λ devices. two sys))
         (λ sys. folder_moves (sys ++ codes "/devices") (λ devices. one sys) (λ devices. two sys) (λ devices. step sys))
 
-    place_moves : (root given sys : List ℕ) (next : List ℕ → Plan) → Moves (place_of sight cause asked_names root given sys next) (place_of sight other asked_names root given sys next)
-    place_moves root given sys next = by (places_meant sight asked_names root sys given)
+    place_moves : (root given sys : List ℕ) (one two : List ℕ → Plan) → ((place : List ℕ) → Moves (one place) (two place))
+        → Moves (place_of sight cause asked_names root given sys one) (place_of sight other asked_names root given sys two)
+    place_moves root given sys one two step = by (places_meant sight asked_names root sys given)
       where
         none : (u : Option (List ℕ)) → Moves (option_map_or (λ path. says (unread_text path cause)) u (says (missing_text sight asked_names root sys given cause)))
             (option_map_or (λ path. says (unread_text path other)) u (says (missing_text sight asked_names root sys given other)))
         none None ends = lost_at (Says (missing_text sight asked_names root sys given cause)) (lost (missing_text sight asked_names root sys given cause)) ends
         none (Some path) ends = lost_at (Says (unread_text path cause)) (lost (unread_text path cause)) ends
 
-        by : (places : List (List ℕ)) → Moves (one_of next (λ l. says (several_text sight asked_names sys given l)) (none_there sight cause asked_names root given sys) places)
-            (one_of next (λ l. says (several_text sight asked_names sys given l)) (none_there sight other asked_names root given sys) places)
+        by : (places : List (List ℕ)) → Moves (one_of one (λ l. says (several_text sight asked_names sys given l)) (none_there sight cause asked_names root given sys) places)
+            (one_of two (λ l. says (several_text sight asked_names sys given l)) (none_there sight other asked_names root given sys) places)
         by [] ends = none (unread_for sight root sys given) ends
-        by (place ∷ []) ends = inl ends
-        by (place ∷ two ∷ more) ends = inl ends
+        by (place ∷ []) ends = step place ends
+        by (place ∷ more_places ∷ more) ends = inl ends
 
-    device_moves : (root : List ℕ) (form : DeviceForm) (given : Option (List ℕ)) → Moves (device_plan sight cause asked_names root form given) (device_plan sight other asked_names root form given)
-    device_moves root form None = let all = λ (sys : List ℕ). Done (Answers 0 [] (device_list sight asked_names sys)) in sysfs_moves root all all (λ sys ends. inl ends)
-    device_moves root form (Some given) =
-        let meant = λ (sys place : List ℕ). asked root (device_answer form (device_at sight asked_names sys place)) in
-        sysfs_moves root (λ sys. place_of sight cause asked_names root given sys (meant sys)) (λ sys. place_of sight other asked_names root given sys (meant sys)) (λ sys. place_moves root given sys (meant sys))
+    search_moves : (search : Search) → Moves (found_plan sight asked_names cause search) (found_plan sight asked_names other search)
+    search_moves (Found p) ends = inl ends
+    search_moves (Below root next) ends =
+        sysfs_moves root (λ sys. found_plan sight asked_names cause (next sys)) (λ sys. found_plan sight asked_names other (next sys)) (λ sys. search_moves (next sys)) ends
+    search_moves (AtPlace root given sys next) ends =
+        place_moves root given sys (λ place. found_plan sight asked_names cause (next place)) (λ place. found_plan sight asked_names other (next place)) (λ place. search_moves (next place)) ends
+    search_moves (Fitting None search) ends = search_moves search ends
+    search_moves (Fitting (Some text) search) ends = inl ends
 
-    every_moves : (root : List ℕ) (form : DeviceForm) (given : Option (List ℕ)) → Moves (every_plan sight cause asked_names root form given) (every_plan sight other asked_names root form given)
-    every_moves root form given = by (all_misuse form given)
-      where
-        by : (o : Option (List ℕ)) → Moves (option_map_or says o (strings_plan sight cause asked_names root)) (option_map_or says o (strings_plan sight other asked_names root))
-        by None ends = let all = λ (sys : List ℕ). asked root (strings_answer sight asked_names sys) in sysfs_moves root all all (λ sys ends. inl ends) ends
-        by (Some text) ends = inl ends
-
-    asked_moves : (root : List ℕ) (form : DeviceForm) (all : Bool) (given : Option (List ℕ)) → Moves (device_asked sight cause asked_names root form all given) (device_asked sight other asked_names root form all given)
-    asked_moves root form true given = every_moves root form given
-    asked_moves root form false given = device_moves root form given
-
-  -- ---- each command's row
-  abbrev RowsMove : (rows others : List (Text × Plan)) → Type 0
-  RowsMove [] [] = Unit {0}
-  RowsMove (row ∷ rows) (other ∷ others) = (row.0 ≡ other.0) × Moves row.1 other.1 × RowsMove rows others
-  RowsMove rows others = ⊥
-
-  abbrev Finds : (word : Text) (rows : List (Text × Plan)) (p : Plan) → Type 0
-  Finds word rows p = option_map (λ row. row.1) (find (λ row. bytes_eq row.0 word) rows) ≡ Some p
-
-  row_moves : (word : Text) (rows others : List (Text × Plan)) (p q : Plan) → RowsMove rows others → Finds word rows p → Finds word others q → Moves p q
-  row_moves word [] [] p q move is is2 = absurd cc
-  row_moves word (row ∷ rows) [] p q move is is2 = absurd move
-  row_moves word [] (other ∷ others) p q move is is2 = absurd move
-  row_moves word (row ∷ rows) (other ∷ others) p q (same, move, more) is is2 =
-      by (row_moves word rows others p q more) (bytes_eq row.0 word) is
-      (subst (λ (n : Text). option_map (λ (r : Text × Plan). r.1) (if bytes_eq n word then Some other else find (λ (r : Text × Plan). bytes_eq r.0 word) others) ≡ Some q) (sym same) is2)
+  -- ---- files
+  -- a baseline is no standard input
+  baseline_moves : (path : Option (List ℕ)) (p q : List (List ℕ) → Plan) → ((known : List (List ℕ)) → Moves (p known) (q known)) → Moves (over_baseline path p) (over_baseline path q)
+  unfolding Ends
+  baseline_moves None p q step = step []
+  baseline_moves (Some path) p q step =
+      read_moves path (λ at bytes. if_marked at (marks_in bytes) p) (λ at bytes. if_marked at (marks_in bytes) q) (λ bytes. marked_moves path (marks_in bytes)) (w.input path)
     where
-      by : (Finds word rows p → Finds word others q → Moves p q) → (b : Bool) → option_map (λ (r : Text × Plan). r.1) (if b then Some row else find (λ (r : Text × Plan). bytes_eq r.0 word) rows) ≡ Some p
-          → option_map (λ (r : Text × Plan). r.1) (if b then Some other else find (λ (r : Text × Plan). bytes_eq r.0 word) others) ≡ Some q → Moves p q
-      by rest true is is2 ends =
-          subst (λ (x : Plan). Ends w x e ⊎ Lost) (one_some other.1 q is2) (move (subst (λ (x : Plan). Ends w x e) (sym (one_some row.1 p is)) ends))
-      by rest false is is2 ends = rest is is2 ends
+      marked_moves : (at : List ℕ) (marks : Result (List (List ℕ)) ℕ) → Moves (if_marked at marks p) (if_marked at marks q)
+      marked_moves at (Ok known) ends = step known ends
+      marked_moves at (Err number) ends = inl ends
+
+  request_moves : (one other : Result (List ℕ) Unread) → Serves one other → (request : Request) → Moves (told_plan one request) (told_plan other request)
+  request_moves one other serves (Alone p) ends = inl ends
+  request_moves one other serves (AtPath path next) ends = given_moves one other path next serves ends
+  request_moves one other serves (OfBase given root next) ends = named_moves one other given root next serves ends
+  request_moves one other serves (Over baseline next) ends =
+      baseline_moves baseline (λ known. told_plan one (next known)) (λ known. told_plan other (next known)) (λ known. request_moves one other serves (next known)) ends
+  request_moves one other serves (Meant given next) ends =
+      paths_move given [] (λ paths. told_plan one (next paths)) (λ paths. told_plan other (next paths)) (λ paths. request_moves one other serves (next paths)) ends
+  request_moves one other serves (OfTexts words paths next) ends =
+      files_step words paths one other (λ sources. told_plan one (next sources)) (λ sources. told_plan other (next sources)) (λ sources. request_moves one other serves (next sources)) serves ends
+  request_moves one other serves (OfSide path next) ends =
+      side_moves (λ bytes. told_plan one (next bytes)) (λ bytes. told_plan other (next bytes)) (λ bytes. request_moves one other serves (next bytes)) one other path serves ends
+  request_moves one other serves (Fit None request) ends = request_moves one other serves request ends
+  request_moves one other serves (Fit (Some text) request) ends = inl ends
 
   -- the words of a cause are the same, or an end in them is lost
   abbrev pub AreServed : (cause cause2 : List ℕ) → Type 0
@@ -325,121 +312,19 @@ module _ (w : Reads) (e : End) (Lost : Type 0) where
     abbrev second : Around
     second = record { input = other; sight = sight; cause = cause2 }
 
-    near_moves : (root : List ℕ) (given : List (List ℕ)) (form : List PatternAt → List ℕ) → Moves (near_plan one given root form) (near_plan other given root form)
-    near_moves root [] form ends = inl ends
-    near_moves root (path ∷ more) form ends = files_move (path ∷ more) (path ∷ more) one other (λ sources. Done (Answers 0 [] (form (patterns_from 1 sources)))) serves ends
-
-    check_moves : (given : List (List ℕ)) (root : List ℕ) (say : List Source → End) → Moves (check_plan one given root say) (check_plan other given root say)
-    check_moves [] root say ends = inl ends
-    check_moves (path ∷ more) root say ends =
-        paths_move (path ∷ more) [] (λ paths. given_files (path ∷ more) one paths (λ sources. Done (say sources))) (λ paths. given_files (path ∷ more) other paths (λ sources. Done (say sources)))
-        (λ paths. files_move (path ∷ more) paths one other (λ sources. Done (say sources)) serves) ends
-
-    -- a baseline is no standard input
-    baseline_moves : (path : Option (List ℕ)) (p q : List (List ℕ) → Plan) → ((known : List (List ℕ)) → Moves (p known) (q known)) → Moves (over_baseline path p) (over_baseline path q)
-    unfolding Ends
-    baseline_moves None p q step = step []
-    baseline_moves (Some path) p q step =
-        read_moves path (λ at bytes. if_marked at (marks_in bytes) p) (λ at bytes. if_marked at (marks_in bytes) q) (λ bytes. marked_moves path (marks_in bytes)) (w.input path)
+    command_moves : (command : Command) → Moves (plan_of asked_names first command) (plan_of asked_names second command)
+    command_moves (OfFiles request) ends = request_moves one other serves request ends
+    command_moves (OfDevices search) ends = by causes
       where
-        marked_moves : (at : List ℕ) (marks : Result (List (List ℕ)) ℕ) → Moves (if_marked at marks p) (if_marked at marks q)
-        marked_moves at (Ok known) ends = step known ends
-        marked_moves at (Err number) ends = inl ends
+        by : AreServed cause cause2 → Ends w (found_plan sight asked_names cause2 search) e ⊎ Lost
+        by (inl same) = inl (subst (λ (c : List ℕ). Ends w (found_plan sight asked_names c search) e) same ends)
+        by (inr lost) = search_moves sight cause cause2 lost search ends
 
-    checked_moves : (given : List (List ℕ)) (root : List ℕ) (name baseline : Option (List ℕ)) (say : (known : List (List ℕ)) → List Source → End)
-        → Moves (checked_plan one given root name baseline say) (checked_plan other given root name baseline say)
-    checked_moves given root name baseline say = by (text_if (names_nothing name given) nothing_named)
-      where
-        by : (misuse : Option (List ℕ)) → Moves (if_fit misuse (over_baseline baseline (λ known. check_plan one given root (say known)))) (if_fit misuse (over_baseline baseline (λ known. check_plan other given root (say known))))
-        by None ends = baseline_moves baseline (λ known. check_plan one given root (say known)) (λ known. check_plan other given root (say known)) (λ known. check_moves given root (say known)) ends
-        by (Some text) ends = inl ends
-
-    meant_moves : (root : List ℕ) (form : DeviceForm) (all : Bool) (given : Option (List ℕ)) → Moves (device_asked sight cause asked_names root form all given) (device_asked sight cause2 asked_names root form all given)
-    meant_moves root form all given = by causes
-      where
-        by : AreServed cause cause2 → Moves (device_asked sight cause asked_names root form all given) (device_asked sight cause2 asked_names root form all given)
-        by (inl same) ends = inl (subst (λ (c : List ℕ). Ends w (device_asked sight c asked_names root form all given) e) same ends)
-        by (inr lost) ends = asked_moves sight cause cause2 lost root form all given ends
-
-    diff_moves : (given : List (List ℕ)) (old new : List ℕ) (say : List Source → Tree → Tree → End) (twice : Bool) → Moves (once twice twice_text (diff_plan one given old new say)) (once twice twice_text (diff_plan other given old new say))
-    diff_moves given old new say true ends = inl ends
-    diff_moves given old new say false ends =
-        files_step given given one other (λ sources. sides_compared one old new (say sources)) (λ sources. sides_compared other old new (say sources))
-        (λ sources. let both = λ (x y : List ℕ). compared old new x y (say sources) in side_moves (λ x. side one new (both x)) (λ x. side other new (both x))
-        (λ x. side_moves (both x) (both x) (λ y ends. inl ends) one other new serves) one other old serves)
-        serves ends
-
-    update_moves : (root : List ℕ) (rows : List Row) → RowsMove (update_plans root rows) (update_plans root rows)
-    update_moves root rows = by (has_flag (codes "check") rows)
-      where
-        update_rows : Bool → List (Text × Plan)
-        update_rows b = if b then (codes "update", status_plan root false true) ∷ [] else []
-
-        by : (b : Bool) → RowsMove (update_rows b) (update_rows b)
-        by true = (refl, λ ends. inl ends, tt)
-        by false = tt
-
-    rows_move : (root : List ℕ) (strict : Bool) (rows : List Row) → RowsMove (plans first root strict rows) (plans second root strict rows)
-    rows_move root strict rows =
-        let json = has_flag (codes "json") rows in
-        let words = values_of (codes "MODALIAS") rows in
-        let file = value_of (codes "FILE") rows in
-        let files = values_of (codes "FILE") rows in
-        let given = values_of (codes "devices") rows in
-        let old = value_of (codes "OLD") rows in
-        let new = value_of (codes "NEW") rows in
-        let name = first_of (codes "name") rows in
-        let database = first_of (codes "DATABASE") rows in ((
-          refl,
-          λ ends. inl ends,
-          (
-            refl,
-            λ ends. inl ends,
-            (
-              refl,
-              given_moves one other file (lone_answer file (value_of (codes "MODALIAS") rows)) serves,
-              (
-                refl,
-                λ ends. inl ends,
-                (
-                  refl,
-                  near_moves root (before_last words) (near_form json (last_after [] words) (near_limit (limit_of rows))),
-                  (
-                    refl,
-                    meant_moves root (device_form (has_flag (codes "strings") rows) json (has_flag (codes "pattern") rows)) (has_flag (codes "all") rows) (first_of (codes "DEVICE") rows),
-                    (
-                      refl,
-                      checked_moves files root name (first_of (codes "baseline") rows) (said_of (format_of json (first_of (codes "format") rows)) strict (values_of (codes "allow") rows) name),
-                      (
-                        refl,
-                        files_move files files one other (λ sources. named (first_of (codes "database") rows) root (tested json sources)) serves,
-                        (
-                          refl,
-                          named_moves one other database root summary serves,
-                          (
-                            refl,
-                            named_moves one other database root text_form serves,
-                            (
-                              refl,
-                              diff_moves given old new (change_of (has_flag (codes "stat") rows) json) (names_twice given old new),
-                              (refl, λ ends. inl ends, (refl, λ ends. inl ends, update_moves root rows)),
-                            ),
-                          ),
-                        ),
-                      ),
-                    ),
-                  ),
-                ),
-              ),
-            ),
-          ),
-        )
-        )
-
-    found_moves : (top : List Row) (found : Option (Text × List Row)) (p q : Plan) → found_plan first top found ≡ Some p → found_plan second top found ≡ Some q → Moves p q
-    found_moves top None p q is is2 = absurd cc
-    found_moves top (Some f) p q is is2 =
-        row_moves f.0 (plans first (root_given top f.1) (strict_given top f.1) f.1) (plans second (root_given top f.1) (strict_given top f.1) f.1) p q (rows_move (root_given top f.1) (strict_given top f.1) f.1) is is2
+    found_moves : (found : Option Command) (p q : Plan) → option_map (plan_of asked_names first) found ≡ Some p → option_map (plan_of asked_names second) found ≡ Some q → Moves p q
+    found_moves None p q is is2 ends = absurd cc
+    found_moves (Some command) p q is is2 ends =
+        subst (λ (x : Plan). Ends w x e ⊎ Lost) (one_some (plan_of asked_names second command) q is2)
+        (command_moves command (subst (λ (x : Plan). Ends w x e) (sym (one_some (plan_of asked_names first command) p is)) ends))
 
 -- ---- `--text`
 -- the plan over other bytes in a place ends in what the plan ends in over a file system with these bytes there
@@ -511,7 +396,7 @@ plan_moves laws w e Lost sight cause cause2 one other serves causes words p q is
     let x = mapped (as_given top found) (files_plan a words) p is in
     let y = mapped (as_given top found) (files_plan b words) q is2 in
     let moved = given_words_move laws w e Lost x.0 y.0
-    (λ r f so. found_moves r f Lost sight cause cause2 one other (serves_as w r e f Lost so one other serves) (served_as w r e f Lost so cause cause2 causes) top found x.0 y.0 x.1 y.1) top found in
+    (λ r f so. found_moves r f Lost sight cause cause2 one other (serves_as w r e f Lost so one other serves) (served_as w r e f Lost so cause cause2 causes) (command_of sight words) x.0 y.0 x.1 y.1) top found in
     subst (λ (z : Plan). Ends w z e ⊎ Lost) y.2 (moved (subst (λ (z : Plan). Ends w z e) (sym x.2) ends))
 
 -- ---- two runs
@@ -628,22 +513,22 @@ module _ (one_end : DoneIsOne) (laws : OverLaws) (words : List Text) (w : Reads)
   abbrev Allowed : Type 0
   Allowed = (r ≡ refusal.Plain OutOfMemory) ⊎ (r ≡ refusal.Plain Write)
 
-  abbrev plan_of : (told : Result (List ℕ) Unread) (cause : List ℕ) → Plan
-  plan_of told cause = have.plan (record { input = told; sight = sight; cause = cause })
+  abbrev plan_told : (told : Result (List ℕ) Unread) (cause : List ℕ) → Plan
+  plan_told told cause = have.plan (record { input = told; sight = sight; cause = cause })
 
   -- the plan stops, so that the other run isn't done
-  moved : (e : End) → IsDone e → (one other : Result (List ℕ) Unread) (cause cause2 : List ℕ) → Serves w e ⊥ one other → Ends w (plan_of one cause) e → Ends w (plan_of other cause2) e
+  moved : (e : End) → IsDone e → (one other : Result (List ℕ) Unread) (cause cause2 : List ℕ) → Serves w e ⊥ one other → Ends w (plan_told one cause) e → Ends w (plan_told other cause2) e
   moved e done one other cause cause2 serves ends =
-      done_moves laws w e done sight cause cause2 one other serves words (plan_of one cause) (plan_of other cause2)
+      done_moves laws w e done sight cause cause2 one other serves words (plan_told one cause) (plan_told other cause2)
       (have.is (record { input = one; sight = sight; cause = cause })) (have.is (record { input = other; sight = sight; cause = cause2 })) ends
 
   stops : (e : End) (s : Stop) → IsDone e → (told told2 : Result (List ℕ) Unread) (cause cause2 : List ℕ) → IsInputTold input.bytes input.failures input_now.failures told
-      → IsInputTold input.bytes input.failures input_now2.failures told2 → Ends w (plan_of told cause) e → Ends w (plan_of told2 cause2) (Stops s) → stop_of r ≡ s → Allowed
+      → IsInputTold input.bytes input.failures input_now2.failures told2 → Ends w (plan_told told cause) e → Ends w (plan_told told2 cause2) (Stops s) → stop_of r ≡ s → Allowed
   stops e s done (Err why) told2 cause cause2 is is2 ends ends2 says =
-      absurd (done s (one_end w (plan_of told2 cause2) e (Stops s) done (moved e done (Err why) told2 cause cause2 (inr (λ end. done (unread_stop (codes "standard input") why) end)) ends) ends2))
+      absurd (done s (one_end w (plan_told told2 cause2) e (Stops s) done (moved e done (Err why) told2 cause cause2 (inr (λ end. done (unread_stop (codes "standard input") why) end)) ends) ends2))
   stops e s done (Ok x) (Ok y) cause cause2 is is2 ends ends2 says =
       let same = one_told input input.failures input_now.failures input_now2.failures x y of_input is is2 in
-      absurd (done s (one_end w (plan_of (Ok y) cause2) e (Stops s) done (moved e done (Ok x) (Ok y) cause cause2 (inl (ap Ok same)) ends) ends2))
+      absurd (done s (one_end w (plan_told (Ok y) cause2) e (Stops s) done (moved e done (Ok x) (Ok y) cause cause2 (inl (ap Ok same)) ends) ends2))
   stops e s done (Ok x) (Err unread.TooLong) cause cause2 is is2 ends ends2 says =
       let had : x ≡ of_input.0 = subst (λ (o : Option (List ℕ)). IfSome o (λ t. x ≡ t)) of_input.1 is.0 in
       let long : max_file < length of_input.0 = subst (λ (o : Option (List ℕ)). IfSome o (λ t. max_file < length t)) of_input.1 is2 in
@@ -654,7 +539,7 @@ module _ (one_end : DoneIsOne) (laws : OverLaws) (words : List Text) (w : Reads)
       let first : Around = record { input = Err unread.Memory; sight = sight; cause = cause2 } in
       let second : Around = record { input = Ok x; sight = sight; cause = cause2 } in
       ⊎_elim
-      (λ ends3. absurd (done s (one_end w (plan_of (Ok x) cause2) e (Stops s) done (moved e done (Ok x) (Ok x) cause cause2 (inl refl) ends) ends3)))
+      (λ ends3. absurd (done s (one_end w (plan_told (Ok x) cause2) e (Stops s) done (moved e done (Ok x) (Ok x) cause cause2 (inl refl) ends) ends3)))
       (λ memory. inl (no_memory r (says ∙ memory)))
       (plan_moves laws w (Stops s) (s ≡ Plain OutOfMemory) sight cause2 cause2 (Err unread.Memory) (Ok x) (inr (λ end. cc)) (inl refl) words (have.plan first) (have.plan second) (have.is first) (have.is second) ends2)
 
@@ -694,21 +579,21 @@ module _ (one_end : DoneIsOne) (laws : OverLaws) (words : List Text) (w : Reads)
   shown_alike (Replaces folder bytes said n) shows shows2 = absurd shows
 
   ends_so : (e f : End) (told told2 : Result (List ℕ) Unread) (cause cause2 : List ℕ) → IsInputTold input.bytes input.failures input_now.failures told
-      → IsInputTold input.bytes input.failures input_now2.failures told2 → Ends w (plan_of told cause) e → Ends w (plan_of told2 cause2) f
+      → IsInputTold input.bytes input.failures input_now2.failures told2 → Ends w (plan_told told cause) e → Ends w (plan_told told2 cause2) f
       → Shows e input input_now before now (Ok status) → Shows f input input_now2 before now2 (Err r) → Allowed
   ends_so e (Stops s) told told2 cause cause2 is is2 ends ends2 shows shows2 = stops e s (shown_done e input input_now before now status shows) told told2 cause cause2 is is2 ends ends2 shows2.0
   ends_so e (Answers n err out) told told2 cause cause2 is is2 ends ends2 shows shows2 = inr shows2.0
   ends_so e (Lines lines) told told2 cause cause2 is is2 ends ends2 shows shows2 = ⊎_elim (λ cut. inr cut.0) (λ memory. inl memory.0) shows2.0
   ends_so e (Streams text) told told2 cause cause2 is is2 ends ends2 shows shows2 =
       let done = shown_done e input input_now before now status shows in
-      let same = done_is_one one_end w (plan_of told cause) (plan_of told2 cause2) e (Streams text) done (λ s is. cc)
+      let same = done_is_one one_end w (plan_told told cause) (plan_told told2 cause2) e (Streams text) done (λ s is. cc)
       (plans_are_one one_end laws words w sight input input_now input_now2 before now now2 status status have of_input told told2 cause cause2 (one_serves w input input.failures input_now.failures input_now2.failures told told2 of_input is is2)) ends ends2 in
       shown_alike (Streams text) (subst (λ (x : End). Shows x input input_now before now (Ok status)) same shows) shows2
   ends_so e (Replaces folder bytes said n) told told2 cause cause2 is is2 ends ends2 shows shows2 = absurd shows2
 
   both : (told told2 : Result (List ℕ) Unread) (cause cause2 : List ℕ) → IsInputTold input.bytes input.failures input_now.failures told
-      → IsInputTold input.bytes input.failures input_now2.failures told2 → ShowsEnd w (plan_of told cause) input input_now before now (Ok status)
-      → ShowsEnd w (plan_of told2 cause2) input input_now2 before now2 (Err r) → Allowed
+      → IsInputTold input.bytes input.failures input_now2.failures told2 → ShowsEnd w (plan_told told cause) input input_now before now (Ok status)
+      → ShowsEnd w (plan_told told2 cause2) input input_now2 before now2 (Err r) → Allowed
   both told told2 cause cause2 is is2 (inr none) b = absurd none.0
   both told told2 cause cause2 is is2 (inl a) (inr none) = inl none.0
   both told told2 cause cause2 is is2 (inl (e, ends, shows)) (inl (f, ends2, shows2)) = ends_so e f told told2 cause cause2 is is2 ends ends2 shows shows2

@@ -16,8 +16,8 @@ use Rattle.hwdb_spec_commands.specs.Emptied.{loss_text}
 use Rattle.hwdb_spec_commands.specs.LeftOut.{status_less}
 use Rattle.hwdb_spec_commands.specs.Progress.{listing}
 use Rattle.hwdb_spec_commands.specs.Refusals.{IsOver}
-use Rattle.hwdb_spec_commands.specs.Runs.{Files, HasTaken, Told}
-use Rattle.hwdb_spec_commands.specs.Told.{Reads, Stop, Unlisted, unlisted_stop, unread_stop}
+use Rattle.hwdb_spec_commands.specs.Runs.{AreKept, Files, HasTaken, Told}
+use Rattle.hwdb_spec_commands.specs.Told.{Reads, Stop, Unlisted, stop_of, unlisted_stop, unread_stop}
 use Rattle.hwdb_spec_commands.specs.Told.Stop.{Plain}
 use Rattle.hwdb_spec_commands.specs.declared.refusals.Refusal.{Refusal}
 use Rattle.hwdb_spec_commands.specs.declared.refusals.Refusal.TheVariants as refusal
@@ -26,7 +26,7 @@ use Rattle.hwdb_spec_commands.specs.declared.unread.Unread.TheVariants as unread
 use Rattle.hwdb_plan.specs.Asking.{if_read}
 use Rattle.hwdb_plan.specs.Ended.{Outs, ReplaceStops}
 use Rattle.hwdb_plan.specs.Folders.{Texts, choose, if_listed, names_of, paths_of, read_texts, texts_of_names, with_texts}
-use Rattle.hwdb_plan.specs.Laws.{DoneIsOne}
+use Rattle.hwdb_plan.specs.Laws.{DoneIsOne, PlansEndAlike}
 use Rattle.hwdb_plan.specs.Plans.{End, Ends, Plan}
 use Rattle.hwdb_plan.specs.Plans.End.{Answers, Lines, Replaces, Stops, Streams}
 use Rattle.hwdb_plan.specs.Plans.Plan.{Done}
@@ -36,7 +36,8 @@ use Rattle.hwdb_plan.specs.Readable.{LeftOut, Readable, first_text, if_looked, l
 use Rattle.hwdb_plan.specs.Update.{if_seen, is_some_lost, left_out_plan, loss_of, lost_in, lost_of, put_readable, update_plan}
 use Rattle.hwdb_spec_program.specs.HidingPlan.{hiding_plan}
 use Rattle.hwdb_spec_program.specs.ProgramPlan.{AskedUpdate, DoesUpdate, UpdatesIfAsked}
-use Rattle.hwdb_laws.specs.PlannedUpdates.{AreReadable, BeginAlike, IsOneUpdate, LeavesNoneOut, PlannedUpdateIsNoError, PlannedUpdatesAreOne}
+use Rattle.hwdb_laws.specs.PlannedUpdates.{AreReadable, BeginAlike, IsOneUpdate, IsOfTexts, LeavesNoneOut, PlannedUpdateIsNoError, PlannedUpdatesAreOne, PlannedUpdatesEndInOneError}
+use Rattle.hwdb_laws.specs.PlannedErrors.{AreOneEnd, AreOneError}
 
 -- ---- such ends of one plan are ends of another one, and are of a kind to which each error belongs
 module _ (w : Reads) (Such Kind : End → Type 0) (of_stop : (s : Stop) → Kind (Stops s)) where
@@ -481,6 +482,64 @@ done_or_allowed one_end w u before now before2 now2 outs_before outs_now outs_be
     let next = has_said w Left (λ err_said. PutsEnd w Update before now err_said outs_now.err (Ok status)) before now first.told outs_now.err status first.after in
     let put = has_put w Update before now next.told outs_now.err status next.after in
     hides_error one_end w u before2 now2 outs_before2 outs_now2 r words words2 put.folder put.bytes put.said put.status put.ends tells2
+
+-- ---- both end with an error
+-- what such a run ends in
+abbrev StopsSo : Reads → AskedUpdate → (words : List (List ℕ)) → (before now : Files) → Refusal → Type 0
+StopsSo w u words before now r = (s : Stop) × Ends w (update_plan u.root u.usr u.strict u.verbose u.skip words) (Stops s) × (stop_of r ≡ s) × AreKept before now
+
+module _ (w : Reads) (u : AskedUpdate) (before now : Files) (err_before err_now : Told) (r : Refusal) (words : List (List ℕ)) (reading : IsOfTexts u r) where
+  abbrev Goal : Plan
+  Goal = update_plan u.root u.usr u.strict u.verbose u.skip words
+
+  abbrev So : Type 0
+  So = StopsSo w u words before now r
+
+  puts_stop : (told : Told) → PutsEnd w Goal before now told err_now (Err r) → So
+  puts_stop told (inr none) = absurd (reading.memory none.0)
+  puts_stop told (inl (Stops s, ends, left)) = (s, ends, left.0, left.1)
+  puts_stop told (inl (Answers n err out, ends, left)) = absurd left
+  puts_stop told (inl (Lines ls, ends, left)) = absurd left
+  puts_stop told (inl (Streams text, ends, left)) = absurd left
+  puts_stop told (inl (Replaces f b t n, ends, left)) =
+      let at = (update_goes w u.root u.usr u.strict u.verbose u.skip words words (Replaces f b t n) tt ends).1 in
+      absurd (⊎_elim (λ unsaid. reading.output unsaid) (λ unput. reading.put unput)
+      (subst (λ (x : List ℕ). (r ≡ refusal.Plain Write) ⊎ IsOver Write (path_in x database_name) r) at (unput_so f b t before now told err_now r left)))
+
+  leaves_stop : (told : Told) → SaysThen w (left_out_plan u.root u.skip words) (λ err_said. PutsEnd w Goal before now err_said err_now (Err r)) before now told err_now (Err r) → So
+  leaves_stop told (inr none) = absurd (reading.memory none.0)
+  leaves_stop told (inl (Stops s, ends, left)) = (s, left_out_stops w u.root u.usr u.strict u.verbose s u.skip words words ends, left.0, left.1)
+  leaves_stop told (inl (Lines ls, ends, left)) = absurd left
+  leaves_stop told (inl (Streams text, ends, left)) = absurd left
+  leaves_stop told (inl (Replaces f b t n, ends, left)) = absurd left
+  leaves_stop told (inl (Answers n err out, ends, inl unsaid)) = absurd (reading.output unsaid.0.0)
+  leaves_stop told (inl (Answers n err out, ends, inr (told2, took, after))) = puts_stop told2 after
+
+  hides_stop : SaysThen w (hiding_plan u.usr u.verbose u.root)
+      (λ err_told. SaysThen w (left_out_plan u.root u.skip words) (λ err_said. PutsEnd w Goal before now err_said err_now (Err r)) before now err_told err_now (Err r)) before now err_before err_now (Err r) → So
+  hides_stop (inr none) = absurd (reading.memory none.0)
+  hides_stop (inl (Stops s, ends, left)) = absurd (hiding_goes_on w u.usr u.verbose u.root s ends)
+  hides_stop (inl (Lines ls, ends, left)) = absurd left
+  hides_stop (inl (Streams text, ends, left)) = absurd left
+  hides_stop (inl (Replaces f b t n, ends, left)) = absurd left
+  hides_stop (inl (Answers n err out, ends, inl unsaid)) = absurd (reading.output unsaid.0.0)
+  hides_stop (inl (Answers n err out, ends, inr (told, took, after))) = leaves_stop told after
+
+-- whatever words the causes have
+one_stop : PlansEndAlike → (w : Reads) (u : AskedUpdate) (words words2 : List (List ℕ)) (before now before2 now2 : Files) (r r2 : Refusal)
+    → StopsSo w u words before now r → StopsSo w u words2 before2 now2 r2 → AreOneError r r2 × AreKept before now × AreKept before2 now2
+one_stop alike w u words words2 before now before2 now2 r r2 (s, ends, is, kept) (s2, ends2, is2, kept2) =
+    let moved = (update_goes w u.root u.usr u.strict u.verbose u.skip words words2 (Stops s) tt ends).0 in
+    let same : AreOneEnd (Stops s) (Stops s2) = inl (alike w (update_plan u.root u.usr u.strict u.verbose u.skip words2) (Stops s) (Stops s2) moved ends2) in
+    (subst (λ (x : Stop). AreOneEnd (Stops x) (Stops (stop_of r2))) (sym is) (subst (λ (x : Stop). AreOneEnd (Stops s) (Stops x)) (sym is2) same), kept, kept2)
+
+pub planned_update_errors : PlansEndAlike → (before now before2 now2 : Files) → PlannedUpdatesEndInOneError before now before2 now2
+planned_update_errors alike before now before2 now2 words w u outs_before outs_now outs_before2 outs_now2 r r2 asked reading reading2 one two =
+    let first = subst (λ (o : Option AskedUpdate). UpdatesIfAsked o w before now outs_before outs_now (Err r)) asked one in
+    let second = subst (λ (o : Option AskedUpdate). UpdatesIfAsked o w before2 now2 outs_before2 outs_now2 (Err r2)) asked two in
+    one_stop alike w u first.0.0 second.0.0 before now before2 now2 r r2
+    (hides_stop w u before now outs_before.err outs_now.err r first.0.0 reading first.0.1)
+    (hides_stop w u before2 now2 outs_before2.err outs_now2.err r2 second.0.0 reading2 second.0.1)
 
 pub planned_updates_done : DoneIsOne → (before now before2 now2 : Files) → PlannedUpdateIsNoError before now before2 now2
 planned_updates_done one_end before now before2 now2 words w u outs_before outs_now outs_before2 outs_now2 status r asked one two =

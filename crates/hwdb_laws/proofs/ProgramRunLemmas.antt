@@ -24,7 +24,8 @@ use Rattle.hwdb_plan.specs.Input.{IsInputTold}
 use Rattle.hwdb_plan.specs.Laws.{DoneIsOne, OverIsNoMore, OverIsOver, PlansEndAlike}
 use Rattle.hwdb_plan.specs.Plans.{Ends, Plan}
 use Rattle.hwdb_plan.specs.Plans.End.{Answers, Lines, Replaces, Stops, Streams}
-use Rattle.hwdb_spec_program.specs.ProgramPlan.{Around, IsReported, ShowsPlan, error_status, program_plan}
+use Rattle.hwdb_spec_program.specs.ProgramPlan.{IsReported, ShowsPlan, error_status, program_plan}
+use Rattle.hwdb_plan.specs.Requests.{Around}
 use Rattle.hwdb_laws.proofs.PlannedErrorLemmas.{planned_errors}
 use Rattle.hwdb_laws.proofs.PlannedLemmas.{OverLaws, plan_moves, planned_done, planned_runs}
 use Rattle.hwdb_laws.specs.PlannedRuns.{HavePlan}

@@ -11,7 +11,7 @@ use Rattle.hwdb_spec_commands.specs.DeviceTree.{Sight}
 use Rattle.hwdb_spec.specs.Folders.{Source, same}
 use Rattle.hwdb_spec_commands.specs.Sysfs.{Ancestor, Device}
 use Rattle.hwdb_spec_commands.specs.SysfsAnswers.{nothing_there, sight_by}
-use Rattle.hwdb_plan.specs.Device.{place_of, says}
+use Rattle.hwdb_plan.specs.Sysfs.{place_of, says}
 use Rattle.hwdb_plan.specs.Plans.{Plan}
 use Rattle.hwdb_spec.specs.Tree.{Tree}
 use Rattle.hwdb_spec.specs.Tree.Children.{NoMore}

@@ -14,11 +14,14 @@ use Rattle.hwdb_spec_commands.specs.declared.devices.DeviceForm.TheVariants.{Jso
 use Rattle.hwdb_spec_commands.specs.declared.unread.Unread.TheVariants as unread
 use Rattle.hwdb_spec_program.specs.DeviceErrors.{asked_names}
 use Rattle.hwdb_spec_program.specs.GivenDatabases.{twice_text}
-use Rattle.hwdb_spec_program.specs.ProgramPlan.{Around, AskedUpdate, error_status, program_plan, update_of}
+use Rattle.hwdb_spec_program.specs.ProgramPlan.{AskedUpdate, error_status, program_plan, update_of}
+use Rattle.hwdb_plan.specs.Requests.{Around}
 use Rattle.hwdb_plan.specs.Answers.{explain_plan, query_plan}
 use Rattle.hwdb_plan.specs.Ask.{ask_plan}
-use Rattle.hwdb_plan.specs.Check.{check_plan, over_baseline, said_of}
-use Rattle.hwdb_plan.specs.Device.{device_plan, says, strings_plan}
+use Rattle.hwdb_plan.specs.Check.{check_plan, said_of}
+use Rattle.hwdb_plan.specs.Baseline.{over_baseline}
+use Rattle.hwdb_plan.specs.Device.{device_plan, strings_plan}
+use Rattle.hwdb_plan.specs.Sysfs.{says}
 use Rattle.hwdb_plan.specs.Diff.{change_of, diff_plan}
 use Rattle.hwdb_plan.specs.Dump.{dump_plan}
 use Rattle.hwdb_plan.specs.Folders.{texts_of_folders}

@@ -10,7 +10,8 @@ use Rattle.hwdb_spec_commands.specs.declared.refusals.Refusal.{Refusal}
 use Rattle.hwdb_spec_commands.specs.declared.refusals.Refusal.TheVariants.{Plain}
 use Rattle.hwdb_plan.specs.Ended.{Outs}
 use Rattle.hwdb_plan.specs.Plans.{Plan}
-use Rattle.hwdb_spec_program.specs.ProgramPlan.{Around, ShowsPlan, program_plan}
+use Rattle.hwdb_spec_program.specs.ProgramPlan.{ShowsPlan, program_plan}
+use Rattle.hwdb_plan.specs.Requests.{Around}
 
 -- the words have a plan, whatever a run is told beside its files
 pub record HavePlan (words : List Text) : Type 0 where

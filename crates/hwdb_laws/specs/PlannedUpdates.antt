@@ -1,6 +1,6 @@
 -- What two updates over one input have in common that are done, and what runs leave that are no updates. Our choice.
 use Rattle.std.specs.List.{AllByRecursion}
-use Rattle.std.specs.Prelude.{◌≡◌, ◌⊎◌, ◌++◌, ℕ, Err, List, Ok, Option, Result, Some, IsOk, false}
+use Rattle.std.specs.Prelude.{◌≡◌, ◌≢◌, ◌⊎◌, ◌++◌, ℕ, Err, List, Ok, Option, Result, Some, IsOk, false}
 use Rattle.clap.specs.Walk.{Text}
 use Rattle.hwdb_spec.specs.Folders.{Choice, choice, path_of}
 use Rattle.hwdb_spec.specs.Store.{Contents, IsPartPath, Outcomes, Same, Stored, database_file, database_name, path_in}
@@ -13,6 +13,7 @@ use Rattle.hwdb_spec_commands.specs.declared.refusals.Refusal.{Refusal}
 use Rattle.hwdb_spec_commands.specs.declared.refusals.Refusal.TheVariants.{Plain}
 use Rattle.hwdb_plan.specs.Ended.{Outs}
 use Rattle.hwdb_spec_program.specs.ProgramPlan.{AskedUpdate, OldOrAsked, UpdatesIfAsked, update_of}
+use Rattle.hwdb_laws.specs.PlannedErrors.{AreOneError}
 use Rattle.hwdb_laws.specs.PlannedRuns.{HavePlan, Tells}
 
 -- each chosen text file below a root can be read
@@ -58,6 +59,20 @@ PlannedUpdateIsNoError before now before2 now2 = (words : List Text) (w : Reads)
     → UpdatesIfAsked (update_of words) w before now outs_before outs_now (Ok status)
     → UpdatesIfAsked (update_of words) w before2 now2 outs_before2 outs_now2 (Err r)
     → (r ≡ Plain Memory) ⊎ ((r ≡ Plain Write) ⊎ IsOver Write (path_in (database_folder u.usr u.root) database_name) r)
+
+-- an update's error comes of what is read: there was memory, standard error took its lines, and the database could be written
+pub record IsOfTexts (u : AskedUpdate) (r : Refusal) : Type 0 where
+  pub memory : r ≢ Plain Memory
+  pub output : r ≢ Plain Write
+  pub put : IsOver Write (path_in (database_folder u.usr u.root) database_name) r → ⊥
+
+-- Both of two such runs end with an error that comes of what is read. Then they have one error, and no file changed.
+abbrev pub PlannedUpdatesEndInOneError : (before now before2 now2 : Files) → Type 0
+PlannedUpdatesEndInOneError before now before2 now2 = (words : List Text) (w : Reads) (u : AskedUpdate) (outs_before outs_now outs_before2 outs_now2 : Outs) (r r2 : Refusal)
+    → update_of words ≡ Some u → IsOfTexts u r → IsOfTexts u r2
+    → UpdatesIfAsked (update_of words) w before now outs_before outs_now (Err r)
+    → UpdatesIfAsked (update_of words) w before2 now2 outs_before2 outs_now2 (Err r2)
+    → AreOneError r r2 × AreKept before now × AreKept before2 now2
 
 -- A run with words that have a plan changes no file: they ask for no update.
 abbrev pub PlannedRunsKeepFiles : (before now : Files) → Type 0

@@ -1,5 +1,5 @@
 -- What two file systems with the same contents tell of a path, if no reading of them may fail. Our choice.
-use Rattle.std.specs.Prelude.{◌≡◌, Err, List, Ok, Option, Result, ℕ}
+use Rattle.std.specs.Prelude.{◌≡◌, Err, List, Ok, Result, ℕ}
 use Rattle.hwdb_spec.specs.Store.{Contents}
 use Rattle.hwdb_spec_commands.specs.Told.{AreReadsOf, Reads}
 use Rattle.hwdb_spec_commands.specs.declared.unread.Unread.{Unread}

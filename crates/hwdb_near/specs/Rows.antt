@@ -76,7 +76,7 @@ WordRows =
 abbrev pub HeadRows : Type 0
 HeadRows =
     map (why (codes "ab")) (codes "k:ab*" ∷ codes "b*" ∷ [])
-    ≡ codes "the device has no prefix: put `k:` before it; 'hwdb device' says what udev asks for a device" ∷ codes "the device has `a`, the pattern `b`" ∷ []
+    ≡ codes "the device has no prefix like `k:`; 'hwdb device ab' says what udev asks for a device of this name" ∷ codes "the device has `a`, the pattern `b`" ∷ []
 
 -- the patterns of a database whose assignments are these, by file and line: each once, at the first of its places
 abbrev pub assigned : ℕ → ℕ → List ℕ → List ℕ → Assignment

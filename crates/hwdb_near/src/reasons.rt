@@ -1,6 +1,7 @@
 //! Why a pattern stops, in words: one line, which says what to do.
-ghost use Rattle.std.specs.Prelude.{◌≡◌, ◌++◌, drop, take, OnOk};
+ghost use Rattle.std.specs.Prelude.{◌≡◌, ◌++◌, codes, drop, take, OnOk};
 ghost use Rattle.hwdb_spec.specs.Lines;
+ghost use Rattle.hwdb_spec_commands.specs.Reports.{shown};
 ghost use Rattle.hwdb_spec_commands.specs.Near;
 ghost use Rattle.hwdb_spec_commands.specs.Near.{byte_text, head_text, on_firsts, other_text, quoted, why_text};
 
@@ -158,6 +159,35 @@ fn push_byte(text: &mut Vec<u8>, wanted: &[u8], left: &[u8]) -> Result<(), Alloc
     push_other(text, wanted, left)
 }
 
+/// Adds a text, as it is shown, between words.
+fn push_among(text: &mut Vec<u8>, before: &str, bytes: &[u8], after: &str) -> Result<(), AllocError>
+    ensures { OnOk result (text.new.items
+        ≡ text.old.items ++ (before.now ++ (shown bytes.now ++ after.now))) }
+{
+    push_words(text, before)?;
+    push_shown(text, bytes)?;
+    push_words(text, after)
+}
+
+/// Adds what may be meant by a device without a colon.
+fn push_name(text: &mut Vec<u8>, device: &[u8]) -> Result<(), AllocError>
+    ensures { OnOk result (text.new.items ≡ text.old.items ++ Near.name_text device.now) }
+{
+    let advice = "' says what udev asks for a device of this name";
+    push_among(text, "; 'hwdb device ", device, advice)
+}
+
+/// Adds that a device has no part up to a colon, as a pattern has one.
+fn push_headless(text: &mut Vec<u8>, pattern: &[u8], device: &[u8]) -> Result<(), AllocError>
+    ensures { OnOk result (text.new.items ≡ text.old.items
+        ++ (codes "the device has no prefix like " ++ (quoted (Near.head_of pattern.now)
+        ++ Near.name_text device.now))) }
+{
+    push_words(text, "the device has no prefix like ")?;
+    push_quoted(text, head_of(pattern))?;
+    push_name(text, device)
+}
+
 /// Adds why a pattern stops before the device's first colon is passed.
 fn push_head(
     text: &mut Vec<u8>,
@@ -174,9 +204,7 @@ fn push_head(
         return push_between(text, "the device begins with ", head_of(device), advice);
     }
     if has_head(pattern) {
-        let words = "the device has no prefix: put ";
-        let advice = " before it; 'hwdb device' says what udev asks for a device";
-        return push_between(text, words, head_of(pattern), advice);
+        return push_headless(text, pattern, device);
     }
     push_byte(text, wanted, left)
 }

@@ -1,5 +1,5 @@
--- The plan of `diff`. That standard input is read once is from POSIX, Utility Syntax Guidelines, 13; the rest is our choice.
-use Rattle.std.specs.Prelude.{ℕ, Bool, true, false, List, [], Result, if◌then◌else◌}
+-- The plan of `diff`. Our choice.
+use Rattle.std.specs.Prelude.{ℕ, Bool, List, [], Result, if◌then◌else◌}
 use Rattle.hwdb_spec.specs.Folders.{Source}
 use Rattle.hwdb_spec.specs.Tree.{Tree}
 use Rattle.hwdb_spec_commands.specs.Comparisons.{comparison_form, devices_named, has_changed}
@@ -7,15 +7,15 @@ use Rattle.hwdb_spec.specs.declared.errors.DiffError.{DiffError}
 use Rattle.hwdb_spec.specs.declared.errors.DiffError.TheVariants.{Memory, New, Old}
 use Rattle.hwdb_spec.specs.declared.errors.ToolError.TheVariants.{Memory as OutOfMemory}
 use Rattle.hwdb_spec_commands.specs.Told.{Stop}
-use Rattle.hwdb_spec_commands.specs.Told.Stop.{Plain, Says}
+use Rattle.hwdb_spec_commands.specs.Told.Stop.{Plain}
 use Rattle.hwdb_spec_commands.specs.Undone.{told_path}
 use Rattle.hwdb_spec_commands.specs.declared.unread.Unread.{Unread}
 use Rattle.hwdb_plan.specs.Dump.{bad_database}
-use Rattle.hwdb_plan.specs.Files.{given_files}
 use Rattle.hwdb_plan.specs.Plans.{End, Plan}
-use Rattle.hwdb_plan.specs.Plans.End.{Answers, Stops}
+use Rattle.hwdb_plan.specs.Plans.End.{Answers}
 use Rattle.hwdb_plan.specs.Plans.Plan.{Decode, Done}
-use Rattle.hwdb_plan.specs.Sides.{side}
+use Rattle.hwdb_plan.specs.Requests.{Request, told_plan}
+use Rattle.hwdb_plan.specs.Requests.Request.{Alone, OfSide, Texts}
 
 -- what is said of two trees, for the devices of some files, or of all that they assign; the status is 1 if something changed
 abbrev pub change_of : (stat json : Bool) → List Source → (old new : Tree) → End
@@ -34,14 +34,17 @@ diff_stop old_path new_path (New f) = bad_database (told_path new_path) f
 diff_stop old_path new_path Memory = Plain OutOfMemory
 
 -- the old side is had before the new one
-abbrev pub sides_compared : (told : Result (List ℕ) Unread) (old_path new_path : List ℕ) → (say : Tree → Tree → End) → Plan
-sides_compared told old_path new_path say = side told old_path (λ old. side told new_path (λ new. compared old_path new_path old new say))
+abbrev pub sides_request : (old_path new_path : List ℕ) → (say : Tree → Tree → End) → Request
+sides_request old_path new_path say =
+    OfSide old_path (λ old. OfSide new_path (λ new. Alone (compared old_path new_path old new say)))
 
 -- all files of devices are read first, and then both sides
-abbrev pub diff_plan : (told : Result (List ℕ) Unread) (given : List (List ℕ)) (old_path new_path : List ℕ) → (say : List Source → Tree → Tree → End) → Plan
-diff_plan told given old_path new_path say = given_files given told given (λ sources. sides_compared told old_path new_path (say sources))
+abbrev pub changes_request : (given : List (List ℕ)) (old_path new_path : List ℕ) → (say : List Source → Tree → Tree → End) → Request
+changes_request given old_path new_path say = Texts given given (λ sources. sides_request old_path new_path (say sources))
 
--- but before anything is asked it is an error, in these words, if standard input would be read twice
-abbrev pub once : (twice : Bool) (words : List ℕ) → Plan → Plan
-once true words p = Done (Stops (Says words))
-once false words p = p
+-- ---- the plans of these
+abbrev pub sides_compared : (told : Result (List ℕ) Unread) (old_path new_path : List ℕ) → (say : Tree → Tree → End) → Plan
+sides_compared told old_path new_path say = told_plan told (sides_request old_path new_path say)
+
+abbrev pub diff_plan : (told : Result (List ℕ) Unread) (given : List (List ℕ)) (old_path new_path : List ℕ) → (say : List Source → Tree → Tree → End) → Plan
+diff_plan told given old_path new_path say = told_plan told (changes_request given old_path new_path say)

@@ -12,9 +12,13 @@ pub mod Dump
 pub mod Answers
 pub mod List
 pub mod Ask
+pub mod Sides
+pub mod OverText
+pub mod Baseline
+pub mod Sysfs
+pub mod Requests
 pub mod Test
 pub mod Near
-pub mod Sides
 pub mod Diff
 pub mod Check
 pub mod Device
@@ -23,7 +27,6 @@ pub mod Readable
 pub mod Update
 pub mod Status
 pub mod Keys
-pub mod OverText
 pub mod TextLaws
 pub mod Advice
 pub mod Putting

@@ -184,12 +184,16 @@ is_replacement wanted left = on_firsts (λ w l. if is_replaced w then l == byte 
 abbrev pub byte_text : (wanted left : List ℕ) → List ℕ
 byte_text wanted left = if is_replacement wanted left then replaced_text wanted else other_text wanted left
 
+-- what may be meant by a device without a colon: each string that udev asks has one, and a node or a name has none
+abbrev pub name_text : (device : List ℕ) → List ℕ
+name_text device = codes "; 'hwdb device " ++ (shown device ++ codes "' says what udev asks for a device of this name")
+
 -- why it stops before the device's first colon is passed: the two begin with other parts, or the device has none
 abbrev pub head_text : (pattern device wanted left : List ℕ) → List ℕ
 head_text pattern device wanted left =
     if has_head device then codes "the device begins with " ++ (quoted (head_of device) ++ codes ": begin the pattern with that")
     else (if has_head pattern
-    then codes "the device has no prefix: put " ++ (quoted (head_of pattern) ++ codes " before it; 'hwdb device' says what udev asks for a device")
+    then codes "the device has no prefix like " ++ (quoted (head_of pattern) ++ name_text device)
     else byte_text wanted left)
 
 -- Why a pattern stops after so many bytes of a device, and what to do, by what is left of both. One of the two ends, their first

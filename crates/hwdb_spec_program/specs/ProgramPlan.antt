@@ -28,31 +28,27 @@ use Rattle.hwdb_spec_program.specs.HidingPlan.{UpdatesTelling}
 use Rattle.hwdb_spec_program.specs.TaskRefusals.{IsRootRefused, IsSaid}
 use Rattle.hwdb_plan.specs.Answers.{explain_plan, query_plan}
 use Rattle.hwdb_plan.specs.Ask.{lone_answer}
-use Rattle.hwdb_plan.specs.Check.{checked_plan, said_of}
-use Rattle.hwdb_plan.specs.Device.{OfCause, device_asked}
-use Rattle.hwdb_plan.specs.Diff.{change_of, diff_plan, once}
+use Rattle.hwdb_plan.specs.Check.{check_request, said_of}
+use Rattle.hwdb_plan.specs.Device.{search_of}
+use Rattle.hwdb_plan.specs.Diff.{change_of, changes_request}
 use Rattle.hwdb_plan.specs.Dump.{text_form}
 use Rattle.hwdb_plan.specs.Ended.{Outs, ShowsEnd, outs, outs_of}
 use Rattle.hwdb_plan.specs.Files.{OfInput}
 use Rattle.hwdb_plan.specs.Folders.{Texts}
-use Rattle.hwdb_plan.specs.Given.{given_at, given_or_asked}
 use Rattle.hwdb_plan.specs.Keys.{keys_plan}
 use Rattle.hwdb_plan.specs.List.{list_plan}
-use Rattle.hwdb_plan.specs.Near.{near_plan}
+use Rattle.hwdb_plan.specs.Near.{near_request}
 use Rattle.hwdb_plan.specs.OverText.{if_fit, replaced_of, text_plan}
 use Rattle.hwdb_plan.specs.Plans.{Plan}
 use Rattle.hwdb_plan.specs.Putting.{OldOrPut}
+use Rattle.hwdb_plan.specs.Requests.{Around, Command, Request, Search, plan_of}
+use Rattle.hwdb_plan.specs.Requests.Command.{OfDevices, OfFiles}
+use Rattle.hwdb_plan.specs.Requests.Request.{Alone, AtPath, Fit, OfBase}
 use Rattle.hwdb_plan.specs.Status.{status_plan}
-use Rattle.hwdb_plan.specs.Test.{test_plan}
+use Rattle.hwdb_plan.specs.Sysfs.{OfCause}
+use Rattle.hwdb_plan.specs.Test.{test_request}
 use Rattle.hwdb_plan.specs.Update.{update_plan}
 use Rattle.hwdb_plan.specs.Verify.{summary}
-
--- What a run is told beside its files: of standard input, if a command reads that as a file; what sysfs shows; and the words of the cause
--- if a path of sysfs can't be read.
-pub record Around : Type 0 where
-  pub input : Result (List ℕ) Unread
-  pub sight : Sight
-  pub cause : List ℕ
 
 -- ---- what words give
 -- the values of an argument, or none
@@ -79,75 +75,79 @@ root_given top rows = unwrap_or (option_or (first_of (codes "root") rows) (first
 abbrev pub strict_given : (top rows : List Row) → Bool
 strict_given top rows = has_flag (codes "strict") rows || has_flag (codes "strict") top
 
--- ---- plans by the word of a command
--- of `near`: its last word is the device, and those before it are files
-abbrev pub near_of : Around → (root : List ℕ) → List Row → Plan
-near_of a root rows =
+-- ---- commands by their words
+-- `near`: its last word is the device, and those before it are files
+abbrev pub near_of : (root : List ℕ) → List Row → Request
+near_of root rows =
     let words = values_of (codes "MODALIAS") rows in
-    near_plan a.input (before_last words) root (near_form (has_flag (codes "json") rows) (last_after [] words) (near_limit (limit_of rows)))
+    near_request (before_last words) root (near_form (has_flag (codes "json") rows) (last_after [] words) (near_limit (limit_of rows)))
 
--- of `device`
-abbrev pub device_of : Around → (root : List ℕ) → List Row → Plan
-device_of a root rows =
-    device_asked a.sight a.cause asked_names root
-    (device_form (has_flag (codes "strings") rows) (has_flag (codes "json") rows) (has_flag (codes "pattern") rows)) (has_flag (codes "all") rows) (first_of (codes "DEVICE") rows)
+-- `device`
+abbrev pub device_of : Sight → (root : List ℕ) → List Row → Search
+device_of sight root rows =
+    search_of sight asked_names root (device_form (has_flag (codes "strings") rows) (has_flag (codes "json") rows) (has_flag (codes "pattern") rows))
+    (has_flag (codes "all") rows) (first_of (codes "DEVICE") rows)
 
--- of `check`
-abbrev pub check_of : Around → (root : List ℕ) (strict : Bool) → List Row → Plan
-check_of a root strict rows =
+-- `check`
+abbrev pub check_of : (root : List ℕ) (strict : Bool) → List Row → Request
+check_of root strict rows =
     let name = first_of (codes "name") rows in
-    checked_plan a.input (values_of (codes "FILE") rows) root name (first_of (codes "baseline") rows)
+    check_request (values_of (codes "FILE") rows) root name (first_of (codes "baseline") rows)
     (said_of (format_of (has_flag (codes "json") rows) (first_of (codes "format") rows)) strict (values_of (codes "allow") rows) name)
 
--- of `ask`
-abbrev pub ask_of : Around → List Row → Plan
-ask_of a rows = let file = value_of (codes "FILE") rows in given_at a.input file (lone_answer file (value_of (codes "MODALIAS") rows))
+-- `ask`
+abbrev pub ask_of : List Row → Request
+ask_of rows = let file = value_of (codes "FILE") rows in AtPath file (lone_answer file (value_of (codes "MODALIAS") rows))
 
--- of `diff`: before anything is asked it is an error if standard input would be read twice
-abbrev pub diff_of : Around → List Row → Plan
-diff_of a rows =
+-- `diff`. That standard input is read once is from POSIX, Utility Syntax Guidelines, 13.
+abbrev pub diff_of : List Row → Request
+diff_of rows =
     let given = values_of (codes "devices") rows in
     let old = value_of (codes "OLD") rows in
     let new = value_of (codes "NEW") rows in
-    once (names_twice given old new) twice_text (diff_plan a.input given old new (change_of (has_flag (codes "stat") rows) (has_flag (codes "json") rows)))
+    Fit (text_if (names_twice given old new) twice_text) (changes_request given old new (change_of (has_flag (codes "stat") rows) (has_flag (codes "json") rows)))
 
--- of `update`, with its word: with `--check` it is that of `status`, of which the status alone is told; without it there is none
-abbrev pub update_plans : (root : List ℕ) → List Row → List (Text × Plan)
-update_plans root rows = if has_flag (codes "check") rows then (codes "update", status_plan root false true) ∷ [] else []
+-- `update`, with its word: with `--check` it is `status`, of which the status alone is told; without it there is none
+abbrev pub update_rows : (root : List ℕ) → List Row → List (Text × Command)
+update_rows root rows = if has_flag (codes "check") rows then (codes "update", OfFiles (Alone (status_plan root false true))) ∷ [] else []
 
--- each command that has a plan: its word, and its plan over what is matched after it
-abbrev pub plans : Around → (root : List ℕ) (strict : Bool) → List Row → List (Text × Plan)
-plans a root strict rows =
+-- each command that has a plan: its word, and what it asks by what is matched after that
+abbrev pub commands : Sight → (root : List ℕ) (strict : Bool) → List Row → List (Text × Command)
+commands sight root strict rows =
     let json = has_flag (codes "json") rows in
     let device = value_of (codes "MODALIAS") rows in
-    (codes "query", query_plan root json (values_of (codes "MODALIAS") rows))
-    ∷ (codes "explain", explain_plan root json device)
-    ∷ (codes "ask", ask_of a rows)
-    ∷ (codes "list", list_plan root json device (first_of (codes "after") rows) (limit_of rows))
-    ∷ (codes "near", near_of a root rows)
-    ∷ (codes "device", device_of a root rows)
-    ∷ (codes "check", check_of a root strict rows)
-    ∷ (codes "test", test_plan a.input (values_of (codes "FILE") rows) (first_of (codes "database") rows) root json)
-    ∷ (codes "verify", given_or_asked a.input (first_of (codes "DATABASE") rows) root summary)
-    ∷ (codes "dump", given_or_asked a.input (first_of (codes "DATABASE") rows) root text_form)
-    ∷ (codes "diff", diff_of a rows)
-    ∷ (codes "status", status_plan root json false)
-    ∷ (codes "keys", keys_plan json (values_of (codes "WORD") rows))
-    ∷ update_plans root rows
+    (codes "query", OfFiles (Alone (query_plan root json (values_of (codes "MODALIAS") rows))))
+    ∷ (codes "explain", OfFiles (Alone (explain_plan root json device)))
+    ∷ (codes "ask", OfFiles (ask_of rows))
+    ∷ (codes "list", OfFiles (Alone (list_plan root json device (first_of (codes "after") rows) (limit_of rows))))
+    ∷ (codes "near", OfFiles (near_of root rows))
+    ∷ (codes "device", OfDevices (device_of sight root rows))
+    ∷ (codes "check", OfFiles (check_of root strict rows))
+    ∷ (codes "test", OfFiles (test_request (values_of (codes "FILE") rows) (first_of (codes "database") rows) root json))
+    ∷ (codes "verify", OfFiles (OfBase (first_of (codes "DATABASE") rows) root summary))
+    ∷ (codes "dump", OfFiles (OfBase (first_of (codes "DATABASE") rows) root text_form))
+    ∷ (codes "diff", OfFiles (diff_of rows))
+    ∷ (codes "status", OfFiles (Alone (status_plan root json false)))
+    ∷ (codes "keys", OfFiles (Alone (keys_plan json (values_of (codes "WORD") rows))))
+    ∷ update_rows root rows
 
--- that of one, by its word
-abbrev pub command_plan : Around → (root : List ℕ) (strict : Bool) (word : Text) → List Row → Option Plan
-command_plan a root strict word rows = option_map (λ row. row.1) (find (λ row. bytes_eq row.0 word) (plans a root strict rows))
+-- the one with this word
+abbrev pub command : Sight → (root : List ℕ) (strict : Bool) (word : Text) → List Row → Option Command
+command sight root strict word rows = option_map (λ row. row.1) (find (λ row. bytes_eq row.0 word) (commands sight root strict rows))
 
 -- ---- plans by words
--- of what is matched before a command's word, and of that with what is matched after it
-abbrev pub found_plan : Around → (top : List Row) → Option (Text × List Row) → Option Plan
-found_plan a top None = None
-found_plan a top (Some found) = command_plan a (root_given top found.1) (strict_given top found.1) found.0 found.1
+-- the command, by what is matched before its word, and of that with what is matched after it
+abbrev pub found_command : Sight → (top : List Row) → Option (Text × List Row) → Option Command
+found_command sight top None = None
+found_command sight top (Some found) = command sight (root_given top found.1) (strict_given top found.1) found.0 found.1
 
--- of the words, the first of which is the program's name, over the files as they are
+-- that of the words, the first of which is the program's name
+abbrev pub command_of : Sight → (words : List Text) → Option Command
+command_of sight words = found_command sight (matches_of hwdb_app words) (subcommand_of hwdb_app words)
+
+-- its plan over the files as they are
 abbrev pub files_plan : Around → (words : List Text) → Option Plan
-files_plan a words = found_plan a (matches_of hwdb_app words) (subcommand_of hwdb_app words)
+files_plan a words = option_map (plan_of asked_names a) (command_of a.sight words)
 
 -- ---- `--text`
 -- A command that takes `--text`. Its other words may not fit that, since they name what is asked, or no database is: then this is said of

@@ -1,6 +1,5 @@
 -- Commands that answer from the database, and end with errors.
-use Rattle.std.proofs.Common.{◌≡◌, ◌≤◌, inl, inr, length, refl, subst, sym, ℕ, List, Option, None, Some, IfErr, IfSome, Result, Ok, Err, Vec, Global}
-use Rattle.std.specs.Prelude.{codes, true}
+use Rattle.std.proofs.Common.{◌≡◌, ◌≤◌, length, ℕ, List, Option, None, Some, IfSome}
 use Rattle.hwdb_spec_commands.specs.Asked.{IsAnswered}
 use Rattle.hwdb_spec_commands.specs.Databases.{IsTextOf}
 use Rattle.hwdb_spec.specs.Outputs.{TookOne, Wrote}

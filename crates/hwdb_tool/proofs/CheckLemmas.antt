@@ -1,10 +1,8 @@
 -- The files that `check` reads, and its errors of them.
-use Rattle.std.proofs.Common.{◌≡◌, ◌⊎◌, ◌<◌, ◌≤◌, ◌+◌, ◌++◌, ◌∙◌, ◌||◌, inl, inr, ap, sym, subst, refl, arith, ℕ, suc, Bool, true, false, List, [], ◌∷◌, length, map, drop, zero, get_or, string_bytes, codes, Global, Option, Some, None, Result, Ok, Err, IfErr, IfOk, String, All, Vec}
-use Rattle.std.specs.Bool.{◌==◌}
-use Rattle.std.proofs.Math.Seq.{split_at}
-use Rattle.std.specs.Prelude.{Contains, IfSome, take}
+use Rattle.std.proofs.Common.{◌≡◌, ◌⊎◌, ◌<◌, ◌≤◌, ◌+◌, ◌++◌, ◌∙◌, ◌||◌, inl, inr, ap, sym, subst, refl, arith, ℕ, suc, Bool, true, false, List, [], ◌∷◌, length, map, drop, zero, get_or, string_bytes, Global, Option, Some, None, Result, Ok, Err, IfOk, String, All, Vec}
+use Rattle.std.specs.Prelude.{IfSome, take}
 use Rattle.std.specs.Option.{option_map_or}
-use Rattle.std.proofs.lemmas.List.{length-map, get_or-map, drop_all, map-append, take_more}
+use Rattle.std.proofs.lemmas.List.{drop_all, map-append, take_more}
 use Rattle.hwdb_spec.specs.Folders.{Choice, Source, path_of}
 use Rattle.std.proofs.lemmas.List.Elements.{All-nil, All-cons, All-head, All-map, All-tail}
 use Rattle.hwdb_spec_commands.specs.Given.{IsContent, IsGiven, is_dash, any_dash}

@@ -25,7 +25,8 @@ use Rattle.hwdb_spec_commands.specs.Undone.{AreNotChecked}
 use Rattle.hwdb_spec_commands.specs.declared.refusals.Refusal.{Refusal}
 use Rattle.hwdb_spec_commands.specs.declared.refusals.Refusal.TheVariants as refusal
 use Rattle.hwdb_spec_commands.specs.declared.unread.Unread.TheVariants as unread
-use Rattle.hwdb_plan.specs.Check.{check_plan, if_marked, over_baseline, said_of, stored}
+use Rattle.hwdb_plan.specs.Check.{check_plan, said_of, stored}
+use Rattle.hwdb_plan.specs.Baseline.{if_marked, over_baseline}
 use Rattle.hwdb_plan.specs.Files.{OfInput, given_files, source_at}
 use Rattle.hwdb_plan.specs.Folders.{texts_of_folders}
 use Rattle.hwdb_plan.specs.GivenFolders.{named_files}

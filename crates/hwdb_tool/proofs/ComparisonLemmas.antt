@@ -1,5 +1,5 @@
 -- What `diff` reads, and its errors.
-use Rattle.std.proofs.Common.{◌≡◌, ◌==◌, ◌∷◌, ap, inl, inr, sym, ℕ, Bool, true, false, length, List, [], map, Option, Some, Result, Ok, Err, IfErr, IfOk, flat_map}
+use Rattle.std.proofs.Common.{◌≡◌, ◌==◌, ◌∷◌, ap, sym, ℕ, false, length, List, [], map, Some, flat_map}
 use Rattle.hwdb_check.specs.Checks.{source_of}
 use Rattle.hwdb_check.specs.declared.files.TextFile.{TextFile}
 use Rattle.hwdb_spec_commands.specs.Comparisons.{devices_named}

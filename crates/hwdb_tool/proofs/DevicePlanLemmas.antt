@@ -21,7 +21,9 @@ use Rattle.hwdb_spec_commands.specs.declared.refusals.Refusal.{Refusal}
 use Rattle.hwdb_spec_commands.specs.declared.refusals.Refusal.TheVariants as refusal
 use Rattle.hwdb_spec_program.specs.DeviceErrors.{IsNoDevice, IsNoSysfs, IsUnmeant, asked_names}
 use Rattle.hwdb_plan.specs.Asking.{asked}
-use Rattle.hwdb_plan.specs.Device.{OfCause, all_misuse, device_answer, devices_plan, every_plan, folder_of, meant_plan, none_there, one_of, place_of, says, strings_answer, strings_plan, sysfs_of}
+use Rattle.hwdb_plan.specs.Device.{all_misuse, device_answer, devices_plan, every_plan, meant_plan, strings_answer, strings_plan}
+use Rattle.hwdb_plan.specs.OverText.{if_fit}
+use Rattle.hwdb_plan.specs.Sysfs.{OfCause, folder_of, none_there, one_of, place_of, says, sysfs_of}
 use Rattle.hwdb_plan.specs.Dump.{database_stop}
 use Rattle.hwdb_plan.specs.Lemmas.Steps.{plainly}
 use Rattle.hwdb_plan.specs.Plans.{End, Ends, Follows, Plan}
@@ -210,12 +212,12 @@ module _ {Y : Type 0} (end_of : Y → End) (w : Reads) (sight : Sight) (root : L
     misused_follows form given text r result is said same =
         handed_on (λ cause. every_plan sight cause names root form given) r result
         (whatever (λ cause. EndsIn w (every_plan sight cause names root form given) r)
-        (subst (λ (o : Option (List ℕ)). EndsIn w (option_map_or says o (strings_plan sight [] names root)) r) (sym is) (error_ends w (says text) text r said refl))) same
+        (subst (λ (o : Option (List ℕ)). EndsIn w (if_fit o (strings_plan sight [] names root)) r) (sym is) (error_ends w (says text) text r said refl))) same
 
     pub fits_follow : (form : DeviceForm) (given : Option (List ℕ)) (result : Result Y Refusal) → all_misuse form given ≡ None → OfCause (λ cause. Follows end_of w (strings_plan sight cause names root) result)
         → OfCause (λ cause. Follows end_of w (every_plan sight cause names root form given) result)
     fits_follow form given result is (cause, one_line, follows) =
-        (cause, one_line, subst (λ (o : Option (List ℕ)). Follows end_of w (option_map_or says o (strings_plan sight cause names root)) result) (sym is) follows)
+        (cause, one_line, subst (λ (o : Option (List ℕ)). Follows end_of w (if_fit o (strings_plan sight cause names root)) result) (sym is) follows)
 
     -- ---- one device
     module _ (given : List ℕ) (form : DeviceForm) where

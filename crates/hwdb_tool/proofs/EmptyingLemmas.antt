@@ -1,6 +1,5 @@
 -- What an update says is lost.
-use Rattle.std.proofs.Common.{◌≡◌, ◌≤◌, ◌∙◌, ◌++◌, ◌==◌, ap, sym, subst, refl, inl, inr, append_assoc, eqb-true, true≢false, ℕ, Bool, true, false, not, List, [], ◌∷◌, length, Option, Some, None, IfSome, IfOk, OnOk, Result, Ok, Err, arith}
-use Rattle.std.specs.Io.KnownBytes.{Appends}
+use Rattle.std.proofs.Common.{◌≡◌, ◌≤◌, ◌∙◌, ◌==◌, ap, sym, subst, refl, inl, inr, eqb-true, true≢false, ℕ, Bool, true, false, not, List, [], ◌∷◌, length, Option, Some, None, IfSome, Result, Ok, arith}
 use Rattle.std.specs.Prelude.{option_map}
 use Rattle.hwdb_plan.specs.Lemmas.Update.{IsLostBy}
 use Rattle.hwdb_plan.specs.Plans.{Ends, Plan, ReachesValue}

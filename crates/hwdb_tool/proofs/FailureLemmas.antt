@@ -1,9 +1,7 @@
 -- What a count of failed calls tells, that a word too many is a fault, and what comes before a job is done.
-use Rattle.std.proofs.Common.{◌≡◌, ◌≢◌, ◌⊎◌, ◌∙◌, ◌<◌, ◌-◌, ⊎_elim, ap, subst, sym, refl, List, ℕ, [], length, arith, ne_of_lt}
+use Rattle.std.proofs.Common.{◌≡◌, ◌≢◌, ◌∙◌, ◌<◌, ◌-◌, ⊎_elim, ap, sym, refl, ℕ, [], length, arith, ne_of_lt}
 use Rattle.std.specs.Prelude.{◌^◌}
 use Rattle.clap.specs.Faults.{fault_of}
-use Rattle.clap.specs.Kinds.{IsAmong, Kinds}
-use Rattle.clap.specs.declared.error.kind.ErrorKind.TheVariants.{DisplayHelp, DisplayVersion}
 use Rattle.clap.proofs.OnLiterals.{clap_on_literals}
 use Rattle.hwdb_spec_commands.specs.CommandLine.{hwdb_app}
 use Rattle.hwdb_spec.specs.Failures.{HasFailed}

@@ -1,7 +1,6 @@
 -- Files that words name, by their place among the words, and by what was read of them.
-use Rattle.std.proofs.Common.{◌≡◌, ◌∙◌, ◌∷◌, ◌||◌, ap, sym, subst, ℕ, Bool, true, false, List, [], map, refl, String, Global, string_bytes, drop, take, get_or, length, ◌+◌, ◌<◌, ◌++◌}
+use Rattle.std.proofs.Common.{◌≡◌, ◌∙◌, ◌∷◌, ap, sym, ℕ, List, [], map, refl, String, Global, string_bytes, drop, take, get_or, length, ◌+◌, ◌<◌, ◌++◌}
 use Rattle.std.proofs.lemmas.List.{drop_more, map-append, take_more}
-use Rattle.std.specs.Str.{bytes_eq}
 use Rattle.hwdb_spec.specs.Folders.{Source}
 use Rattle.hwdb_plan.specs.Files.{AreFiles}
 use Rattle.hwdb_check.specs.Checks.{source_of}

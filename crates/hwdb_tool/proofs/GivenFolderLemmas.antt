@@ -1,8 +1,6 @@
 -- The text files that given paths mean.
-use Rattle.std.proofs.Common.{◌≡◌, ◌<◌, ◌∙◌, ◌++◌, ◌+◌, ◌==◌, ◌&&◌, ap, sym, refl, subst, inl, append_assoc, arith, eqb-true, ℕ, zero, suc, Bool, true, false, List, [], ◌∷◌, length, map, take, drop, take-append-drop, get_or, string_bytes, Global, String, Result, IfErr, if◌then◌else◌}
+use Rattle.std.proofs.Common.{◌≡◌, ◌<◌, ◌∙◌, ◌++◌, ◌==◌, ◌&&◌, ap, sym, refl, arith, eqb-true, ℕ, zero, suc, Bool, true, false, List, [], ◌∷◌, length, map, get_or, if◌then◌else◌}
 use Rattle.std.specs.Prelude.{nat_eq}
-use Rattle.std.specs.Result.{IsErrAnd}
-use Rattle.std.proofs.lemmas.List.{map-append, take_more}
 use Rattle.hwdb_spec_commands.specs.CheckedFiles.{folder_of}
 use Rattle.hwdb_spec.specs.Folders.{Choice}
 use Rattle.hwdb_spec_commands.specs.Given.{any_dash, is_dash}

@@ -1,5 +1,5 @@
 -- A side of `diff` that is standard input: a database that has what is told of it.
-use Rattle.std.proofs.Common.{◌≡◌, ◌≤◌, ◌⊎◌, ◌∙◌, ◌∷◌, ◌&&◌, ◌||◌, inl, inr, sym, subst, refl, ℕ, Bool, true, false, List, length, Option, Some, Result, Ok, Err, IfErr, IfOk, IfSome, Vec, Global}
+use Rattle.std.proofs.Common.{◌≡◌, ◌⊎◌, ◌∷◌, ◌&&◌, ◌||◌, inl, inr, refl, ℕ, Bool, true, false, List}
 use Rattle.hwdb_spec_commands.specs.Given.{any_dash, is_dash}
 use Rattle.hwdb_spec_program.specs.GivenDatabases.{names_twice}
 use Rattle.hwdb_tool.specs.SideSteps.{IsOneDash}

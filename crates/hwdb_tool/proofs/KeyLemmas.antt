@@ -1,11 +1,11 @@
 -- What a run of `keys` leaves, in the words of the program.
-use Rattle.std.proofs.Common.{◌≡◌, map, refl, string_bytes, subst, sym, Bool, Global, IfErr, IfOk, List, MatchResult, Result, String, Vec, Err, ℕ}
+use Rattle.std.proofs.Common.{◌≡◌, map, string_bytes, subst, Bool, Global, List, MatchResult, Result, String, Vec, Err, ℕ}
 use Rattle.hwdb_plan.specs.Ended.{Outs, Prints}
 use Rattle.hwdb_plan.specs.Keys.{keys_plan}
 use Rattle.hwdb_plan.specs.Plans.{Follows}
 use Rattle.hwdb_spec_commands.specs.DeviceTree.{Sight}
 use Rattle.hwdb_spec_commands.specs.Jobs.{IsTask}
-use Rattle.hwdb_spec_commands.specs.Runs.{Files, Told, World}
+use Rattle.hwdb_spec_commands.specs.Runs.{Told}
 use Rattle.hwdb_spec_commands.specs.Told.{Reads}
 use Rattle.hwdb_spec_commands.specs.declared.job.Job.{Job}
 use Rattle.hwdb_spec_commands.specs.declared.job.Task.{Task}
@@ -16,19 +16,8 @@ use Rattle.hwdb_spec_program.specs.ProgramPlan.{ShowsPlan, files_plan}
 use Rattle.hwdb_spec_program.specs.Words.{AskFor}
 use Rattle.hwdb_tool.specs.Views.{end_of}
 use Rattle.hwdb_tool.specs.declared.answer.Answer.{Answer}
-use Rattle.hwdb_tool.proofs.ProgramPlanLemmas.{keys_planned, of_words}
-
--- the words as they were given, and as the command takes them
-module _ (words : Vec (String Global) Global) (given : List (String Global)) (json : Bool) (same : given ≡ words.items) (answer : Result Answer Refusal) (result : Result ℕ Refusal) (task : Task) (is : task ≡ Keys words json) where
-  module _ (root : List ℕ) (usr strict : Bool) (files : Files) (input err err_now out out_now : Told) (devices : Sight) where
-    abbrev before : World
-    before = record { files = files; input = input; out = out; err = err; devices = devices }
-
-    abbrev now : World
-    now = record { files = files; input = input; out = out_now; err = err_now; devices = devices }
-
-    abbrev asked : Task
-    asked = Keys words json
+use Rattle.hwdb_tool.proofs.ProgramPlanLemmas.{of_words}
+use Rattle.hwdb_tool.proofs.KeyWords.{keys_planned}
 
 -- a run shows what the plan of its words ends in
 pub keys_follow : (w : Reads) (sight : Sight) (input : Told) (before now : Outs) (result : Result ℕ Refusal) (asked : List (List ℕ)) (job : Job) → AskFor asked job → (answer : Result Answer Refusal)

@@ -1,8 +1,6 @@
 -- Names that a folder lists, and files that are in the folder that they are taken from.
-use Rattle.std.proofs.Common.{◌≡◌, ◌≤◌, ◌<◌, ◌∷◌, ◌++◌, ◌∙◌, ◌⊎◌, ◌||◌, arith, inl, inr, ap, sym, subst, refl, append_assoc, append-nil, zero, suc, List, None, Some, Result, Ok, Err, IfSome, ℕ, Bool, true, false, [], length, map, All}
-use Rattle.std.proofs.lemmas.Bool.Decides.{nat_tests}
-use Rattle.std.proofs.lemmas.List.Elements.{All-append, All-cons, All-contains, All-contains_itself, All-filter, All-head, All-map, All-nil, All-tail, All-weaker}
-use Rattle.std.specs.Prelude.{Contains, codes, filter, if◌then◌else◌, is_some, nat_le}
+use Rattle.std.proofs.Common.{◌≡◌, ◌∷◌, ◌∙◌, ◌||◌, arith, ap, sym, refl, zero, suc, List, ℕ, Bool, true, false, []}
+use Rattle.std.specs.Prelude.{Contains}
 use Rattle.hwdb_spec.specs.Folders.{lists, same}
 use Rattle.hwdb_spec.specs.Lemmas.Orders.{same_itself, same_text}
 use Rattle.hwdb_spec.specs.Lemmas.Truth.{or_right}

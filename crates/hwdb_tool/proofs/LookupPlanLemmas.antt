@@ -1,6 +1,6 @@
 -- Ends of `query`, `explain`, `list` and `ask`, from what their calls promise.
 use Rattle.hwdb_spec.specs.Written.{IsCompiled, IsWritten}
-use Rattle.std.proofs.Common.{◌≡◌, ◌≢◌, ◌∙◌, ◌⊎◌, inl, inr, ap, sym, subst, List, Option, None, Some, Result, Ok, Err, IfSome, ℕ, Bool, true, false, refl, [], ◌∷◌, ◌++◌, length, map, take}
+use Rattle.std.proofs.Common.{◌≡◌, ◌≢◌, ◌∙◌, ◌⊎◌, inl, inr, ap, sym, subst, List, Option, None, Some, Result, Ok, Err, IfSome, ℕ, Bool, true, false, refl, [], ◌∷◌, ◌++◌, map, take}
 use Rattle.std.specs.Prelude.{flat_map}
 use Rattle.std.specs.Result.{IsErrAnd}
 use Rattle.std.proofs.lemmas.List.{take-map}

@@ -1,6 +1,6 @@
 -- Databases that words name: `-` is standard input.
-use Rattle.std.proofs.Common.{Global, Vec, arith, ◌≡◌, ◌≢◌, ◌≤◌, ◌<◌, ◌⊎◌, ◌∙◌, inl, inr, ap, sym, subst, refl, ℕ, Bool, true, false, List, [], length, Option, None, Some, Result, Ok, Err, IfErr, IfOk, IfSome, option_map}
-use Rattle.std.specs.Prelude.{codes, is_some, vec_len}
+use Rattle.std.proofs.Common.{Global, Vec, arith, ◌≡◌, ◌≢◌, ◌≤◌, ◌<◌, ◌∙◌, inl, inr, ap, sym, subst, refl, ℕ, Bool, true, false, List, length, Option, None, Some, Result, Ok, Err, IfSome}
+use Rattle.std.specs.Prelude.{codes, vec_len}
 use Rattle.std.specs.Result.{IsErrAnd}
 use Rattle.hwdb_spec.specs.Failures.{HasFailed}
 use Rattle.hwdb_spec_program.specs.GivenDatabases.{names_input}
@@ -13,7 +13,7 @@ use Rattle.hwdb_spec.specs.declared.causes.Cause.TheVariants as why
 use Rattle.hwdb_spec.specs.declared.errors.ReadError.{ReadError}
 use Rattle.hwdb_spec.specs.declared.errors.ReadError.TheVariants as reading
 use Rattle.hwdb_spec.specs.declared.errors.ToolError.{ToolError}
-use Rattle.hwdb_spec.specs.declared.errors.ToolError.TheVariants.{Memory, Read, TooLong}
+use Rattle.hwdb_spec.specs.declared.errors.ToolError.TheVariants.{Memory, Read}
 use Rattle.hwdb_spec_commands.specs.declared.refusals.Refusal.{Refusal}
 use Rattle.hwdb_spec_commands.specs.declared.refusals.Refusal.TheVariants.{At, InWords, NoDatabase, Plain}
 use Rattle.hwdb_spec_commands.specs.declared.unread.Unread.{Unread}

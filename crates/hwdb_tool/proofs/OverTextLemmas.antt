@@ -1,5 +1,5 @@
 -- A task over the text files: what is done over the database that they make, and what fails before it.
-use Rattle.std.proofs.Common.{◌≡◌, ◌∙◌, ◌⊎◌, ◌&&◌, inl, inr, ⊎_elim, ap, sym, refl, subst, arith, true, false, true≢false, List, ℕ, Bool, Option, None, Some}
+use Rattle.std.proofs.Common.{◌≡◌, ◌&&◌, sym, refl, subst, true, false, true≢false, List, ℕ, Bool, Option, None, Some}
 use Rattle.std.specs.Borrow.{Bor}
 use Rattle.std.specs.Prelude.{option_map}
 use Rattle.hwdb_spec_commands.specs.OverText.{misuse_text, takes_text}

@@ -1,5 +1,5 @@
 -- Ends of these commands, from what their calls promise.
-use Rattle.std.proofs.Common.{◌≡◌, ◌≤◌, ◌∙◌, ◌⊎◌, inl, inr, ap, sym, subst, ◌==◌, ◌∷◌, arith, eqb-true, map, string_bytes, All, Bool, Global, String, true, false, List, None, Option, Some, Result, Ok, Err, IfOk, ℕ, [], length}
+use Rattle.std.proofs.Common.{◌≡◌, ◌≤◌, ◌∙◌, ◌⊎◌, inl, inr, ap, sym, subst, ◌==◌, ◌∷◌, arith, eqb-true, map, string_bytes, All, Bool, Global, String, true, false, List, None, Option, Result, Err, ℕ, [], length}
 use Rattle.hwdb_spec_commands.specs.Asked.{unsayable_text}
 use Rattle.hwdb_spec.specs.Texts.{max_file}
 use Rattle.hwdb_tool.specs.Views.{end_of}

@@ -1,5 +1,5 @@
 -- What the program reports after a command.
-use Rattle.std.proofs.Common.{◌≡◌, ◌∙◌, ◌<◌, ◌⊎◌, ◌∷◌, ⊎_elim, arith, inl, inr, ap, refl, subst, sym, Bool, List, Option, None, Result, Some, Ok, Err, ℕ, [], true, false}
+use Rattle.std.proofs.Common.{◌≡◌, ◌∙◌, ◌<◌, ◌⊎◌, ⊎_elim, inl, inr, ap, subst, sym, List, Option, None, Some, Err, ℕ, [], true, false}
 use Rattle.std.specs.Prelude.{◌||◌, codes, if◌then◌else◌}
 use Rattle.std.specs.Str.{bytes_eq}
 use Rattle.clap.specs.Faults.{fault_of}
@@ -10,7 +10,7 @@ use Rattle.hwdb_spec_commands.specs.Jobs.{IsJobOf, IsTask}
 use Rattle.hwdb_spec_commands.specs.Runs.{Told}
 use Rattle.hwdb_spec_commands.specs.declared.job.Job.{Job}
 use Rattle.hwdb_spec_commands.specs.declared.job.Task.{Task}
-use Rattle.hwdb_spec_commands.specs.declared.job.Task.TheVariants.{Ask, Check, Device, Diff, Dump, Explain, Keys, List as ListHits, Near, Query, Status, Test, Update, Verify}
+use Rattle.hwdb_spec_commands.specs.declared.job.Task.TheVariants.{Status}
 use Rattle.hwdb_spec_commands.specs.declared.job.WordsFault.TheVariants.{Help, Usage}
 use Rattle.hwdb_spec_commands.specs.WordFaults.{IsToldOfOne}
 use Rattle.hwdb_spec_commands.specs.declared.refusals.Refusal.{Refusal}
@@ -25,21 +25,9 @@ abbrev of_word : Text → ℕ
 of_word word = if bytes_eq word (codes "diff") || bytes_eq word (codes "check") then 2 else 1
 
 by_task : (word : Text) (rows : List Row) (task : Task) → IsTask word rows task → refused_status task ≡ of_word word
-by_task word rows (Update verbose skip) is = ap of_word (sym is.0)
-by_task word rows (Query devices json) is = ap of_word (sym is.0)
-by_task word rows (Explain device json) is = ap of_word (sym is.0)
-by_task word rows (Ask file device) is = ap of_word (sym is.0)
-by_task word rows (ListHits after limit device json) is = ap of_word (sym is.0)
-by_task word rows (Near files device limit json) is = ap of_word (sym is.0)
-by_task word rows (Device path strings json pattern all) is = ap of_word (sym is.0)
-by_task word rows (Check files allowed json format name baseline) is = ap of_word (sym is.0)
-by_task word rows (Test files database json) is = ap of_word (sym is.0)
-by_task word rows (Diff old new devices json stat) is = ap of_word (sym is.0)
-by_task word rows (Verify database) is = ap of_word (sym is.0)
-by_task word rows (Dump database) is = ap of_word (sym is.0)
-by_task word rows (Keys words json) is = ap of_word (sym is.0)
 by_task word rows (Status json false) is = ap of_word (sym is.0)
 by_task word rows (Status json true) is = ap of_word (sym is.0)
+by_task word rows task is = ap of_word (sym is.0)
 
 pub status_is : (words : List Text) (job : Job) → AskFor words job → refused_status job.task ≡ error_status (subcommand_of hwdb_app words)
 status_is words job asked = by (matches_of hwdb_app words) (subcommand_of hwdb_app words) asked

@@ -1,7 +1,7 @@
 -- What a side of `diff` is, by what was read of it.
-use Rattle.std.proofs.Common.{◌≡◌, ◌==◌, ◌<◌, ◌≤◌, ◌⊎◌, Global, ◌∙◌, ◌++◌, ◌∷◌, ◌||◌, [], append-nil, if◌then◌else◌, ap, arith, eqb-true, zero, suc, inl, inr, sym, subst, refl, ℕ, Bool, true, false, not, List, length, map, Some}
+use Rattle.std.proofs.Common.{◌≡◌, ◌==◌, ◌<◌, ◌∙◌, ◌++◌, ◌∷◌, ◌||◌, [], if◌then◌else◌, ap, arith, eqb-true, zero, suc, sym, refl, ℕ, Bool, true, false, List, length, Some}
 use Rattle.std.specs.Borrow.{Bor}
-use Rattle.std.specs.Prelude.{IfErr, IfNone, IfOk, Err, MatchOption, Ok, Result, Vec, is_some, None, Option, slice_index, ◌≢◌}
+use Rattle.std.specs.Prelude.{IfNone, MatchOption, None, Option, slice_index, ◌≢◌}
 use Rattle.hwdb_spec.specs.Lines.{byte, has}
 use Rattle.hwdb_spec_commands.specs.Sides.{file_name}
 

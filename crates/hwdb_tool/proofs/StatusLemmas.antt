@@ -1,9 +1,6 @@
 -- What `status` says is one, and its errors.
-use Rattle.std.proofs.Common.{◌≡◌, ◌≤◌, ◌∙◌, ◌++◌, ◌∷◌, ◌==◌, [], ap, arith, ne_eqb, inl, inr, refl, sym, subst, Bool, true, false, IfSome, List, flat_map, length, map, ℕ, Option, Some, None}
-use Rattle.std.proofs.Math.Path.{fun_ext}
-use Rattle.std.proofs.lemmas.List.Elements.{All-contains}
-use Rattle.std.specs.Prelude.{◌≢◌, codes, if◌then◌else◌, is_some}
-use Rattle.std.specs.Option.{option_or}
+use Rattle.std.proofs.Common.{◌≡◌, ◌∙◌, ◌∷◌, ◌==◌, [], ap, arith, ne_eqb, sym, Bool, true, false, List, length, map, ℕ, Some}
+use Rattle.std.specs.Prelude.{is_some}
 use Rattle.hwdb_compile.specs.Views.{ForFolders}
 use Rattle.hwdb_text.specs.Views.{choice_in}
 use Rattle.hwdb_text.specs.declared.choice.ChosenFile.{ChosenFile}

@@ -1,9 +1,6 @@
 -- Errors over text files that are read: each comes alone.
-use Rattle.std.proofs.Common.{◌≡◌, ◌≤◌, ◌<◌, ◌⊎◌, ◌∙◌, ◌+◌, ◌++◌, ◌||◌, append_assoc, append-nil, inl, inr, ap, sym, subst, refl, arith, ℕ, zero, suc, Bool, true, false, List, [], ◌∷◌, length, map, Option, None, Some, IfSome, All, if◌then◌else◌}
-use Rattle.std.specs.List.{onto_first}
-use Rattle.std.specs.Prelude.{Contains, codes, is_some}
-use Rattle.std.proofs.lemmas.List.{length-map}
-use Rattle.std.proofs.lemmas.List.Elements.{All-cons, All-contains, All-head, All-nil, All-tail, Contains-append_right}
+use Rattle.std.proofs.Common.{◌≡◌, ◌≤◌, ◌+◌, ap, refl, arith, ℕ, suc, List, [], ◌∷◌, length, All}
+use Rattle.std.proofs.lemmas.List.Elements.{All-contains}
 use Rattle.hwdb_spec.specs.Folders.{Source, max_lines}
 use Rattle.hwdb_spec.specs.Lines.{byte, is, lines, numbered, pieces}
 use Rattle.hwdb_spec.specs.Texts.{max_file}

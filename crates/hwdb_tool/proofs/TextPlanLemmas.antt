@@ -1,5 +1,5 @@
 -- `--text`, as a plan over what is there.
-use Rattle.std.proofs.Common.{◌≡◌, ◌≤◌, arith, inl, inr, ap, subst, sym, List, Option, Some, Result, Ok, Err, ℕ, Bool, true, false, refl, length}
+use Rattle.std.proofs.Common.{◌≡◌, ◌≤◌, arith, inl, inr, ap, List, Result, Ok, Err, ℕ, Bool, true, false, refl, length}
 use Rattle.std.specs.Prelude.{nat_le, if◌then◌else◌}
 use Rattle.std.specs.Str.{bytes_eq}
 use Rattle.std.proofs.lemmas.Bool.Decides.{nat_tests}

@@ -1,5 +1,5 @@
 -- A run with `--text` follows the plan that its words compute.
-use Rattle.std.proofs.Common.{◌||◌, ◌≡◌, ◌≢◌, ◌≤◌, ◌∙◌, ◌⊎◌, ◌&&◌, ◌∷◌, ◌++◌, ⊎_elim, inl, inr, ap, refl, subst, sym, length, map, string_bytes, true≢false, Bool, IfSome, List, Option, None, Result, Some, Ok, Err, ℕ, [], true, false}
+use Rattle.std.proofs.Common.{◌||◌, ◌≡◌, ◌≤◌, ◌∙◌, ◌⊎◌, ◌&&◌, ◌∷◌, ◌++◌, ⊎_elim, inl, inr, ap, refl, subst, sym, length, map, string_bytes, true≢false, Bool, IfSome, List, Option, None, Result, Some, Ok, Err, ℕ, [], true, false}
 use Rattle.std.proofs.lemmas.List.{length-map}
 use Rattle.std.specs.Prelude.{◌==◌, codes, filter, find, if◌then◌else◌, is_some, not, option_map}
 use Rattle.std.specs.Result.{IsErrAnd}
@@ -32,12 +32,15 @@ use Rattle.hwdb_spec_commands.specs.Told.Stop.{Says}
 use Rattle.hwdb_spec_commands.specs.declared.form.Form.TheVariants as form
 use Rattle.hwdb_spec_commands.specs.declared.job.Job.{Job}
 use Rattle.hwdb_spec_commands.specs.declared.job.Task.{Task}
-use Rattle.hwdb_spec_commands.specs.declared.job.Task.TheVariants.{Ask, Check, Device, Diff, Dump, Explain, Keys, List as ListHits, Near, Query, Status, Test, Update, Verify}
+use Rattle.hwdb_spec_commands.specs.declared.job.Task.TheVariants.{Device, Dump, Explain, List as ListHits, Near, Query, Status, Test, Verify}
 use Rattle.hwdb_spec_commands.specs.declared.refusals.Refusal.{Refusal}
 use Rattle.hwdb_spec_commands.specs.declared.refusals.Refusal.TheVariants as refusal
 use Rattle.hwdb_spec_commands.specs.declared.unread.Unread.TheVariants as unread
 use Rattle.hwdb_spec_program.specs.Program.{asks_text, root_of}
-use Rattle.hwdb_spec_program.specs.ProgramPlan.{Around, ShowsPlan, Taker, as_given, before_last, command_plan, files_plan, found_plan, over_texts, program_plan, root_given, strict_given, taker, takers, value_of, values_of}
+use Rattle.hwdb_spec_program.specs.DeviceErrors.{asked_names}
+use Rattle.hwdb_plan.specs.Requests.{plan_of}
+use Rattle.hwdb_spec_program.specs.ProgramPlan.{ShowsPlan, Taker, as_given, before_last, files_plan, found_command, over_texts, program_plan, root_given, strict_given, taker, takers, value_of, values_of}
+use Rattle.hwdb_plan.specs.Requests.{Around}
 use Rattle.hwdb_spec_program.specs.Words.{AskFor}
 use Rattle.hwdb_plan.specs.Answers.{devices_plan, explain_plan}
 use Rattle.hwdb_plan.specs.Ended.{Outs, ShowsEnd}
@@ -57,7 +60,8 @@ use Rattle.hwdb_tool.specs.Internal.{AreReadOf}
 use Rattle.hwdb_tool.specs.TextPlans.{besides_for, plan_over}
 use Rattle.hwdb_tool.proofs.FolderLemmas.{are_read}
 use Rattle.hwdb_tool.proofs.OverTextLemmas.{taken}
-use Rattle.hwdb_tool.proofs.ProgramPlanLemmas.{before_is, has_both, root_is, some_value, some_values}
+use Rattle.hwdb_tool.proofs.ProgramPlanLemmas.{command_plan, has_both, root_is, some_value, some_values}
+use Rattle.hwdb_tool.proofs.NearWords.{before_is}
 use Rattle.hwdb_tool.proofs.SidePlanLemmas.{are_taken}
 
 -- ---- which commands take it, by their words
@@ -122,15 +126,17 @@ taker_found (Dump database) word rows is takes = (
 )
 taker_found task word rows is takes = absurd (true≢false (sym takes))
 
+takes_is : (task : Task) (word : Text) (rows : List Row) → IsTask word rows task → is_some (Found word rows) ≡ takes_text task
+takes_is (Status json false) word rows is = subst (λ (n : Text). is_some (Found n rows) ≡ false) (sym is.0) refl
+takes_is (Status json true) word rows is = subst (λ (n : Text). is_some (Found n rows) ≡ false) (sym is.0) refl
+takes_is task word rows is = subst (λ (n : Text). is_some (Found n rows) ≡ takes_text task) (sym is.0) refl
+
 none_found : (task : Task) (word : Text) (rows : List Row) → IsTask word rows task → takes_text task ≡ false → Found word rows ≡ None
-none_found (Update verbose skip) word rows is not = subst (λ (n : Text). Found n rows ≡ None) (sym is.0) refl
-none_found (Ask file device) word rows is not = subst (λ (n : Text). Found n rows ≡ None) (sym is.0) refl
-none_found (Check files allowed json format name baseline) word rows is not = subst (λ (n : Text). Found n rows ≡ None) (sym is.0) refl
-none_found (Diff old new devices json stat) word rows is not = subst (λ (n : Text). Found n rows ≡ None) (sym is.0) refl
-none_found (Status json false) word rows is not = subst (λ (n : Text). Found n rows ≡ None) (sym is.0) refl
-none_found (Status json true) word rows is not = subst (λ (n : Text). Found n rows ≡ None) (sym is.0) refl
-none_found (Keys words json) word rows is not = subst (λ (n : Text). Found n rows ≡ None) (sym is.0) refl
-none_found task word rows is not = absurd (true≢false not)
+none_found task word rows is not = by (Found word rows) (takes_is task word rows is ∙ not)
+  where
+    by : (o : Option (Text × Taker)) → is_some o ≡ false → o ≡ None
+    by None none = refl
+    by (Some t) none = absurd (true≢false none)
 
 -- ---- what it makes of a plan
 abbrev Given : (words : List Text) → Plan → Plan
@@ -249,7 +255,7 @@ module _ (no_more : OverIsNoMore) (w : Reads) (root made : List ℕ) where
       → (e : End) → Ends w (over (is_first root) made p) e → MayFollow text e
   words_may words job asked a p planned etc usr text of e ends = by (matches_of hwdb_app words) (subcommand_of hwdb_app words) asked planned
     where
-      by : (top : List Row) (found : Option (Text × List Row)) → IsJobOf top found job → found_plan a top found ≡ Some p → MayFollow text e
+      by : (top : List Row) (found : Option (Text × List Row)) → IsJobOf top found job → option_map (plan_of asked_names a) (found_command a.sight top found) ≡ Some p → MayFollow text e
       by top None is planned = absurd is
       by top (Some f) is planned = explained_may job.task f.0 f.1 is.task a (root_given top f.1) (strict_given top f.1) p planned etc usr text of e ends
 

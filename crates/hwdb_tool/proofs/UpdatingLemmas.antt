@@ -12,7 +12,7 @@ use Rattle.hwdb_spec_commands.specs.Runs.{AreKept, Files, Told}
 use Rattle.hwdb_spec_commands.specs.Told.{Reads}
 use Rattle.hwdb_spec_commands.specs.declared.job.Job.{Job}
 use Rattle.hwdb_spec_commands.specs.declared.job.Task.{Task}
-use Rattle.hwdb_spec_commands.specs.declared.job.Task.TheVariants.{Ask, Check, Device, Diff, Dump, Explain, Keys, List as ListHits, Near, Query, Status, Test, Update, Verify}
+use Rattle.hwdb_spec_commands.specs.declared.job.Task.TheVariants.{Status, Update}
 use Rattle.hwdb_spec_commands.specs.declared.refusals.Refusal.{Refusal}
 use Rattle.hwdb_plan.specs.Ended.{Outs}
 use Rattle.hwdb_plan.specs.Putting.{OldOrPut}
@@ -62,19 +62,7 @@ module _ {D : Type 0} (moment : D → ℕ) (left_since : D → ℕ → Outcomes)
 -- an update, or not
 by_task : (task : Task) → IsUpdate task ⊎ (IsUpdate task → ⊥)
 by_task (Update verbose skip) = inl (verbose, skip, refl)
-by_task (Query devices json) = inr (λ (v, s, is). cc)
-by_task (Explain device json) = inr (λ (v, s, is). cc)
-by_task (Ask file device) = inr (λ (v, s, is). cc)
-by_task (ListHits after limit device json) = inr (λ (v, s, is). cc)
-by_task (Near files device limit json) = inr (λ (v, s, is). cc)
-by_task (Device path strings json pattern all) = inr (λ (v, s, is). cc)
-by_task (Check files allowed json format name baseline) = inr (λ (v, s, is). cc)
-by_task (Test files database json) = inr (λ (v, s, is). cc)
-by_task (Diff old new devices json stat) = inr (λ (v, s, is). cc)
-by_task (Verify database) = inr (λ (v, s, is). cc)
-by_task (Dump database) = inr (λ (v, s, is). cc)
-by_task (Status json quiet) = inr (λ (v, s, is). cc)
-by_task (Keys words json) = inr (λ (v, s, is). cc)
+by_task task = inr (λ (v, s, is). cc)
 
 -- ---- by words
 -- what an update of this job is asked for
@@ -94,21 +82,10 @@ module _ (top : List Row) (found : Text × List Row) where
   -- the words of another task
   unasked : (task : Task) → IsTask found.0 found.1 task → (IsUpdate task → ⊥) → found_update top (Some found) ≡ None
   unasked (Update verbose skip) is none = absurd (none (verbose, skip, refl))
-  unasked (Query devices json) is none = named_so (codes "query") is.0 (λ b. refl)
-  unasked (Explain device json) is none = named_so (codes "explain") is.0 (λ b. refl)
-  unasked (Ask file device) is none = named_so (codes "ask") is.0 (λ b. refl)
-  unasked (ListHits after limit device json) is none = named_so (codes "list") is.0 (λ b. refl)
-  unasked (Near files device limit json) is none = named_so (codes "near") is.0 (λ b. refl)
-  unasked (Device path strings json pattern all) is none = named_so (codes "device") is.0 (λ b. refl)
-  unasked (Check files allowed json format name baseline) is none = named_so (codes "check") is.0 (λ b. refl)
-  unasked (Test files database json) is none = named_so (codes "test") is.0 (λ b. refl)
-  unasked (Diff old new devices json stat) is none = named_so (codes "diff") is.0 (λ b. refl)
-  unasked (Verify database) is none = named_so (codes "verify") is.0 (λ b. refl)
-  unasked (Dump database) is none = named_so (codes "dump") is.0 (λ b. refl)
-  unasked (Status json false) is none = named_so (codes "status") is.0 (λ b. refl)
+  unasked (Status json false) is none = named_so _ is.0 (λ b. refl)
   unasked (Status json true) is none =
       subst (λ (n : Text). found_by n check_of ≡ None) (sym is.0) (subst (λ (b : Bool). found_by (codes "update") b ≡ None) (sym is.1) refl)
-  unasked (Keys words json) is none = named_so (codes "keys") is.0 (λ b. refl)
+  unasked task is none = named_so _ is.0 (λ b. refl)
 
   -- those of an update
   asked_so : (job : Job) → IsJob top found.0 found.1 job → (verbose skip : Bool) → job.task ≡ Update verbose skip → found_update top (Some found) ≡ Some (asked_of job verbose skip)

@@ -1,5 +1,5 @@
 -- What the steps of a side of `diff` hold.
-use Rattle.std.specs.Prelude.{◌≡◌, ◌⊎◌, Bool, List, Option, false, true, ℕ}
+use Rattle.std.specs.Prelude.{◌≡◌, ◌⊎◌, List, false, ℕ}
 use Rattle.hwdb_spec_commands.specs.Given.{is_dash}
 
 -- standard input is at most one of two sides

@@ -1,5 +1,5 @@
 -- What the steps of `status` hold.
-use Rattle.std.specs.Prelude.{◌++◌, ◌≡◌, ◌≤◌, ◌⊎◌, [], Bool, IfSome, List, Option, codes, false, if◌then◌else◌, length, map, true, ℕ}
+use Rattle.std.specs.Prelude.{◌++◌, ◌≡◌, ◌≤◌, Bool, List, Option, codes, if◌then◌else◌, length, ℕ}
 use Rattle.hwdb_spec.specs.Folders.{AreAccepted, Source}
 use Rattle.hwdb_spec.specs.Texts.{max_file}
 use Rattle.hwdb_spec.specs.Tree.{Map, map_of_files}

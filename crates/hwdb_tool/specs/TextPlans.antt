@@ -7,7 +7,8 @@ use Rattle.hwdb_spec_commands.specs.Given.{is_dash}
 use Rattle.hwdb_spec_commands.specs.OverText.{said_besides}
 use Rattle.hwdb_spec_commands.specs.declared.job.Task.TheVariants.{Explain}
 use Rattle.hwdb_spec_commands.specs.declared.job.Task.{Task}
-use Rattle.hwdb_spec_program.specs.ProgramPlan.{Around, files_plan}
+use Rattle.hwdb_spec_program.specs.ProgramPlan.{files_plan}
+use Rattle.hwdb_plan.specs.Requests.{Around}
 use Rattle.hwdb_spec_commands.specs.Runs.{Told}
 use Rattle.hwdb_spec_commands.specs.Told.{Reads}
 use Rattle.hwdb_spec_commands.specs.declared.refusals.Refusal.{Refusal}

@@ -1,5 +1,4 @@
 -- What an answer is, and what its printing leaves.
-use Rattle.std.specs.Prelude.{◌≡◌, MatchResult, Result, IsOkAnd, ℕ}
 use Rattle.hwdb_spec.specs.Outputs.{Texts}
 use Rattle.hwdb_plan.specs.Plans.{End}
 use Rattle.hwdb_plan.specs.Plans.End.{Answers}

@@ -11,7 +11,8 @@ ghost use Rattle.hwdb_sysfs.specs.Views.{device_of};
 ghost use Rattle.hwdb_spec_commands.specs.DatabaseErrors.{IsDatabaseRefusal};
 ghost use Rattle.hwdb_spec_program.specs.DeviceErrors.{IsUnmeant, IsWorded, asked_names};
 ghost use Rattle.hwdb_plan.specs.Asking.{asked};
-ghost use Rattle.hwdb_plan.specs.Device.{OfCause, device_answer, device_plan, devices_plan, meant_plan};
+ghost use Rattle.hwdb_plan.specs.Device.{device_answer, device_plan, devices_plan, meant_plan};
+ghost use Rattle.hwdb_plan.specs.Sysfs.{OfCause};
 ghost use Rattle.hwdb_plan.specs.Plans.{Follows};
 ghost use Rattle.hwdb_tool.specs.Views.{end_of};
 

@@ -12,7 +12,9 @@ ghost use Rattle.hwdb_spec_commands.specs.Undone.{told_path};
 ghost use Rattle.hwdb_spec_program.specs.ComparedDatabases.{IsOfDiff};
 ghost use Rattle.hwdb_spec.specs.Texts.{devices_of};
 ghost use Rattle.hwdb_spec_commands.specs.Told.{IsStop};
-ghost use Rattle.hwdb_plan.specs.Diff.{change_of, diff_plan, diff_stop, once, sides_compared};
+ghost use Rattle.hwdb_plan.specs.Diff.{change_of, diff_plan, diff_stop, sides_compared};
+ghost use Rattle.hwdb_plan.specs.OverText.{if_fit};
+ghost use Rattle.hwdb_spec_commands.specs.OverText.{text_if};
 ghost use Rattle.hwdb_plan.specs.Files.{OfInput};
 ghost use Rattle.hwdb_plan.specs.Plans.{Follows};
 ghost use Rattle.hwdb_tool.specs.SideSteps.{IsOneDash};
@@ -53,8 +55,8 @@ pub fn diff<D: TextsBelow, I: Source>(
 ) -> Result<Answer, Refusal>
     ensures follows { D.Store.tells → OfInput (I.left input.old) (I.failures input.old)
         (I.failures input.new) (λ told. Follows end_of (D.System.reads system.now)
-        (once (names_twice (map string_bytes given.now) old_path.now new_path.now) twice_text
-        (diff_plan told (map string_bytes given.now) old_path.now new_path.now
+        (if_fit (text_if (names_twice (map string_bytes given.now) old_path.now new_path.now)
+        twice_text) (diff_plan told (map string_bytes given.now) old_path.now new_path.now
         (change_of stat json))) result) }
     ensures unread { any_dash (old_path.now ∷ new_path.now ∷ map string_bytes given.now) ≡ false
         → input.new ≡ input.old }

@@ -7,7 +7,7 @@ ghost use Rattle.hwdb_spec_commands.specs.SysfsAnswers.{sight_by};
 ghost use Rattle.hwdb_spec_program.specs.DeviceErrors.{asked_names};
 ghost use Rattle.hwdb_plan.specs.Asking.{asked};
 ghost use Rattle.hwdb_plan.specs.Device as plan;
-ghost use Rattle.hwdb_plan.specs.Device.{OfCause};
+ghost use Rattle.hwdb_plan.specs.Sysfs.{OfCause};
 ghost use Rattle.hwdb_plan.specs.Plans.{Follows};
 ghost use Rattle.hwdb_tool.specs.Views.{end_of};
 

@@ -13,16 +13,18 @@ use Rattle.hwdb_spec_commands.specs.Comparisons.{comparison_form, devices_named,
 use Rattle.hwdb_spec_commands.specs.Databases.{IsDiffText, IsDifferent}
 use Rattle.hwdb_spec_commands.specs.DiffErrors.{IsDiffRefusal}
 use Rattle.hwdb_spec_commands.specs.Given.{any_dash, is_dash}
+use Rattle.hwdb_spec_commands.specs.OverText.{text_if}
 use Rattle.hwdb_spec_commands.specs.Told.{IsStop, Reads, stop_of}
 use Rattle.hwdb_spec_commands.specs.Told.Stop.{Says}
 use Rattle.hwdb_spec_commands.specs.declared.refusals.Refusal.{Refusal}
 use Rattle.hwdb_spec_commands.specs.declared.refusals.Refusal.TheVariants as refusal
 use Rattle.hwdb_spec_commands.specs.declared.unread.Unread.{Unread}
 use Rattle.hwdb_plan.specs.Asking.{if_read}
-use Rattle.hwdb_plan.specs.Diff.{change_of, compared, diff_stop, once, sides_compared}
+use Rattle.hwdb_plan.specs.Diff.{change_of, compared, diff_stop, sides_compared}
 use Rattle.hwdb_plan.specs.Files.{OfInput, ReachesFiles, given_files, if_input, read_files}
 use Rattle.hwdb_plan.specs.Input.{IsInputTold}
 use Rattle.hwdb_plan.specs.Lemmas.Steps.{plainly}
+use Rattle.hwdb_plan.specs.OverText.{if_fit}
 use Rattle.hwdb_plan.specs.Plans.{End, Ends, Follows, Plan, ReachesValue}
 use Rattle.hwdb_plan.specs.Plans.End.{Answers, Stops}
 use Rattle.hwdb_plan.specs.Sides.{plain_side, side}
@@ -119,13 +121,13 @@ module _ (w : Reads) where
 
   -- ---- before anything is asked
   module _ {V : Type 0} (end_of : V → End) (words : List ℕ) (p : Plan) where
-    pub twice_ends : (twice : Bool) (r : Refusal) → twice ≡ true → (r ≡ refusal.Plain error.Memory) ⊎ (stop_of r ≡ Says words) → Follows end_of w (once twice words p) (Err r)
+    pub twice_ends : (twice : Bool) (r : Refusal) → twice ≡ true → (r ≡ refusal.Plain error.Memory) ⊎ (stop_of r ≡ Says words) → Follows end_of w (if_fit (text_if twice words) p) (Err r)
     unfolding Ends
     twice_ends twice r is (inl memory) = inl memory
-    twice_ends twice r is (inr says) = inr (subst (λ (b : Bool). Ends w (once b words p) (Stops (stop_of r))) (sym is) (ap Stops says))
+    twice_ends twice r is (inr says) = inr (subst (λ (b : Bool). Ends w (if_fit (text_if b words) p) (Stops (stop_of r))) (sym is) (ap Stops says))
 
-    pub once_goes : (twice : Bool) (result : Result V Refusal) → twice ≡ false → Follows end_of w p result → Follows end_of w (once twice words p) result
-    once_goes twice result is follows = subst (λ (b : Bool). Follows end_of w (once b words p) result) (sym is) follows
+    pub once_goes : (twice : Bool) (result : Result V Refusal) → twice ≡ false → Follows end_of w p result → Follows end_of w (if_fit (text_if twice words) p) result
+    once_goes twice result is follows = subst (λ (b : Bool). Follows end_of w (if_fit (text_if b words) p) result) (sym is) follows
 
   -- want of memory is one of any plan
   pub memory_follows : {V : Type 0} (end_of : V → End) (p : Plan) (result : Result V Refusal) → IsErrAnd result (λ r. r ≡ refusal.Plain error.Memory) → Follows end_of w p result

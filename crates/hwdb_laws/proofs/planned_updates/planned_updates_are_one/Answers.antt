@@ -1,4 +1,4 @@
-use Rattle.hwdb_laws.proofs.PlannedUpdateLemmas.{planned_updates, planned_updates_done}
+use Rattle.hwdb_laws.proofs.PlannedUpdateLemmas.{planned_update_errors, planned_updates, planned_updates_done}
 use Rattle.hwdb_spec_commands.specs.Runs.{files_by}
 use Rattle.hwdb_laws.proofs.planned_updates.planned_updates_are_one.Goals as goal
 
@@ -8,4 +8,5 @@ returns g c =
     record {
       one = planned_updates c.done_is_one.ensures (F c.args.first.now) (F c.args.first_then.now) (F c.args.second.now) (F c.args.second_then.now);
       done = planned_updates_done c.done_is_one.ensures (F c.args.first.now) (F c.args.first_then.now) (F c.args.second.now) (F c.args.second_then.now);
+      error = planned_update_errors c.plans_end_alike.ensures (F c.args.first.now) (F c.args.first_then.now) (F c.args.second.now) (F c.args.second_then.now);
     }

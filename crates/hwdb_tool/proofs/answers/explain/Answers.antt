@@ -1,5 +1,4 @@
 use Rattle.std.proofs.Common.{◌∙◌, [], ◌∷◌, subst, sym, List, ℕ}
-use Rattle.hwdb_spec_commands.specs.Given.{is_dash}
 use Rattle.hwdb_spec_commands.specs.Runs.{told_by}
 use Rattle.hwdb_spec_commands.specs.declared.form.Form.TheVariants.{Explain}
 use Rattle.hwdb_plan.specs.Answers.{answer_plan, devices_plan}

@@ -1,4 +1,4 @@
-use Rattle.std.proofs.Common.{◌≡◌, ◌⊎◌, ◌∷◌, subst, string_bytes, sym, Err, List, ℕ, []}
+use Rattle.std.proofs.Common.{◌∷◌, subst, string_bytes, sym, List, ℕ, []}
 use Rattle.hwdb_spec_commands.specs.DatabaseErrors.{IsDatabaseRefusal}
 use Rattle.hwdb_spec_commands.specs.Databases.{IsTextOf}
 use Rattle.hwdb_spec_commands.specs.Streams.{texts_of}

@@ -1,4 +1,4 @@
-use Rattle.std.proofs.Common.{◌≡◌, ◌⊎◌, ap, inl, inr, option_map, refl, string_bytes, subst, ⊎_elim, Err, List, None, Ok, ℕ}
+use Rattle.std.proofs.Common.{◌≡◌, ◌⊎◌, ap, inl, inr, option_map, string_bytes, subst, ⊎_elim, Err, List, None, ℕ}
 use Rattle.hwdb_spec.specs.Outputs.{CutShortOne, TookOne}
 use Rattle.hwdb_spec_commands.specs.Asked.{IsListFrom}
 use Rattle.hwdb_spec_commands.specs.Listings.{IsListBeginning, IsListRefusal}

@@ -1,4 +1,4 @@
-use Rattle.std.proofs.Common.{◌∙◌, map, option_map, string_bytes, sym, IfErr}
+use Rattle.std.proofs.Common.{◌∙◌, map, option_map, string_bytes, sym}
 use Rattle.hwdb_plan.specs.Check.{said_of}
 use Rattle.hwdb_tool.proofs.CheckPlanLemmas.{check_none, check_some}
 use Rattle.hwdb_tool.proofs.check_command.check.Goals as goal

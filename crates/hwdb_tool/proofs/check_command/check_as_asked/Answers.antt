@@ -2,7 +2,8 @@ use Rattle.std.proofs.Common.{◌∙◌, map, string_bytes, subst, sym, Err, Glo
 use Rattle.std.specs.Prelude.{option_map}
 use Rattle.hwdb_spec_commands.specs.declared.unread.Unread.{Unread}
 use Rattle.hwdb_spec_commands.specs.declared.unread.Unread.TheVariants as unread
-use Rattle.hwdb_plan.specs.Check.{check_plan, over_baseline, said_of}
+use Rattle.hwdb_plan.specs.Check.{check_plan, said_of}
+use Rattle.hwdb_plan.specs.Baseline.{over_baseline}
 use Rattle.hwdb_plan.specs.Files.{OfInput}
 use Rattle.hwdb_plan.specs.Lemmas.Folders.{value_ends, value_ends_in}
 use Rattle.hwdb_plan.specs.Plans.{Follows}

@@ -1,4 +1,4 @@
-use Rattle.std.proofs.Common.{map, option_map, string_bytes, ap, true, Global, Vec, ◌∙◌, ℕ}
+use Rattle.std.proofs.Common.{map, option_map, string_bytes, ap, Global, Vec, ◌∙◌, ℕ}
 use Rattle.hwdb_plan.specs.Check.{said_of}
 use Rattle.hwdb_plan.specs.Files.{given_files}
 use Rattle.hwdb_plan.specs.Lemmas.Files.{files_go, files_stopped}

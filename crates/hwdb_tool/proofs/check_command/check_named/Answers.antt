@@ -1,4 +1,4 @@
-use Rattle.std.proofs.Common.{◌≡◌, false, inl, inr, map, option_map, string_bytes, subst, sym, Err, Global, List, Result, String, Vec, [], ℕ}
+use Rattle.std.proofs.Common.{◌≡◌, false, map, option_map, string_bytes, subst, sym, Err, Global, List, Result, String, Vec, [], ℕ}
 use Rattle.hwdb_spec_commands.specs.Given.{any_dash}
 use Rattle.hwdb_spec_commands.specs.declared.unread.Unread.{Unread}
 use Rattle.hwdb_spec_commands.specs.declared.unread.Unread.TheVariants as unread

@@ -1,5 +1,4 @@
-use Rattle.std.proofs.Common.{map, string_bytes, subst, sym, true, Vec, Global, List, [], ℕ}
-use Rattle.std.proofs.lemmas.Result.{IfErr-weaker}
+use Rattle.std.proofs.Common.{map, string_bytes, subst, sym, Vec, Global, List, [], ℕ}
 use Rattle.hwdb_plan.specs.Files.{ReachesFiles, read_files}
 use Rattle.hwdb_plan.specs.Lemmas.Files.{files_end, input_ends}
 use Rattle.hwdb_tool.proofs.CheckLemmas.{IsShort, given_texts_are, told_of}

@@ -2,7 +2,7 @@ use Rattle.std.proofs.Common.{Bor, Ok, Err, ap, map, option_map, subst, sym, ◌
 use Rattle.hwdb_check.specs.Known.{IsWrong}
 use Rattle.hwdb_spec_commands.specs.Baselines.{marks_in}
 use Rattle.hwdb_spec_commands.specs.declared.refusals.Refusal.{Refusal}
-use Rattle.hwdb_plan.specs.Check.{over_baseline}
+use Rattle.hwdb_plan.specs.Baseline.{over_baseline}
 use Rattle.hwdb_plan.specs.Plans.{ReachesValue}
 use Rattle.hwdb_spec_commands.specs.Told.{Reads}
 use Rattle.hwdb_tool.proofs.CheckPlanLemmas.{baseline_read, baseline_unread, baseline_wrong, none_known}

@@ -1,4 +1,4 @@
-use Rattle.std.proofs.Common.{All, Global, List, String, Vec, [], ap, drop, inr, length, map, rules, string_bytes, subst, sym, take, ◌+◌, ◌++◌, ◌∙◌, ◌∷◌, ◌≡◌, ◌≤◌, ◌⊎◌, false, Some, ℕ}
+use Rattle.std.proofs.Common.{All, Global, List, String, Vec, [], ap, drop, inr, length, map, rules, string_bytes, subst, sym, take, ◌+◌, ◌++◌, ◌∙◌, ◌∷◌, ◌≡◌, ◌≤◌, Some, ℕ}
 use Rattle.std.proofs.lemmas.List.{drop_all, map-append, take_all}
 use Rattle.std.proofs.lemmas.List.Elements.{All-more, All-nil, All-push}
 use Rattle.hwdb_spec.specs.Texts.{max_file}

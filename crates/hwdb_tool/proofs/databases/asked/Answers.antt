@@ -1,4 +1,4 @@
-use Rattle.std.proofs.Common.{◌∙◌, ap, inl, inr, option_map, refl, string_bytes, sym, true, false, List, Ok, ℕ}
+use Rattle.std.proofs.Common.{◌∙◌, ap, inr, option_map, string_bytes, List, Ok, ℕ}
 use Rattle.hwdb_plan.specs.Lemmas.Asking.{first_found, first_stops, none_found, second_found, second_stops}
 use Rattle.hwdb_tool.specs.declared.databases.FoundDatabase.{FoundDatabase}
 use Rattle.hwdb_tool.proofs.databases.asked.Goals as goal

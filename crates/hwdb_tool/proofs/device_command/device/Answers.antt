@@ -2,7 +2,8 @@ use Rattle.std.proofs.Common.{Bor, List, Option, subst, sym, ℕ}
 use Rattle.std.specs.Prelude.{option_map}
 use Rattle.hwdb_spec_commands.specs.SysfsAnswers.{sight_by}
 use Rattle.hwdb_spec_program.specs.DeviceErrors.{asked_names}
-use Rattle.hwdb_plan.specs.Device.{OfCause, device_plan, meant_plan}
+use Rattle.hwdb_plan.specs.Device.{device_plan, meant_plan}
+use Rattle.hwdb_plan.specs.Sysfs.{OfCause}
 use Rattle.hwdb_plan.specs.Plans.{Follows}
 use Rattle.hwdb_tool.specs.Views.{end_of}
 use Rattle.hwdb_tool.proofs.device_command.device.Goals as goal

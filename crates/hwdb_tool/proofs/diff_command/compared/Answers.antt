@@ -1,4 +1,4 @@
-use Rattle.std.proofs.Common.{List, inl, inr, map, subst, sym, ⊎_elim, ◌∙◌, ℕ, Err, Ok, Result, ap}
+use Rattle.std.proofs.Common.{List, map, subst, sym, ◌∙◌, ℕ, Err, Ok, Result, ap}
 use Rattle.hwdb_check.specs.Checks.{source_of}
 use Rattle.hwdb_spec_commands.specs.Comparisons.{comparison_form, devices_named, has_changed}
 use Rattle.hwdb_spec_commands.specs.Databases.{IsDiffText, IsDifferent}

@@ -1,5 +1,4 @@
-use Rattle.std.proofs.Common.{inl, inr, map, string_bytes, sym, ap, true, false, ◌∙◌, ◌≡◌, IfErr, IfOk, List, Vec, Global, ℕ, Ok, Err, Result, Bool}
-use Rattle.std.proofs.lemmas.Result.{IfErr-weaker}
+use Rattle.std.proofs.Common.{map, string_bytes, sym, ap, true, ◌∙◌, ◌≡◌, List, Vec, Global, ℕ, Ok, Err, Result, Bool}
 use Rattle.hwdb_check.specs.Checks.{source_of}
 use Rattle.hwdb_spec_commands.specs.Given.{any_dash}
 use Rattle.hwdb_tool.specs.Views.{end_of}

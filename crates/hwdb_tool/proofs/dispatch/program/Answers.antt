@@ -1,4 +1,4 @@
-use Rattle.std.proofs.Common.{List, ℕ, inl, inr, ⊎_elim, ◌∙◌, ap, arith, refl, Err, Ok, [], subst, sym, map, string_bytes}
+use Rattle.std.proofs.Common.{List, ℕ, inl, inr, ◌∙◌, ap, refl, Err, Ok, [], subst, sym, map, string_bytes}
 use Rattle.hwdb_spec_commands.specs.Runs.{AreKept, files_by, told_by}
 use Rattle.hwdb_spec_commands.specs.declared.job.WordsFault.TheVariants as words_fault
 use Rattle.hwdb_spec_commands.specs.Refusals.{Refused}

@@ -1,4 +1,4 @@
-use Rattle.std.proofs.Common.{◌∷◌, ◌≡◌, false, ap, inl, refl, string_bytes, subst, sym, ◌==◌, length, map, not, Global, IfOk, IfErr, List, Option, Result, String, ℕ}
+use Rattle.std.proofs.Common.{◌∷◌, ◌≡◌, false, ap, string_bytes, subst, sym, map, Global, List, Option, Result, String, ℕ}
 use Rattle.std.specs.Prelude.{option_map}
 use Rattle.hwdb_spec_program.specs.GivenDatabases.{names_input}
 use Rattle.hwdb_spec_commands.specs.Given.{any_dash, is_dash}
@@ -12,7 +12,8 @@ use Rattle.hwdb_tool.specs.Views.{end_of}
 use Rattle.hwdb_tool.proofs.KeyLemmas.{keys_follow}
 use Rattle.hwdb_plan.specs.Answers.{explain_plan, query_plan}
 use Rattle.hwdb_plan.specs.Ask.{ask_plan}
-use Rattle.hwdb_plan.specs.Device.{OfCause, device_asked}
+use Rattle.hwdb_plan.specs.Device.{device_asked}
+use Rattle.hwdb_plan.specs.Sysfs.{OfCause}
 use Rattle.hwdb_plan.specs.Dump.{dump_plan}
 use Rattle.hwdb_plan.specs.Ended.{ShowsEnd, outs}
 use Rattle.hwdb_plan.specs.Files.{OfInput}
@@ -25,7 +26,19 @@ use Rattle.hwdb_plan.specs.Test.{test_plan}
 use Rattle.hwdb_plan.specs.Verify.{verify_plan}
 use Rattle.hwdb_spec_commands.specs.Jobs.{IsTask}
 use Rattle.hwdb_spec_commands.specs.declared.devices.DeviceForm.{DeviceForm}
-use Rattle.hwdb_tool.proofs.ProgramPlanLemmas.{ask_planned, check_as, check_planned, device_planned, diff_planned, dump_planned, explain_planned, list_planned, near_planned, of_words, query_planned, status_planned, test_planned, update_unplanned, verify_planned}
+use Rattle.hwdb_tool.proofs.ProgramPlanLemmas.{of_words}
+use Rattle.hwdb_tool.proofs.AskWords.{ask_planned}
+use Rattle.hwdb_tool.proofs.CheckWords.{check_as, check_planned}
+use Rattle.hwdb_tool.proofs.DeviceWords.{device_planned}
+use Rattle.hwdb_tool.proofs.DiffWords.{diff_planned}
+use Rattle.hwdb_tool.proofs.DumpWords.{dump_planned}
+use Rattle.hwdb_tool.proofs.ExplainWords.{explain_planned}
+use Rattle.hwdb_tool.proofs.ListWords.{list_planned}
+use Rattle.hwdb_tool.proofs.NearWords.{near_planned}
+use Rattle.hwdb_tool.proofs.QueryWords.{query_planned}
+use Rattle.hwdb_tool.proofs.StatusWords.{status_planned, update_unplanned}
+use Rattle.hwdb_tool.proofs.TestWords.{test_planned}
+use Rattle.hwdb_tool.proofs.VerifyWords.{verify_planned}
 use Rattle.hwdb_tool.proofs.UpdatingLemmas.{task_crash, task_moment, task_updates}
 use Rattle.hwdb_tool.proofs.dispatch.run.Goals as goal
 use Rattle.hwdb_spec_commands.specs.declared.formats.Format.{Format}

@@ -1,4 +1,4 @@
-use Rattle.std.proofs.Common.{Bool, IfErr, IfOk, inl, refl, subst, sym, ◌∙◌}
+use Rattle.std.proofs.Common.{inl, sym, ◌∙◌}
 use Rattle.hwdb_spec_program.specs.Program.{OldOrDone}
 use Rattle.hwdb_spec_commands.specs.Runs.{told_by}
 use Rattle.hwdb_spec_commands.specs.SysfsAnswers.{sight_by}

@@ -1,6 +1,4 @@
-use Rattle.std.proofs.Common.{◌∙◌, ap, option_map, sym, subst, true, false, IfErr, IfOk}
-use Rattle.std.proofs.lemmas.Result.{IfErr-weaker}
-use Rattle.hwdb_spec_program.specs.GivenDatabases.{names_input}
+use Rattle.std.proofs.Common.{◌∙◌, option_map, sym}
 use Rattle.hwdb_plan.specs.Plans.{Follows}
 use Rattle.hwdb_plan.specs.Dump.{dump_plan}
 use Rattle.hwdb_tool.specs.Views.{end_of}

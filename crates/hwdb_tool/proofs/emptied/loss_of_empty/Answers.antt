@@ -1,4 +1,4 @@
-use Rattle.std.proofs.Common.{[], Bool, false, inl, inr, refl, subst, true, Global, List, Ok, Vec, ℕ}
+use Rattle.std.proofs.Common.{[], Bool, false, inl, refl, subst, true, Global, List, Ok, Vec, ℕ}
 use Rattle.hwdb_plan.specs.Lemmas.Folders.{value_stops, value_then}
 use Rattle.hwdb_plan.specs.Lemmas.Update.{handed_on}
 use Rattle.hwdb_plan.specs.Plans.{Ends}

@@ -1,5 +1,5 @@
-use Rattle.std.proofs.Common.{◌∙◌, Err, List, Ok, ap, string_bytes, subst, sym, ℕ}
-use Rattle.hwdb_spec_commands.specs.AllStrings.{all_strings_text, unread_lines}
+use Rattle.std.proofs.Common.{◌∙◌, Err, List, Ok, string_bytes, subst, sym, ℕ}
+use Rattle.hwdb_spec_commands.specs.AllStrings.{all_strings_text}
 use Rattle.hwdb_spec_commands.specs.DatabaseErrors.{IsDatabaseRefusal}
 use Rattle.hwdb_spec_commands.specs.Databases.{IsTextOf}
 use Rattle.hwdb_spec_commands.specs.SysfsAnswers.{sight_by}

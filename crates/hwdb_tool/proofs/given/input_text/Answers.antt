@@ -1,5 +1,4 @@
-use Rattle.std.proofs.Common.{◌∙◌, map, string_bytes, subst, sym, Bool, Err, Global, Ok, Vec, ℕ}
-use Rattle.std.proofs.lemmas.Result.{IfErr-weaker}
+use Rattle.std.proofs.Common.{◌∙◌, subst, sym, Bool, Err, Global, Ok, Vec, ℕ}
 use Rattle.hwdb_plan.specs.Files.{IsInputText}
 use Rattle.hwdb_spec_commands.specs.declared.unread.Unread.TheVariants as unread
 use Rattle.hwdb_tool.proofs.given.input_text.Goals as goal

@@ -1,6 +1,4 @@
-use Rattle.std.proofs.Common.{◌≡◌, ◌∙◌, sym, subst, true, false, Global, IfErr, Vec, ℕ}
-use Rattle.std.proofs.lemmas.Result.{IfErr-weaker}
-use Rattle.hwdb_spec_commands.specs.Given.{is_dash}
+use Rattle.std.proofs.Common.{◌∙◌, sym, subst, Global, Vec, ℕ}
 use Rattle.hwdb_spec_commands.specs.Told.{IsReadTo}
 use Rattle.hwdb_plan.specs.Input.{OverGiven}
 use Rattle.hwdb_tool.proofs.given.read.Goals as goal

@@ -1,4 +1,4 @@
-use Rattle.std.proofs.Common.{◌≡◌, drop, false, map, take, string_bytes}
+use Rattle.std.proofs.Common.{◌≡◌, drop, false, map, string_bytes}
 use Rattle.hwdb_spec_commands.specs.Given.{any_dash}
 use Rattle.hwdb_plan.specs.Lemmas.GivenFolders.{FilesAreNamed}
 use Rattle.hwdb_tool.proofs.given_folders.named_files.Given as goal

@@ -1,7 +1,7 @@
 use Rattle.hwdb_tool.proofs.MomentLemmas.{leaves_old}
 use Rattle.hwdb_tool.proofs.HidingPlanLemmas.{goes_on, stops_there}
 use Rattle.hwdb_spec_program.specs.HidingPlan.{hiding_plan}
-use Rattle.std.proofs.Common.{inl, inr, refl, []}
+use Rattle.std.proofs.Common.{inl, []}
 use Rattle.hwdb_spec_commands.specs.Runs.{files_by, told_by}
 use Rattle.hwdb_tool.proofs.FlushLemmas.{hands_on_twice}
 use Rattle.hwdb_tool.proofs.hiding.update_telling.Goals as goal

@@ -1,4 +1,4 @@
-use Rattle.std.proofs.Common.{ap, false, inl, inr, refl, string_bytes, subst, sym, Err, None, true}
+use Rattle.std.proofs.Common.{ap, inr, refl, string_bytes, subst, None}
 use Rattle.hwdb_spec_commands.specs.Queries.{IsOfInput}
 use Rattle.hwdb_spec_commands.specs.Refusals.{IsOfCause}
 use Rattle.hwdb_spec_commands.specs.Runs.{told_by}
@@ -6,7 +6,7 @@ use Rattle.hwdb_spec.specs.Lemmas.Calls.{failed_call}
 use Rattle.hwdb_plan.specs.Answers as plans
 use Rattle.hwdb_plan.specs.Asking.{asked}
 use Rattle.hwdb_plan.specs.Ended.{outs}
-use Rattle.hwdb_tool.proofs.AnswerLemmas.{if_bad, streamed}
+use Rattle.hwdb_tool.proofs.AnswerLemmas.{if_bad}
 use Rattle.hwdb_tool.proofs.LookupPlanLemmas.{streamed_done, streamed_stops, unread_shows}
 use Rattle.hwdb_tool.proofs.input_devices.answer_input.Goals as goal
 

@@ -1,5 +1,4 @@
-use Rattle.std.proofs.Common.{map, string_bytes, subst, sym, ◌≡◌, ◌∙◌, ℕ, IfErr, IfOk, List, []}
-use Rattle.hwdb_spec.specs.Folders.{Source}
+use Rattle.std.proofs.Common.{map, string_bytes, subst, sym, ◌∙◌, ℕ, []}
 use Rattle.hwdb_spec_commands.specs.NearAsked.{near_form, near_limit, patterns_from}
 use Rattle.hwdb_plan.specs.Asking.{asked}
 use Rattle.hwdb_plan.specs.Files.{OfInput, given_files}

@@ -1,4 +1,4 @@
-use Rattle.std.proofs.Common.{◌∙◌, ◌≤◌, ap, inr, length, string_bytes, subst, sym, Err, Ok, Some, List, ℕ}
+use Rattle.std.proofs.Common.{string_bytes, subst, sym, Err, Ok, List, ℕ}
 use Rattle.hwdb_near.specs.Refusals.{IsNearRefusal}
 use Rattle.hwdb_spec_commands.specs.Databases.{IsTextOf}
 use Rattle.hwdb_spec_commands.specs.NearAsked.{database_patterns, near_form}

@@ -1,4 +1,4 @@
-use Rattle.std.proofs.Common.{List, Ok, Err, ap, inl, inr, map, refl, string_bytes, subst, sym, true, false, ◌∙◌, ◌≡◌, ℕ}
+use Rattle.std.proofs.Common.{List, Ok, Err, ap, inl, map, string_bytes, subst, sym, true, false, ◌∙◌, ◌≡◌}
 use Rattle.hwdb_compile.specs.Views.{ForFolders}
 use Rattle.hwdb_text.specs.Views.{bytes_in, choice_in}
 use Rattle.hwdb_text.specs.declared.choice.ChosenFile.{ChosenFile}

@@ -1,9 +1,8 @@
-use Rattle.std.proofs.Common.{List, subst, ◌≡◌, ℕ, IfErr, IfOk}
+use Rattle.std.proofs.Common.{List, subst, ℕ}
 use Rattle.hwdb_system.specs.declared.overlay.Overlay.{Overlay}
 use Rattle.hwdb_spec_program.specs.Program.{root_of}
 use Rattle.hwdb_spec_commands.specs.Runs.{told_by}
 use Rattle.hwdb_spec_commands.specs.SysfsAnswers.{sight_by}
-use Rattle.hwdb_tool.proofs.OverTextLemmas.{taken}
 use Rattle.hwdb_plan.specs.Ended.{outs}
 use Rattle.hwdb_spec_program.specs.ProgramPlan.{ShowsPlan, files_plan}
 use Rattle.hwdb_system.specs.Reads.{with_read}

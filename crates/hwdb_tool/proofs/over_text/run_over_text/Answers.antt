@@ -1,4 +1,4 @@
-use Rattle.std.proofs.Common.{List, Result, Ok, Err, [], ap, inl, inr, length, refl, subst, sym, ◌∙◌, ◌≡◌, ◌≢◌, ◌≤◌, ℕ, true}
+use Rattle.std.proofs.Common.{List, Ok, Err, [], ap, length, refl, subst, sym, ◌∙◌, ◌≢◌, ◌≤◌, ℕ}
 use Rattle.hwdb_spec_program.specs.Program.{root_of}
 use Rattle.hwdb_spec_commands.specs.Runs.{HasTaken, WasCut, told_by}
 use Rattle.hwdb_spec_commands.specs.SysfsAnswers.{sight_by}

@@ -1,5 +1,4 @@
 use Rattle.std.proofs.Common.{◌∙◌, map, string_bytes, subst, sym}
-use Rattle.hwdb_spec_commands.specs.Given.{is_input}
 use Rattle.hwdb_spec_commands.specs.Runs.{told_by}
 use Rattle.hwdb_spec_commands.specs.declared.form.Form.TheVariants.{Query}
 use Rattle.hwdb_plan.specs.Answers.{answer_plan, devices_plan}

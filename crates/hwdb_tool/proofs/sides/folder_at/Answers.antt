@@ -1,4 +1,4 @@
-use Rattle.std.proofs.Common.{List, ap, inl, inr, map, string_bytes, subst, sym, true, false, ◌==◌, ◌∙◌, ◌≡◌, length, ℕ, ⊎_elim, Ok, Err}
+use Rattle.std.proofs.Common.{List, ap, map, string_bytes, subst, sym, true, false, ◌==◌, ◌∙◌, ◌≡◌, length, ℕ, Ok, Err}
 use Rattle.std.proofs.lemmas.List.{length-map}
 use Rattle.hwdb_spec_commands.specs.CheckedFiles.{folder_of}
 use Rattle.hwdb_text.specs.Views.{choice_of}

@@ -1,4 +1,4 @@
-use Rattle.std.proofs.Common.{inl, inr, map, string_bytes, subst, sym, ◌∷◌, [], List, Global, Vec, String, ℕ, Ok, Err}
+use Rattle.std.proofs.Common.{map, string_bytes, subst, List, Global, Vec, String, ℕ, Ok, Err}
 use Rattle.hwdb_plan.specs.GivenFolders.{if_few}
 use Rattle.hwdb_plan.specs.Lemmas.Folders.{value_stops, value_then}
 use Rattle.hwdb_plan.specs.Lemmas.GivenFolders.{files_reached}

@@ -1,4 +1,4 @@
-use Rattle.std.proofs.Common.{List, inl, map, string_bytes, subst, sym, true, Some, Global, Ok, Err, Option, String, Vec, ℕ}
+use Rattle.std.proofs.Common.{List, map, string_bytes, subst, sym, Some, Global, Ok, Err, Option, String, Vec, ℕ}
 use Rattle.std.specs.Prelude.{option_map}
 use Rattle.hwdb_plan.specs.Folders.{if_listed}
 use Rattle.hwdb_plan.specs.Lemmas.Folders.{folder_asked, value_stops, value_then}

@@ -1,4 +1,4 @@
-use Rattle.std.proofs.Common.{List, ap, inl, inr, map, refl, string_bytes, subst, ◌∙◌, ◌≡◌, ◌⊎◌, true, false, Ok, Err}
+use Rattle.std.proofs.Common.{ap, map, ◌∙◌, true, false, Ok, Err}
 use Rattle.hwdb_text.specs.Views.{choice_of, bytes_in, choice_in}
 use Rattle.hwdb_plan.specs.Lemmas.Sides.{memory_reached}
 use Rattle.hwdb_plan.specs.Lemmas.Update.{handed_on}

@@ -1,5 +1,4 @@
 use Rattle.std.proofs.Common.{sym, ◌∙◌, Err}
-use Rattle.std.proofs.lemmas.Result.{IfErr-weaker}
 use Rattle.hwdb_plan.specs.Lemmas.Sides.{dash_side, other_side}
 use Rattle.hwdb_spec_commands.specs.declared.unread.Unread.TheVariants.{Memory}
 use Rattle.hwdb_tool.proofs.SidePlanLemmas.{items}

@@ -1,4 +1,4 @@
-use Rattle.std.proofs.Common.{ap, inl, inr, map, refl, string_bytes, subst, sym, true, ◌∙◌, ◌∷◌, [], List, ℕ}
+use Rattle.std.proofs.Common.{ap, map, string_bytes, subst, ◌∙◌, ◌∷◌, [], List, ℕ}
 use Rattle.hwdb_plan.specs.Lemmas.Sides.{memory_reached}
 use Rattle.hwdb_plan.specs.Plans.{ReachesValue}
 use Rattle.hwdb_plan.specs.Sides.{made_at}

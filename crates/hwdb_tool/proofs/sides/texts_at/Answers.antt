@@ -1,5 +1,4 @@
-use Rattle.std.proofs.Common.{[], Some, ap, arith, inr, inl, map, refl, string_bytes, ◌∙◌, ◌≡◌, ◌∷◌, subst, List, Global, Vec, ℕ, Ok, Err}
-use Rattle.std.proofs.lemmas.List.Elements.{All-map}
+use Rattle.std.proofs.Common.{[], ap, map, string_bytes, ◌∙◌, ◌≡◌, ◌∷◌, subst, List, Global, Vec, ℕ, Ok, Err}
 use Rattle.hwdb_check.specs.Checks.{source_of}
 use Rattle.hwdb_spec_commands.specs.Sides.{as_etc}
 use Rattle.hwdb_tool.proofs.FileLemmas.{are_files}

@@ -1,4 +1,4 @@
-use Rattle.std.proofs.Common.{List, None, Option, Some, ap, false, inl, option_map, refl, ℕ}
+use Rattle.std.proofs.Common.{List, None, Option, Some, ap, option_map, ℕ}
 use Rattle.hwdb_plan.specs.Status.{InPlaces}
 use Rattle.hwdb_tool.specs.Statuses.{places}
 use Rattle.hwdb_tool.specs.declared.databases.FoundDatabase.{FoundDatabase}

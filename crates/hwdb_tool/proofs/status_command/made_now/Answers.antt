@@ -1,4 +1,4 @@
-use Rattle.std.proofs.Common.{List, length, ap, inl, inr, map, refl, string_bytes, subst, sym, ◌∙◌, Vec, Global, ℕ, true, false}
+use Rattle.std.proofs.Common.{List, length, ap, map, string_bytes, sym, ◌∙◌, Vec, Global, ℕ, true, false}
 use Rattle.hwdb_text.specs.Views.{choice_in, bytes_in, choice_of}
 use Rattle.hwdb_text.specs.declared.choice.ChosenFile.{ChosenFile}
 use Rattle.hwdb_spec_commands.specs.Status.{masked_paths, is_bare}

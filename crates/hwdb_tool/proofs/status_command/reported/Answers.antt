@@ -1,4 +1,4 @@
-use Rattle.std.proofs.Common.{Bool, IfSome, List, Option, ap, false, length, map, option_map, subst, ◌≤◌, ◌∙◌, ℕ, Ok}
+use Rattle.std.proofs.Common.{Bool, List, Option, map, option_map, subst, ◌∙◌, ℕ, Ok}
 use Rattle.hwdb_spec_commands.specs.Status.{IsAmount, IsState}
 use Rattle.hwdb_databases.specs.Views.{amount_shown, report_shown, state_shown}
 use Rattle.hwdb_tool.specs.Statuses.{now_with}

@@ -1,4 +1,4 @@
-use Rattle.std.proofs.Common.{inr, subst, sym, List, ℕ, map, Vec, Global}
+use Rattle.std.proofs.Common.{subst, sym, List, ℕ, map, Vec, Global}
 use Rattle.hwdb_spec.specs.Written.{IsDatabaseOf}
 use Rattle.hwdb_tool.specs.Statuses.{now_with}
 use Rattle.hwdb_tool.specs.Views.{end_of}

@@ -1,4 +1,4 @@
-use Rattle.std.proofs.Common.{inl, inr, map, string_bytes, ap, ◌∙◌, Global, Vec, ℕ}
+use Rattle.std.proofs.Common.{map, string_bytes, ap, ◌∙◌, Global, Vec, ℕ}
 use Rattle.std.specs.Prelude.{option_map}
 use Rattle.hwdb_check.specs.Checks.{source_of}
 use Rattle.hwdb_plan.specs.Asking.{named}

@@ -1,4 +1,4 @@
-use Rattle.std.proofs.Common.{◌∙◌, ap, inr, map, option_map, string_bytes, subst, sym, Err, Ok, Some, ◌≤◌, length, List, ℕ}
+use Rattle.std.proofs.Common.{map, option_map, string_bytes, subst, Err, Ok, List, ℕ}
 use Rattle.hwdb_check.specs.Checks.{source_of}
 use Rattle.hwdb_spec_program.specs.Tested.{IsVerdict}
 use Rattle.hwdb_spec_program.specs.TestErrors.{IsTrialRefusal}

@@ -1,4 +1,4 @@
-use Rattle.std.proofs.Common.{inl, inr, refl, subst, sym, ◌∙◌, Ok, []}
+use Rattle.std.proofs.Common.{inl, subst, sym, ◌∙◌, Ok, []}
 use Rattle.hwdb_spec_commands.specs.LeftOutTold.{AreTold}
 use Rattle.hwdb_spec_commands.specs.LeftOut.{status_less, without}
 use Rattle.hwdb_plan.specs.Putting.{PutsEnd}

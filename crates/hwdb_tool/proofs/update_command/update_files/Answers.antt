@@ -1,5 +1,4 @@
-use Rattle.std.proofs.Common.{◌≡◌, ◌∙◌, ◌++◌, ap, refl, append_assoc, subst, map, option_map, string_bytes, List, ℕ, inl, inr, ⊎_elim}
-use Rattle.std.specs.Io.KnownBytes.{Appends}
+use Rattle.std.proofs.Common.{◌≡◌, ◌∙◌, ◌++◌, ap, refl, append_assoc, map, option_map, string_bytes, ℕ, inl, inr, ⊎_elim}
 use Rattle.hwdb_compile.specs.Views.{fault_of}
 use Rattle.hwdb_spec_commands.specs.Progress.{progress_text, update_text}
 use Rattle.hwdb_spec.specs.Texts.{faults_text, status_of}

@@ -1,5 +1,4 @@
-use Rattle.std.proofs.Common.{◌≡◌, ◌∙◌, ap, inl, inr, length, map, option_map, string_bytes, refl, subst, sym, Err, List, Ok, Option, ℕ}
-use Rattle.std.specs.Io.KnownBytes.{Appends}
+use Rattle.std.proofs.Common.{◌≡◌, ◌∙◌, ap, length, map, option_map, string_bytes, refl, subst, sym, Err, List, Ok, ℕ}
 use Rattle.hwdb_spec_commands.specs.Progress.{given_where}
 use Rattle.hwdb_text.specs.Views.{choice_of}
 use Rattle.hwdb_spec.specs.declared.errors.ToolError.TheVariants.{Memory}

@@ -1,6 +1,5 @@
-use Rattle.std.proofs.Common.{subst, List, None, Some, ℕ, IfErr, IfOk, [], true}
+use Rattle.std.proofs.Common.{subst, List, ℕ}
 use Rattle.std.specs.Prelude.{codes}
-use Rattle.std.proofs.lemmas.Result.{IfErr-weaker}
 use Rattle.hwdb_plan.specs.Plans.{Follows}
 use Rattle.hwdb_plan.specs.Verify.{summary}
 use Rattle.hwdb_tool.specs.Views.{end_of}

@@ -1,6 +1,4 @@
-use Rattle.std.proofs.Common.{inr, option_map, string_bytes, subst, IfErr, IfOk, List, ℕ}
-use Rattle.std.specs.Prelude.{is_some}
-use Rattle.std.proofs.lemmas.Result.{IfErr-weaker}
+use Rattle.std.proofs.Common.{option_map, string_bytes, subst, List, ℕ}
 use Rattle.hwdb_plan.specs.Asking.{named}
 use Rattle.hwdb_plan.specs.Plans.{Follows}
 use Rattle.hwdb_plan.specs.Verify.{summary}
