@@ -156,7 +156,8 @@ check-peer: $(PROGRAM) out/libhwdb.so.0
 	tests/peer/device out/hwdb
 	tests/peer/near out/hwdb
 	tests/peer/editors out/hwdb
-	tests/peer/parse-hwdb
+	tests/peer/parse-hwdb out/hwdb
+	tests/peer/findings out/hwdb
 	tests/peer/machines out/hwdb
 	tests/peer/releases out/hwdb out/libhwdb.so.0
 	tests/power/power out/hwdb 1

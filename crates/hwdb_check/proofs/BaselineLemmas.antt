@@ -1,98 +1,22 @@
 -- Baselines: the texts of one, and which findings pass.
-use Rattle.std.proofs.Common.{◌≡◌, ◌==◌, ◌≤◌, ◌<◌, ◌+◌, ◌∙◌, ◌++◌, ◌||◌, Option, None, Some, arith, ℕ, zero, suc, Bool, true, false, List, [], ◌∷◌, Result, Ok, Err, ap, append-nil, append_assoc, cond, drop, get_or, length, map, refl, sym, take}
+use Rattle.std.proofs.Common.{◌≡◌, ◌==◌, ◌≤◌, ◌<◌, ◌+◌, ◌∙◌, ◌++◌, Option, None, Some, arith, ℕ, zero, suc, Bool, true, false, List, [], ◌∷◌, Result, Ok, Err, ap, append-nil, append_assoc, cond, drop, get_or, length, map, refl, sym, take}
 use Rattle.std.specs.Prelude.{filter, flat_map, if◌then◌else◌, option_and_then}
-use Rattle.std.specs.Borrow.{Bor}
-use Rattle.std.specs.List.{list_any, remove}
 use Rattle.std.proofs.lemmas.Bool.{eqb-true}
-use Rattle.std.proofs.lemmas.List.{drop_all, length-append, take_all}
+use Rattle.std.proofs.lemmas.List.{drop_all, length-append}
 use Rattle.std.proofs.Math.Seq.{drop-cons}
 use Rattle.std.proofs.lemmas.List.Elements.{filter-append}
 use Rattle.std.proofs.lemmas.Grind.{flat_map-append}
 use Rattle.std.specs.Str.{IsUtf8, is_utf8}
 use Rattle.std.proofs.lemmas.Str.{IsUtf8-from_is_utf8, is_utf8-from_IsUtf8}
 use Rattle.json.specs.Json.{Json, document}
-use Rattle.hwdb_spec.specs.Folders.{same}
 use Rattle.hwdb_spec.specs.Lines.{is_none}
-use Rattle.hwdb_spec_commands.specs.Baselines.{first_mark, line_mark, mark_in, mark_of, marks_from, new_findings, without_first}
+use Rattle.hwdb_spec_commands.specs.Baselines.{first_mark, line_mark, mark_in, marks_from, new_findings}
 use Rattle.hwdb_spec_commands.specs.Findings as spec
 use Rattle.hwdb_check.specs.Found.{finds, kept_of}
-use Rattle.hwdb_check.specs.Internal.{texts}
 use Rattle.hwdb_check.specs.Known.{after_marks}
 use Rattle.hwdb_check.specs.declared.findings.Found.{Found}
 
--- ---- a text that is taken from others
-
-module _ (mark : List ℕ) where
-  none_by : (a b : Bool) → (a || b) ≡ false → (a ≡ false) × (b ≡ false)
-  none_by true b h = cc
-  none_by false b h = (refl, h)
-
-  -- one more isn't this
-  pub not_this : (ks : List (Bor (List ℕ))) (at : ℕ) (d : Bor (List ℕ)) → at < length ks → same mark (get_or ks at d).now ≡ false → list_any (same mark) (texts (take at ks)) ≡ false
-      → list_any (same mark) (texts (take (at + 1) ks)) ≡ false
-  not_this [] at d h e none = absurd (omega (arith, h))
-  not_this (k ∷ ks) zero d h e none = ap (λ (b : Bool). b || false) e
-  not_this (k ∷ ks) (suc at) d h e none =
-      let p = none_by (same mark k.now) _ none in
-      let s : suc at + 1 ≡ suc (at + 1) = omega arith in
-      ap (λ (n : ℕ). list_any (same mark) (texts (take n (k ∷ ks)))) s
-      ∙ ap (λ (b : Bool). b || list_any (same mark) (texts (take (at + 1) ks))) p.0 ∙ not_this ks at d (omega (arith, h)) e p.1
-
-  -- none is
-  pub none_this : (ks : List (Bor (List ℕ))) (at : ℕ) → length ks ≤ at → list_any (same mark) (texts (take at ks)) ≡ false → list_any (same mark) (texts ks) ≡ false
-  none_this ks at h none = sym (ap (λ (l : List (Bor (List ℕ))). list_any (same mark) (texts l)) (take_all at ks h)) ∙ none
-
-  -- this one is
-  pub this_any : (ks : List (Bor (List ℕ))) (at : ℕ) (d : Bor (List ℕ)) → at < length ks → same mark (get_or ks at d).now ≡ true → list_any (same mark) (texts ks) ≡ true
-  this_any [] at d h e = absurd (omega (arith, h))
-  this_any (k ∷ ks) zero d h e = ap (λ (b : Bool). b || list_any (same mark) (texts ks)) e
-  this_any (k ∷ ks) (suc at) d h e = or_later (same mark k.now) _ (this_any ks at d (omega (arith, h)) e)
-    where
-      or_later : (a b : Bool) → b ≡ true → (a || b) ≡ true
-      or_later true b f = refl
-      or_later false b f = f
-
-  -- the first of them is taken
-  pub this_taken : (ks : List (Bor (List ℕ))) (at : ℕ) (d : Bor (List ℕ)) → at < length ks → same mark (get_or ks at d).now ≡ true → list_any (same mark) (texts (take at ks)) ≡ false
-      → texts (remove ks at) ≡ without_first mark (texts ks)
-  unfolding without_first
-  this_taken [] at d h e none = absurd (omega (arith, h))
-  this_taken (k ∷ ks) zero d h e none = sym (ap (λ (b : Bool). if b then texts ks else k.now ∷ without_first mark (texts ks)) e)
-  this_taken (k ∷ ks) (suc at) d h e none =
-      let p = none_by (same mark k.now) _ none in
-      ap (λ (l : List (List ℕ)). k.now ∷ l) (this_taken ks at d (omega (arith, h)) e p.1)
-      ∙ sym (ap (λ (b : Bool). if b then texts ks else k.now ∷ without_first mark (texts ks)) p.0)
-
-  pub taken : (before after : List (Bor (List ℕ))) (at : ℕ) (d : Bor (List ℕ)) → at < length before → same mark (get_or before at d).now ≡ true → list_any (same mark) (texts (take at before)) ≡ false
-      → after ≡ remove before at
-      → texts after ≡ (if list_any (same mark) (texts before) then without_first mark (texts before) else texts before)
-  taken before after at d h e none is =
-      ap texts is ∙ this_taken before at d h e none
-      ∙ sym (ap (λ (b : Bool). if b then without_first mark (texts before) else texts before) (this_any before at d h e))
-
-  pub kept_all : (ks : List (Bor (List ℕ))) (at : ℕ) → length ks ≤ at → list_any (same mark) (texts (take at ks)) ≡ false
-      → texts ks ≡ (if list_any (same mark) (texts ks) then without_first mark (texts ks) else texts ks)
-  kept_all ks at h none = sym (ap (λ (b : Bool). if b then without_first mark (texts ks) else texts ks) (none_this ks at h none))
-
 -- ---- findings, one after another
-
-module _ (f : spec.Finding) (fs : List spec.Finding) (known left : List (List ℕ)) (new : List spec.Finding)
-    (is : left ≡ (if list_any (same (mark_of f)) known then without_first (mark_of f) known else known)) where
-  -- it passes
-  pub passed : list_any (same (mark_of f)) known ≡ true → new ++ new_findings left fs ≡ new ++ new_findings known (f ∷ fs)
-  unfolding new_findings
-  passed e =
-      ap (λ (l : List (List ℕ)). new ++ new_findings l fs) (is ∙ ap (λ (b : Bool). if b then without_first (mark_of f) known else known) e)
-      ∙ sym (ap (λ (b : Bool). new ++ (if b then new_findings (without_first (mark_of f) known) fs else f ∷ new_findings known fs)) e)
-
-  -- it is new
-  pub added : (after : List spec.Finding) → list_any (same (mark_of f)) known ≡ false → after ≡ new ++ f ∷ [] → after ++ new_findings left fs ≡ new ++ new_findings known (f ∷ fs)
-  unfolding new_findings
-  added after e grown =
-      ap (λ (l : List (List ℕ)). after ++ new_findings l fs) (is ∙ ap (λ (b : Bool). if b then without_first (mark_of f) known else known) e)
-      ∙ ap (λ (l : List spec.Finding). l ++ new_findings known fs) grown
-      ∙ append_assoc new (f ∷ []) (new_findings known fs)
-      ∙ sym (ap (λ (b : Bool). new ++ (if b then new_findings (without_first (mark_of f) known) fs else f ∷ new_findings known fs)) e)
 
 -- one after another
 pub next_finding : (fs : List Found) (i : ℕ) (d : Found) (known left : List (List ℕ)) (new after whole : List spec.Finding) → i < length fs → d ≡ get_or fs i d

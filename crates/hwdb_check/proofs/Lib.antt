@@ -23,4 +23,6 @@ pub mod KeptLemmas
 pub mod FollowLemmas
 pub mod FixLemmas
 pub mod BaselineLemmas
+pub mod CountLemmas
+pub mod WordLemmas
 pub mod PassLemmas

@@ -7,7 +7,7 @@ use Rattle.hwdb_spec_commands.specs.LikelyForms.{likely}
 use Rattle.hwdb_spec_commands.specs.Fields.{odd_field, with_fields}
 use Rattle.hwdb_spec_commands.specs.Kinds.{warning_name}
 use Rattle.hwdb_spec.specs.Lines.{begins_with, byte, is, is_none, max_pattern, pieces}
-use Rattle.hwdb_spec_commands.specs.Mends.{begins_field, meant_rest, mend_hint, mended, moved, ordered, reason, start_of}
+use Rattle.hwdb_spec_commands.specs.Mends.{begins_field, led_rest, meant_rest, mend_hint, mended, moved, ordered, reason, start_of}
 use Rattle.hwdb_spec_commands.specs.Unmatched.{compare_hint, is_unmatched, judgement_hint, judgement_of, judgement_place, judgement_text, likelihood_hint, likelihood_of, likely_place_hint, place_hint, prefix_hint, runs, runs_hint}
 use Rattle.hwdb_spec_commands.specs.Warnings.{is_too_long, may_be_too_deep, warning_place}
 use Rattle.hwdb_spec.specs.declared.Judgement.TheVariants.{Dead, Fine, UnknownPrefix}
@@ -98,12 +98,22 @@ pub record MendRows : Type 0 where
   pub colon : meant_rest (codes ":") (codes "rvn*") ≡ Some (codes ":rvn*")
   pub other : meant_rest (codes "0123456789abcdef") (codes "rvn*") ≡ None
   pub end : meant_rest (codes ":") [] ≡ None
+  pub missing : led_rest (codes "usb:") (codes "v") (codes "04D9*") ≡ Some (codes "v04D9*")
+  pub in_its_place : led_rest (codes "usb:v04D9") (codes "p") (codes ":0024*") ≡ Some (codes "p0024*")
+  pub too_much : led_rest (codes "usb:v04d9") (codes "p") (codes ":p0024*") ≡ Some (codes "p0024*")
+  pub second_colon : led_rest (codes "dmi:*:pnX:") (codes "pr") (codes ":*") ≡ Some (codes "*")
+  pub in_a_word : led_rest (codes "dmi:*:s") (codes "k") (codes "xnX*") ≡ None
+  pub one_of_two : led_rest (codes "usb:") (codes "dv") (codes "04D9*") ≡ None
+  pub no_rest : led_rest (codes "usb:") (codes "v") [] ≡ None
   pub long : mended (all_bytes_from 257 0) 3 ≡ None
   pub is_capital : reason (codes "ab") (codes "AB") ≡ codes "hexadecimal digits are upper case here"
   pub is_small : reason (codes "AB") (codes "ab") ≡ codes "hexadecimal digits are lower case here"
   pub is_letter : reason (codes "V") (codes "v") ≡ codes "letters are lower case here"
   pub is_blank : reason (codes " x") (codes "x") ≡ codes "no blank is here"
   pub is_colon : reason (codes "r") (codes ":r") ≡ codes "a colon is here"
+  pub is_missing : reason (codes "04D9*") (codes "v04D9*") ≡ codes "only v can be here"
+  pub is_replaced : reason (codes ":0024*") (codes "p0024*") ≡ codes "only p can be here"
+  pub is_too_much : reason (codes ":p0024*") (codes "p0024*") ≡ codes "no colon is here"
   pub order : moved (codes "dmi:*:pnA*:svnB*:x") 6 11 16 ≡ codes "dmi:*:svnB*:pnA*:x"
   pub start : map (start_of (codes "ab:c:")) (0 ∷ 2 ∷ 3 ∷ 4 ∷ 5 ∷ []) ≡ 0 ∷ 0 ∷ 3 ∷ 3 ∷ 5 ∷ []
   pub fields : map begins_field (codes "pn*" ∷ codes "svnX" ∷ codes "sv" ∷ codes "*" ∷ []) ≡ true ∷ true ∷ false ∷ false ∷ []

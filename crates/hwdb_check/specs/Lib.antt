@@ -5,6 +5,7 @@ pub mod Mending
 pub mod Plain
 pub mod Found
 pub mod Known
+pub mod Counted
 pub mod Passing
 pub mod Comments
 pub mod Leaving

@@ -14,6 +14,7 @@ use crate::kinds::is_among;
 use hwdb_properties::{after, before, same};
 use hwdb_spec_commands::KINDS;
 use hwdb_text::{Content, Lines, Pieces, content_of, trim, unindented};
+use memchr::memmem::find;
 use std::alloc::{AllocError, Global};
 
 /// A text without the blanks around it.
@@ -64,8 +65,19 @@ pub fn allowed_text(text: &[u8]) -> &[u8]
     after_word(b"allow ", after_word(b"hwdb:", unindented(comment)))
 }
 
-/// Whether a comment of a file lets kinds pass.
+/// Whether a comment of a file lets kinds pass. Most files lack the word of these comments, which is looked for first.
 pub fn any_allowed(bytes: &[u8]) -> bool
+    ensures { result ≡ list_any (λ text. not (is_none (AllowedKinds.allowed_text text)))
+        (pieces (is 10) bytes.now) }
+{
+    if find(bytes, b"hwdb:").is_none() {
+        return false;
+    }
+    any_line_allowed(bytes)
+}
+
+/// The same, line by line.
+fn any_line_allowed(bytes: &[u8]) -> bool
     ensures { result ≡ list_any (λ text. not (is_none (AllowedKinds.allowed_text text)))
         (pieces (is 10) bytes.now) }
 {

@@ -1,23 +1,21 @@
 //! Findings that are let pass since a baseline has them.
-ghost use Rattle.std.specs.Prelude.{◌≡◌, ◌++◌, ◌∷◌, ◌+◌, [], List, ℕ, codes, map, option_map, Ok, IfOk, IfSome, OnOk, IfErr, if◌then◌else◌};
-ghost use Rattle.std.specs.List.{list_any};
+ghost use Rattle.std.specs.Prelude.{◌≡◌, ◌++◌, ◌∷◌, ◌+◌, ◌-◌, ◌^◌, ◌<◌, [], List, ℕ, codes, map, nat_lt, option_map, Ok, IfOk, IfSome, OnOk, IfErr};
 ghost use Rattle.json.specs.Tree.{HasNumbers, json_tokens};
 ghost use Rattle.json.specs.Value.{value_view};
-ghost use Rattle.hwdb_spec.specs.Folders;
 ghost use Rattle.hwdb_spec_commands.specs.Baselines;
 ghost use Rattle.hwdb_spec_commands.specs.Json.{object_of, text_json};
 ghost use Rattle.hwdb_show.specs.JsonTokens.{tokens_of_member};
 ghost use Rattle.hwdb_check.specs.Found.{finds, kept_of};
-ghost use Rattle.hwdb_check.specs.Internal.{texts};
+ghost use Rattle.hwdb_check.specs.Counted.{AreLeft, after, left_of, once};
 ghost use Rattle.hwdb_check.specs.Known.{IsWrong, after_marks};
 ghost use Rattle.hwdb_spec_commands.specs.Findings.{Finding};
 
 use crate::findings::{Found, push_place, put_copy};
-use hwdb_properties::same;
 use hwdb_show::{closed, put_member};
 use hwdb_text::Lines;
 use json::{Error, Scratch, Value, Writer};
 use std::alloc::{AllocError, Global};
+use std::collections::BTreeMap;
 
 /// Why a baseline isn't taken.
 #[derive(Debug, Drop)]
@@ -238,76 +236,92 @@ fn mark_of(alloc: Global, found: &Found) -> Result<Vec<u8>, AllocError>
     closed(alloc, json)
 }
 
-/// Whether a text is among some, from which the first that is this one is taken then.
-fn takes(mark: &[u8], known: &mut Vec<&[u8]>) -> bool
-    ensures taken { result ≡ list_any (Folders.same mark.now) (texts known.old.items) }
-    ensures left { texts known.new.items
-        ≡ (if list_any (Folders.same mark.now) (texts known.old.items)
-        then Baselines.without_first mark.now (texts known.old.items)
-        else texts known.old.items) }
+/// Takes one of so many, if there is any.
+fn takes_one(often: &mut usize) -> bool
+    ensures taken { result ≡ nat_lt 0 often.old }
+    ensures left { often.new ≡ often.old - 1 }
 {
-    let mut at = 0;
-    while at < known.len() {
-        if same(mark, known[at]) {
-            known.remove(at);
-            return true;
-        }
-        at += 1;
+    if *often == 0 {
+        return false;
     }
-    false
+    *often -= 1;
+    true
 }
 
-/// Whether a finding passes, and what is left then of those that are known.
-fn passes(alloc: Global, found: &Found, known: &mut Vec<&[u8]>) -> Result<bool, AllocError>
-    ensures passes { IfOk result (λ passes. passes ≡ list_any
-        (Folders.same (Baselines.mark_of (kept_of found.now))) (texts known.old.items)) }
-    ensures left { OnOk result (texts known.new.items ≡ (if list_any
-        (Folders.same (Baselines.mark_of (kept_of found.now))) (texts known.old.items)
-        then Baselines.without_first (Baselines.mark_of (kept_of found.now)) (texts known.old.items)
-        else texts known.old.items)) }
+/// Whether a text is left. It is once less then.
+fn takes(mark: &[u8], left: &mut BTreeMap<&[u8], usize>) -> bool
+    ensures taken { result ≡ nat_lt 0 (left_of left.old mark.now) }
+    ensures left { (other : List ℕ)
+        → left_of left.new other ≡ left_of left.old other - once mark.now other }
 {
-    if known.is_empty() {
-        return Ok(false);
+    match left.get_mut(mark) {
+        Some(often) => takes_one(often),
+        None => false,
     }
-    let mark = mark_of(alloc, found)?;
-    Ok(takes(&mark, known))
 }
 
-/// Texts as slices.
-fn slices_of<'k>(alloc: Global, known: &'k [Vec<u8>]) -> Result<Vec<&'k [u8]>, AllocError>
-    ensures { IfOk result (λ all. texts all.items ≡ map (λ t. t.items) known.now) }
+/// Counts a text once more.
+fn count<'k>(left: &mut BTreeMap<&'k [u8], usize>, mark: &'k [u8]) -> Result<(), AllocError>
+    requires room { left_of left.old mark.now + 1 < 2 ^ 64 }
+    ensures { OnOk result ((other : List ℕ)
+        → left_of left.new other ≡ left_of left.old other + once mark.now other) }
 {
-    let mut all = Vec::new(alloc);
+    let before = left.get(mark).copied().unwrap_or(0);
+    left.insert(mark, before + 1)?;
+    Ok(())
+}
+
+/// How often each text is among some. It takes a look among them for each.
+fn counted<'k>(alloc: Global, known: &'k [Vec<u8>]) -> Result<BTreeMap<&'k [u8], usize>, AllocError>
+    ensures { IfOk result (AreLeft (map (λ t. t.items) known.now)) }
+{
+    let mut left = BTreeMap::new(alloc);
     for mark in known {
-        all.push(mark.as_slice())?;
+        count(&mut left, mark.as_slice())?;
     }
-    Ok(all)
+    Ok(left)
 }
 
-/// Adds a copy of a finding, unless it is known. It takes the first that is it from those that are known.
+/// Whether a finding is left of those that are known. It is once less then.
+fn passes(
+    alloc: Global,
+    found: &Found,
+    left: &mut BTreeMap<&[u8], usize>,
+) -> Result<bool, AllocError>
+    ensures passes { IfOk result
+        (λ passes. passes ≡ nat_lt 0 (left_of left.old (Baselines.mark_of (kept_of found.now)))) }
+    ensures left { OnOk result ((other : List ℕ) → left_of left.new other
+        ≡ left_of left.old other - once (Baselines.mark_of (kept_of found.now)) other) }
+{
+    let mark = mark_of(alloc, found)?;
+    Ok(takes(&mark, left))
+}
+
+/// Adds a copy of a finding, unless it is left of those that are known. It is once less then.
 fn put_if_new(
     alloc: Global,
-    known: &mut Vec<&[u8]>,
+    left: &mut BTreeMap<&[u8], usize>,
     new: &mut Vec<Found>,
     found: &Found,
 ) -> Result<(), AllocError>
-    ensures { (rest : List Finding) → OnOk result
-        (finds new.new.items ++ Baselines.new_findings (texts known.new.items) rest
-        ≡ finds new.old.items
-        ++ Baselines.new_findings (texts known.old.items) (kept_of found.now ∷ rest)) }
+    ensures put { (known : List (List ℕ)) (rest : List Finding) → AreLeft known left.old
+        → OnOk result (finds new.new.items ++ Baselines.new_findings (after known found.now) rest
+        ≡ finds new.old.items ++ Baselines.new_findings known (kept_of found.now ∷ rest)) }
+    ensures left { (known : List (List ℕ)) → AreLeft known left.old
+        → OnOk result (AreLeft (after known found.now) left.new) }
 {
-    if passes(alloc, found, known)? {
+    if passes(alloc, found, left)? {
         return Ok(());
     }
     put_copy(alloc, new, found)
 }
 
-/// Copies of the findings that aren't known.
+/// Copies of the findings that aren't known. It takes a look among the known ones for each of both.
 fn unknown_of(alloc: Global, known: &[Vec<u8>], found: &[Found]) -> Result<Vec<Found>, AllocError>
     ensures { IfOk result (λ new. finds new.items
         ≡ Baselines.new_findings (map (λ t. t.items) known.now) (finds found.now)) }
 {
-    let mut left = slices_of(alloc, known)?;
+    let mut left = counted(alloc, known)?;
     let mut new = Vec::new(alloc);
     for one in found {
         put_if_new(alloc, &mut left, &mut new, one)?;

@@ -9,6 +9,7 @@ ghost use Rattle.hwdb_spec_commands.specs.declared.vocabulary.TheConstants.{MACH
 use crate::mends::{front_of, is_small, rest_of};
 use hwdb_properties::{Likeness, first_row};
 use hwdb_spec_commands::MACHINE_FIELDS;
+use hwdb_text::begins_with;
 
 /// How many small letters a text begins with.
 fn small_size(text: &[u8]) -> usize
@@ -111,10 +112,14 @@ fn field_place(pattern: &[u8]) -> Option<usize>
     None
 }
 
-/// The same of a pattern of an input device or a sensor.
+/// The same of a pattern of an input device or a sensor. Most patterns begin with another byte, which is looked at first.
 pub fn odd_field(pattern: &[u8]) -> Option<usize>
     ensures { result ≡ Fields.odd_field pattern.now }
 {
+    let may_be = begins_with(b'e', pattern) || begins_with(b's', pattern);
+    if !may_be {
+        return None;
+    }
     if pattern.starts_with(b"evdev:") || pattern.starts_with(b"sensor:") {
         return field_place(pattern);
     }

@@ -187,6 +187,103 @@ fn meant_rest(alloc: Global, next: &[u8], rest: &[u8]) -> Result<Option<Vec<u8>>
     Ok(None)
 }
 
+/// The only byte of some.
+fn only_byte(bytes: &[u8]) -> Option<u8>
+    ensures { result ≡ Mends.only_byte bytes.now }
+{
+    match bytes {
+        [own] => Some(*own),
+        _ => None,
+    }
+}
+
+/// A text after another one.
+fn joined(alloc: Global, front: &[u8], rest: &[u8]) -> Result<Vec<u8>, AllocError>
+    ensures { IfOk result (λ copy. copy.items ≡ front.now ++ rest.now) }
+{
+    let mut copy = Vec::new(alloc);
+    copy.extend_from_slice(front)?;
+    copy.extend_from_slice(rest)?;
+    Ok(copy)
+}
+
+/// A rest that begins with a byte but can begin with one alone: that one is in a colon's place, or only the colon is too much. Else it is
+/// put before the rest.
+fn led_by(alloc: Global, own: u8, first: u8, more: &[u8]) -> Result<Vec<u8>, AllocError>
+    ensures { IfOk result (λ text. text.items ≡ Mends.led_by own first more.now) }
+{
+    if first != b':' {
+        return joined(alloc, &[own, first], more);
+    }
+    if begins_with(own, more) {
+        return joined(alloc, &[], more);
+    }
+    joined(alloc, &[own], more)
+}
+
+/// The last byte of a text, as a text.
+fn last_of(text: &[u8]) -> &[u8]
+    ensures { result.now ≡ Mends.last_of text.now }
+{
+    rest_of(text, text.len().saturating_sub(1))
+}
+
+/// Whether a byte is a colon after another one.
+fn is_second_colon(front: &[u8], byte: u8) -> bool
+    ensures { result ≡ Mends.is_second_colon front.now byte }
+{
+    byte == b':' && begins_with(b':', last_of(front))
+}
+
+/// Whether a byte that is no colon comes after a small letter, as in a word.
+fn is_in_word(front: &[u8], byte: u8) -> bool
+    ensures { result ≡ Mends.is_in_word front.now byte }
+{
+    byte != b':' && last_of(front).iter().any(|last| is_small(*last))
+}
+
+/// The rest of a pattern after a front, as it was likely meant: without a second colon, or as one byte alone could be there.
+fn led_rest(
+    alloc: Global,
+    front: &[u8],
+    next: &[u8],
+    rest: &[u8],
+) -> Result<Option<Vec<u8>>, AllocError>
+    ensures { IfOk result (λ found. option_map (λ t. t.items) found
+        ≡ Mends.led_rest front.now next.now rest.now) }
+{
+    let Some((first, more)) = rest.split_first() else {
+        return Ok(None);
+    };
+    if is_second_colon(front, *first) {
+        return Ok(Some(joined(alloc, &[], more)?));
+    }
+    if is_in_word(front, *first) {
+        return Ok(None);
+    }
+    let Some(own) = only_byte(next) else {
+        return Ok(None);
+    };
+    Ok(Some(led_by(alloc, own, *first, more)?))
+}
+
+/// The rest of a pattern after a front, as it was likely meant: as one of these bytes could be there, or the only one.
+fn rest_after(
+    alloc: Global,
+    front: &[u8],
+    next: &[u8],
+    rest: &[u8],
+) -> Result<Option<Vec<u8>>, AllocError>
+    ensures { IfOk result (λ found. option_map (λ t. t.items) found
+        ≡ option_or (Mends.meant_rest next.now rest.now)
+        (Mends.led_rest front.now next.now rest.now)) }
+{
+    if let Some(text) = meant_rest(alloc, next, rest)? {
+        return Ok(Some(text));
+    }
+    led_rest(alloc, front, next, rest)
+}
+
 /// The bytes that could likely be after the front of a pattern.
 #[tactic(auto, unfolding(hwdb_spec_commands::specs::Mends::likely_after))]
 pub fn likely_after(alloc: Global, front: &[u8]) -> Result<Vec<u8>, AllocError>
@@ -211,13 +308,10 @@ fn step(alloc: Global, pattern: &[u8], place: usize) -> Result<Option<Vec<u8>>, 
 {
     let front = front_of(pattern, place);
     let next = likely_after(alloc, front)?;
-    let Some(rest) = meant_rest(alloc, &next, rest_of(pattern, place))? else {
+    let Some(rest) = rest_after(alloc, front, &next, rest_of(pattern, place))? else {
         return Ok(None);
     };
-    let mut text = Vec::new(alloc);
-    text.extend_from_slice(front)?;
-    text.extend_from_slice(&rest)?;
-    Ok(Some(text))
+    Ok(Some(joined(alloc, front, &rest)?))
 }
 
 /// What a step makes of a pattern.
@@ -463,11 +557,44 @@ fn push_case_reason(text: &mut Vec<u8>, byte: u8) -> Result<(), AllocError>
     text.extend_from_slice(case_words(byte).as_bytes())
 }
 
+/// Whether a colon that came before a rest is gone.
+fn is_colon_gone(first: u8, more: &[u8], now: &[u8]) -> bool
+    ensures { result ≡ Mends.is_colon_gone first more.now now.now }
+{
+    first == b':' && same(front_of(more, 1), front_of(now, 1))
+}
+
+/// Adds that one byte alone can be there: the first of a rest.
+fn push_only(text: &mut Vec<u8>, now: &[u8]) -> Result<(), AllocError>
+    ensures { OnOk result (text.new.items ≡ text.old.items ++ Mends.only_words now.now) }
+{
+    text.extend_from_slice(b"only ")?;
+    text.extend_from_slice(front_of(now, 1))?;
+    text.extend_from_slice(b" can be here")?;
+    Ok(())
+}
+
+/// Adds what is wrong with a byte and the rest of a pattern that was meant so: a colon is too much, or one byte alone can be there.
+fn push_lead_reason(
+    text: &mut Vec<u8>,
+    first: u8,
+    more: &[u8],
+    now: &[u8],
+) -> Result<(), AllocError>
+    ensures { OnOk result
+        (text.new.items ≡ text.old.items ++ Mends.lead_words first more.now now.now) }
+{
+    if is_colon_gone(first, more, now) {
+        return text.extend_from_slice(b"no colon is here");
+    }
+    push_only(text, now)
+}
+
 /// Adds what is wrong with the rest of a pattern that was meant so.
 fn push_reason(text: &mut Vec<u8>, was: &[u8], now: &[u8]) -> Result<(), AllocError>
     ensures { OnOk result (text.new.items ≡ text.old.items ++ Mends.reason was.now now.now) }
 {
-    let Some((first, _)) = was.split_first() else {
+    let Some((first, more)) = was.split_first() else {
         return Ok(());
     };
     if is_indent(*first) {
@@ -478,7 +605,10 @@ fn push_reason(text: &mut Vec<u8>, was: &[u8], now: &[u8]) -> Result<(), AllocEr
         text.extend_from_slice(b"a colon is here")?;
         return Ok(());
     }
-    push_case_reason(text, *first)
+    if begins_with(turned(*first, *first), now) {
+        return push_case_reason(text, *first);
+    }
+    push_lead_reason(text, *first, more, now)
 }
 
 /// Adds what is wrong with a pattern that goes wrong at a place and was meant so.

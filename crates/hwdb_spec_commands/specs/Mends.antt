@@ -1,6 +1,6 @@
 -- What a pattern was likely meant to be that no string of udev matches, or none that it likely asks. Our choice.
-use Rattle.std.specs.Prelude.{Bool, true, false, ℕ, List, [], ◌∷◌, ◌++◌, ◌+◌, ◌-◌, Option, None, Some, suc, zero, if◌then◌else◌, codes, drop, length, map, nat_lt, not, take}
-use Rattle.std.specs.List.{position_or_len, prefix_len}
+use Rattle.std.specs.Prelude.{Bool, true, false, ℕ, List, [], ◌∷◌, ◌++◌, ◌+◌, ◌-◌, ◌==◌, ◌&&◌, Option, None, Some, suc, zero, if◌then◌else◌, codes, drop, length, map, nat_lt, not, take}
+use Rattle.std.specs.List.{list_any, position_or_len, prefix_len}
 use Rattle.std.specs.Option.{option_and_then, option_map, option_or}
 use Rattle.hwdb_spec.specs.Forms.{expected, judged}
 use Rattle.hwdb_spec.specs.Folders.{same}
@@ -42,6 +42,36 @@ meant_rest next (b ∷ more) =
     (if has (turned b b) next then Some (recased b more) else
     (if has (byte ":") next then Some (byte ":" ∷ b ∷ more) else None))
 
+-- the only byte of some
+abbrev pub only_byte : List ℕ → Option ℕ
+only_byte [] = None
+only_byte (b ∷ []) = Some b
+only_byte (b ∷ c ∷ more) = None
+
+-- a rest that begins with a byte but can begin with one alone: that one is in a colon's place, or only the colon is too much; else it is
+-- put before the rest
+abbrev pub led_by : (own first : ℕ) (more : List ℕ) → List ℕ
+led_by own first more = if first == byte ":" then (if begins_with own more then more else own ∷ more) else own ∷ first ∷ more
+
+-- the last byte of a text, as a text
+abbrev pub last_of : List ℕ → List ℕ
+last_of text = drop (length text - 1) text
+
+-- whether a byte is a colon after another one
+abbrev pub is_second_colon : (front : List ℕ) → ℕ → Bool
+is_second_colon front b = if b == byte ":" then begins_with (byte ":") (last_of front) else false
+
+-- whether a byte that is no colon comes after a small letter, as in a word
+abbrev pub is_in_word : (front : List ℕ) → ℕ → Bool
+is_in_word front b = if b == byte ":" then false else list_any is_small (last_of front)
+
+-- the rest of a pattern after a front, as it was likely meant: without a second colon, or as one byte alone could be there; a letter within a
+-- word is no sure mend
+abbrev pub led_rest : (front next : List ℕ) → List ℕ → Option (List ℕ)
+led_rest front next [] = None
+led_rest front next (b ∷ more) =
+    if is_second_colon front b then Some more else (if is_in_word front b then None else option_map (λ own. led_by own b more) (only_byte next))
+
 -- the bytes that could likely be after the front of a pattern
 unfoldable pub likely_after : List ℕ → List ℕ
 likely_after front = expected likely front
@@ -53,7 +83,8 @@ likely_judgement pattern = judged likely pattern
 -- a pattern that goes wrong at a place, as it was likely meant there
 abbrev pub step : (pattern : List ℕ) (place : ℕ) → Option (List ℕ)
 step pattern place =
-    option_map (λ rest. take place pattern ++ rest) (meant_rest (likely_after (take place pattern)) (drop place pattern))
+    let front = take place pattern in
+    option_map (λ rest. front ++ rest) (option_or (meant_rest (likely_after front) (drop place pattern)) (led_rest front (likely_after front) (drop place pattern)))
 
 -- a text that was mended at a place, if this is said of it: it is mended again if it goes wrong later
 abbrev pub follow : (again : List ℕ → ℕ → Option (List ℕ)) (place : ℕ) (text : List ℕ) → Judgement → Option (List ℕ)
@@ -124,10 +155,25 @@ letter_words b = if is_hex_digit b then codes "hexadecimal digits are " else cod
 abbrev pub case_words : ℕ → List ℕ
 case_words b = if is_small b then codes "upper case here" else codes "lower case here"
 
+-- whether a colon that came before a rest is gone
+abbrev pub is_colon_gone : (first : ℕ) (more now : List ℕ) → Bool
+is_colon_gone first more now = first == byte ":" && same (take 1 more) (take 1 now)
+
+-- that one byte alone can be there: the first of a rest
+abbrev pub only_words : (now : List ℕ) → List ℕ
+only_words now = codes "only " ++ (take 1 now ++ codes " can be here")
+
+-- what is wrong with a byte and the rest of a pattern that was meant so: a colon is too much, or one byte alone can be there
+abbrev pub lead_words : (first : ℕ) (more now : List ℕ) → List ℕ
+lead_words first more now = if is_colon_gone first more now then codes "no colon is here" else only_words now
+
 -- what is wrong with the rest of a pattern that was meant so
 abbrev pub reason : (was now : List ℕ) → List ℕ
 reason [] now = []
-reason (b ∷ more) now = if is_indent b then codes "no blank is here" else (if begins_with (byte ":") now then codes "a colon is here" else letter_words b ++ case_words b)
+reason (b ∷ more) now =
+    if is_indent b then codes "no blank is here" else
+    (if begins_with (byte ":") now then codes "a colon is here" else
+    (if begins_with (turned b b) now then letter_words b ++ case_words b else lead_words b more now))
 
 -- what is wrong with a pattern that goes wrong at a place and was meant so: only an order changes what is before the place
 abbrev pub mend_reason : (pattern : List ℕ) (place : ℕ) (text : List ℕ) → List ℕ

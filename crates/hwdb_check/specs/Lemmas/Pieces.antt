@@ -18,12 +18,12 @@ module _ (b : ℕ) where
   rest_here true x xs e f = refl
   rest_here false x xs e f = cc
 
-  no_pieces : pieces (is b) [] ≡ []
+  pub no_pieces : pieces (is b) [] ≡ []
   unfolding pieces
   no_pieces = refl
 
   -- the first piece, and those after it
-  piece_step : (text : List ℕ) → 0 < length text
+  pub piece_step : (text : List ℕ) → 0 < length text
       → pieces (is b) text ≡ take (position_or_len (is b) text) text ∷ pieces (is b) (drop (position_or_len (is b) text + 1) text)
   unfolding pieces
   piece_step [] h = absurd (omega arith)

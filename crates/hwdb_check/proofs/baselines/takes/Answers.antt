@@ -1,25 +1,20 @@
-use Rattle.std.proofs.Common.{◌≡◌, ◌∙◌, arith, List, ℕ, ap, subst, sym, true}
-use Rattle.std.specs.Prelude.{if◌then◌else◌}
+use Rattle.std.proofs.Common.{◌≡◌, ◌∙◌, ◌-◌, List, ℕ, ap, rules, subst, sym}
 use Rattle.std.specs.Borrow.{Bor}
-use Rattle.std.specs.List.{list_any}
-use Rattle.hwdb_spec.specs.Folders.{same}
-use Rattle.hwdb_spec_commands.specs.Baselines.{without_first}
-use Rattle.hwdb_check.specs.Internal.{texts}
-use Rattle.hwdb_check.proofs.BaselineLemmas.{taken, this_any}
+use Rattle.std.specs.BTreeMap.{BTreeMap}
+use Rattle.std.specs.Option.{option_copied_mut, unwrap_or}
+use Rattle.hwdb_check.specs.Counted.{left_of, once}
+use Rattle.hwdb_check.proofs.CountLemmas.{none_less, once_less}
 use Rattle.hwdb_check.proofs.baselines.takes.Goals as goal
 
-pub returns-then-same-clause-taken : goal.returns-then-same-clause-taken
-returns-then-same-clause-taken c =
-    let mark = c.args.mark.now in
-    subst (λ (ks : List (Bor (List ℕ))). true ≡ list_any (same mark) (texts ks)) c.loop-at.invariant.still
-    (sym (this_any mark c.loop-at.known.items c.loop-at.at c.index.result.now (omega (arith, c.loop-at-test.true, c.len.ensures))
-    (ap (λ (k : Bor (List ℕ)). same mark k.now) (sym c.index.ensures) ∙ sym c.same.ensures ∙ c.if-same.true)))
+pub returns-in-Some-clause-left : goal.returns-in-Some-clause-left
+returns-in-Some-clause-left c =
+    let often = c.takes_one.new.often in
+    once_less c.args.left.now (c.get_mut.follows.lender often) c.args.mark.now often ((c.get_mut.follows.holds often).3 (search rules)).0
+    (c.takes_one.ensures.left ∙ sym (ap (λ n. n - 1) (sym (ap (λ o. unwrap_or o 0) c.get_mut.ensures.value) ∙ ap (λ r. unwrap_or (option_copied_mut r) 0) c.in-Some.is)))
 
-pub returns-then-same-clause-left : goal.returns-then-same-clause-left
-returns-then-same-clause-left c =
-    let mark = c.args.mark.now in
+pub returns-in-None-clause-left : goal.returns-in-None-clause-left
+returns-in-None-clause-left c =
     subst
-    (λ (ks : List (Bor (List ℕ))). texts c.remove.new.self.items ≡ (if list_any (same mark) (texts ks) then without_first mark (texts ks) else texts ks))
-    c.loop-at.invariant.still
-    (taken mark c.loop-at.known.items c.remove.new.self.items c.loop-at.at c.index.result.now (omega (arith, c.loop-at-test.true, c.len.ensures))
-    (ap (λ (k : Bor (List ℕ)). same mark k.now) (sym c.index.ensures) ∙ sym c.same.ensures ∙ c.if-same.true) c.loop-at.invariant.none c.remove.ensures.items)
+    (λ (l : BTreeMap (Bor (List ℕ)) ℕ). (other : List ℕ) → left_of l other ≡ left_of c.args.left.now other - once c.args.mark.now other)
+    (sym c.get_mut.follows.holds-at-none)
+    (none_less c.args.left.now c.args.mark.now (sym (ap (λ o. unwrap_or o 0) c.get_mut.ensures.value) ∙ ap (λ r. unwrap_or (option_copied_mut r) 0) c.in-None.is))

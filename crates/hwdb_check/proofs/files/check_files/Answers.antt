@@ -1,6 +1,5 @@
 use Rattle.std.proofs.Common.{◌∙◌, ap, map}
 use Rattle.std.specs.Prelude.{option_map}
-use Rattle.hwdb_spec_commands.specs.Checks.{named}
 use Rattle.hwdb_check.specs.Checks.{source_of}
 use Rattle.hwdb_check.proofs.FileLemmas.{named_refused}
 use Rattle.hwdb_check.proofs.files.check_files.Goals as goal

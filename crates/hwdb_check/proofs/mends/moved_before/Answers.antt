@@ -1,5 +1,5 @@
-use Rattle.std.proofs.Common.{◌∙◌, ◌-◌, Global, List, Option, Vec, ap, arith, sym, ℕ}
-use Rattle.std.specs.Option.{option_map, option_or}
+use Rattle.std.proofs.Common.{◌∙◌, ◌-◌, Global, Option, Vec, ap, arith, sym, ℕ}
+use Rattle.std.specs.Option.{option_or}
 use Rattle.hwdb_spec_commands.specs.Mends.{moved_before}
 use Rattle.hwdb_check.proofs.MendLemmas.{items_of, moved_none, moved_step}
 use Rattle.hwdb_check.proofs.mends.moved_before.Goals as goal

@@ -3,7 +3,7 @@ use Rattle.std.specs.List.{list_any}
 use Rattle.hwdb_spec.specs.Lines.{is, is_none, pieces}
 use Rattle.hwdb_text.specs.PiecesLeft.{lines_left}
 use Rattle.hwdb_spec_commands.specs.AllowedKinds.{allowed_text}
-use Rattle.hwdb_check.proofs.allowed.any_allowed.Given as goal
+use Rattle.hwdb_check.proofs.allowed.any_line_allowed.Given as goal
 
 abbrev pub invariant-loop-text : goal.invariant-loop-text
 invariant-loop-text l =
