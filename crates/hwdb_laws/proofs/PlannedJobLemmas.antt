@@ -13,7 +13,7 @@ use Rattle.hwdb_spec_commands.specs.SysfsAnswers.{nothing_there, seen}
 use Rattle.hwdb_spec_commands.specs.Told.Stop.{NoDatabase}
 use Rattle.hwdb_spec_commands.specs.declared.job.Job.{Job}
 use Rattle.hwdb_spec_commands.specs.declared.job.Task.{Task}
-use Rattle.hwdb_spec_commands.specs.declared.job.Task.TheVariants.{Ask, Check, Device, Diff, Dump, Explain, Keys, List as ListHits, Near, Query, Status, Test, Update, Verify}
+use Rattle.hwdb_spec_commands.specs.declared.job.Task.TheVariants.{Ask, Check, Device, Diff, Dump, Explain, Keys, List as ListHits, Near, Query, Scan, Status, Test, Update, Verify}
 use Rattle.hwdb_spec_commands.specs.declared.unread.Unread.TheVariants as unread
 use Rattle.hwdb_plan.specs.Plans.{Plan}
 use Rattle.hwdb_plan.specs.Plans.End.{Stops}
@@ -87,6 +87,7 @@ module _ (top : List Row) (found : Text × List Row) where
   tasks (Status json false) is = inl (command (codes "status") is.0 (λ a. refl))
   tasks (Status json true) is = inl (checked is.0 is.1)
   tasks (Keys words json) is = inl (command (codes "keys") is.0 (λ a. refl))
+  tasks (Scan device count) is = inl (command (codes "scan") is.0 (λ a. refl))
 
 asked_at : (top : List Row) (found : Option (Text × List Row)) (job : Job) → IsJobOf top found job → PlanAt top found ⊎ UpdateAt top found
 asked_at top None job is = absurd is

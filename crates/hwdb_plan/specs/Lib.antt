@@ -23,6 +23,7 @@ pub mod Readable
 pub mod Update
 pub mod Status
 pub mod Keys
+pub mod Scan
 pub mod OverText
 pub mod TextLaws
 pub mod Advice

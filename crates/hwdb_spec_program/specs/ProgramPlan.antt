@@ -42,6 +42,7 @@ use Rattle.hwdb_plan.specs.Near.{near_plan}
 use Rattle.hwdb_plan.specs.OverText.{if_fit, replaced_of, text_plan}
 use Rattle.hwdb_plan.specs.Plans.{Plan}
 use Rattle.hwdb_plan.specs.Putting.{OldOrPut}
+use Rattle.hwdb_plan.specs.Scan.{scan_plan}
 use Rattle.hwdb_plan.specs.Status.{status_plan}
 use Rattle.hwdb_plan.specs.Test.{test_plan}
 use Rattle.hwdb_plan.specs.Update.{update_plan}
@@ -66,6 +67,10 @@ value_of id rows = unwrap_or (first_of id rows) []
 -- the number that is given as limit, in decimal digits
 abbrev pub limit_of : List Row → Option ℕ
 limit_of rows = option_map (λ text. digits_value 10 (without_leading_plus text)) (one_of (codes "limit") rows)
+
+-- the number of keys that is given, in the same way
+abbrev pub count_of : List Row → Option ℕ
+count_of rows = option_map (λ text. digits_value 10 (without_leading_plus text)) (one_of (codes "count") rows)
 
 -- all texts but the last
 abbrev pub before_last : List Text → List Text
@@ -133,6 +138,7 @@ plans a root strict rows =
     ∷ (codes "diff", diff_of a rows)
     ∷ (codes "status", status_plan root json false)
     ∷ (codes "keys", keys_plan json (values_of (codes "WORD") rows))
+    ∷ (codes "scan", scan_plan root (value_of (codes "DEVICE") rows) (count_of rows))
     ∷ update_plans root rows
 
 -- that of one, by its word

@@ -17,14 +17,14 @@ use Rattle.hwdb_spec_commands.specs.NearAsked.{near_form, near_limit}
 use Rattle.hwdb_spec_commands.specs.Runs.{Told}
 use Rattle.hwdb_spec_commands.specs.Told.{Reads, stop_of}
 use Rattle.hwdb_spec_commands.specs.declared.job.Job.{Job}
-use Rattle.hwdb_spec_commands.specs.declared.job.Task.TheVariants.{Ask, Check, Device, Diff, Dump, Explain, Keys, List as ListHits, Near, Query, Status, Test, Update, Verify}
+use Rattle.hwdb_spec_commands.specs.declared.job.Task.TheVariants.{Ask, Check, Device, Diff, Dump, Explain, Keys, List as ListHits, Near, Query, Scan, Status, Test, Update, Verify}
 use Rattle.hwdb_spec_commands.specs.declared.refusals.Refusal.{Refusal}
 use Rattle.hwdb_spec_commands.specs.declared.unread.Unread.{Unread}
 use Rattle.hwdb_spec_commands.specs.declared.unread.Unread.TheVariants as unread
 use Rattle.hwdb_spec_program.specs.DeviceErrors.{asked_names}
 use Rattle.hwdb_spec_program.specs.GivenDatabases.{names_twice, twice_text}
 use Rattle.hwdb_spec_program.specs.Program.{root_of}
-use Rattle.hwdb_spec_program.specs.ProgramPlan.{Around, ShowsPlan, before_last, command_plan, files_plan, found_plan, limit_of, root_given, strict_given, value_of, values_of}
+use Rattle.hwdb_spec_program.specs.ProgramPlan.{Around, ShowsPlan, before_last, command_plan, count_of, files_plan, found_plan, limit_of, root_given, strict_given, value_of, values_of}
 use Rattle.hwdb_spec_program.specs.Words.{AskFor}
 use Rattle.hwdb_plan.specs.Answers.{explain_plan, query_plan}
 use Rattle.hwdb_plan.specs.Ask.{ask_plan, lone_answer}
@@ -44,6 +44,7 @@ use Rattle.hwdb_plan.specs.Near.{near_plan}
 use Rattle.hwdb_plan.specs.Plans.{End, Ends, Follows, Next, Plan}
 use Rattle.hwdb_plan.specs.Plans.End.{Stops}
 use Rattle.hwdb_plan.specs.Plans.Plan.{Input}
+use Rattle.hwdb_plan.specs.Scan.{scan_plan}
 use Rattle.hwdb_plan.specs.Status.{status_plan}
 use Rattle.hwdb_plan.specs.Test.{test_plan}
 use Rattle.hwdb_plan.specs.Verify.{summary, verify_plan}
@@ -80,13 +81,13 @@ some_values id rows texts are = ap (λ (o : Option (List Text)). unwrap_or o [])
 pub some_value : (id : Text) (rows : List Row) (text : Text) → Some text ≡ first_of id rows → text ≡ value_of id rows
 some_value id rows text is = ap (λ (o : Option Text). unwrap_or o []) is
 
+number_is : (text : Option Text) (number : Option ℕ) → IsLimit text number → number ≡ option_map (λ text. digits_value 10 (without_leading_plus text)) text
+number_is None number none = none
+number_is (Some text) None nope = absurd nope
+number_is (Some text) (Some n) parsed = ap Some parsed.1
+
 limit_is : (rows : List Row) (limit : Option ℕ) → IsLimit (one_of (codes "limit") rows) limit → limit ≡ limit_of rows
-limit_is rows limit is = by (one_of (codes "limit") rows) limit is
-  where
-    by : (o : Option Text) (l : Option ℕ) → IsLimit o l → l ≡ option_map (λ text. digits_value 10 (without_leading_plus text)) o
-    by None l none = none
-    by (Some text) None nope = absurd nope
-    by (Some text) (Some n) parsed = ap Some parsed.1
+limit_is rows limit is = number_is (one_of (codes "limit") rows) limit is
 
 same_default : (o : Option (List ℕ)) → option_map_or (λ (x : List ℕ). x) o [] ≡ unwrap_or o []
 same_default None = refl
@@ -248,6 +249,19 @@ module _ (w : Reads) (sight : Sight) (input_before input_now : Told) (before now
             (subst (λ (d : Text). Shows (list_plan root json d (first_of (codes "after") rows) (limit_of rows))) (some_value (codes "MODALIAS") rows _ is.4)
             (subst (λ (a : Option Text). Shows (list_plan root json (string_bytes device) a (limit_of rows))) is.2
             (subst (λ (l : Option ℕ). Shows (list_plan root json (string_bytes device) (option_map string_bytes after) l)) (limit_is rows limit is.3) shows)))),
+      ),
+    )
+
+    pub scan_planned : (device : String Global) (count : Option ℕ) → IsTask word rows (Scan device count) → Shows (scan_plan root (string_bytes device) count) → At
+    scan_planned device count is shows = (
+      Err unread.Memory,
+      tt,
+      (
+        [],
+        refl,
+        at_word (around (Err unread.Memory) []) (codes "scan") is.0
+            (subst (λ (d : Text). Shows (scan_plan root d (count_of rows))) (some_value (codes "DEVICE") rows _ is.1)
+            (subst (λ (n : Option ℕ). Shows (scan_plan root (string_bytes device) n)) (number_is (one_of (codes "count") rows) count is.2) shows)),
       ),
     )
 

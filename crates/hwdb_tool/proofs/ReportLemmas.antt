@@ -10,7 +10,7 @@ use Rattle.hwdb_spec_commands.specs.Jobs.{IsJobOf, IsTask}
 use Rattle.hwdb_spec_commands.specs.Runs.{Told}
 use Rattle.hwdb_spec_commands.specs.declared.job.Job.{Job}
 use Rattle.hwdb_spec_commands.specs.declared.job.Task.{Task}
-use Rattle.hwdb_spec_commands.specs.declared.job.Task.TheVariants.{Ask, Check, Device, Diff, Dump, Explain, Keys, List as ListHits, Near, Query, Status, Test, Update, Verify}
+use Rattle.hwdb_spec_commands.specs.declared.job.Task.TheVariants.{Ask, Check, Device, Diff, Dump, Explain, Keys, List as ListHits, Near, Query, Scan, Status, Test, Update, Verify}
 use Rattle.hwdb_spec_commands.specs.declared.job.WordsFault.TheVariants.{Help, Usage}
 use Rattle.hwdb_spec_commands.specs.WordFaults.{IsToldOfOne}
 use Rattle.hwdb_spec_commands.specs.declared.refusals.Refusal.{Refusal}
@@ -38,6 +38,7 @@ by_task word rows (Diff old new devices json stat) is = ap of_word (sym is.0)
 by_task word rows (Verify database) is = ap of_word (sym is.0)
 by_task word rows (Dump database) is = ap of_word (sym is.0)
 by_task word rows (Keys words json) is = ap of_word (sym is.0)
+by_task word rows (Scan device count) is = ap of_word (sym is.0)
 by_task word rows (Status json false) is = ap of_word (sym is.0)
 by_task word rows (Status json true) is = ap of_word (sym is.0)
 

@@ -32,7 +32,7 @@ use Rattle.hwdb_spec_commands.specs.Told.Stop.{Says}
 use Rattle.hwdb_spec_commands.specs.declared.form.Form.TheVariants as form
 use Rattle.hwdb_spec_commands.specs.declared.job.Job.{Job}
 use Rattle.hwdb_spec_commands.specs.declared.job.Task.{Task}
-use Rattle.hwdb_spec_commands.specs.declared.job.Task.TheVariants.{Ask, Check, Device, Diff, Dump, Explain, Keys, List as ListHits, Near, Query, Status, Test, Update, Verify}
+use Rattle.hwdb_spec_commands.specs.declared.job.Task.TheVariants.{Ask, Check, Device, Diff, Dump, Explain, Keys, List as ListHits, Near, Query, Scan, Status, Test, Update, Verify}
 use Rattle.hwdb_spec_commands.specs.declared.refusals.Refusal.{Refusal}
 use Rattle.hwdb_spec_commands.specs.declared.refusals.Refusal.TheVariants as refusal
 use Rattle.hwdb_spec_commands.specs.declared.unread.Unread.TheVariants as unread
@@ -130,6 +130,7 @@ none_found (Diff old new devices json stat) word rows is not = subst (λ (n : Te
 none_found (Status json false) word rows is not = subst (λ (n : Text). Found n rows ≡ None) (sym is.0) refl
 none_found (Status json true) word rows is not = subst (λ (n : Text). Found n rows ≡ None) (sym is.0) refl
 none_found (Keys words json) word rows is not = subst (λ (n : Text). Found n rows ≡ None) (sym is.0) refl
+none_found (Scan device count) word rows is not = subst (λ (n : Text). Found n rows ≡ None) (sym is.0) refl
 none_found task word rows is not = absurd (true≢false not)
 
 -- ---- what it makes of a plan

@@ -12,7 +12,7 @@ use Rattle.hwdb_spec_commands.specs.Runs.{AreKept, Files, Told}
 use Rattle.hwdb_spec_commands.specs.Told.{Reads}
 use Rattle.hwdb_spec_commands.specs.declared.job.Job.{Job}
 use Rattle.hwdb_spec_commands.specs.declared.job.Task.{Task}
-use Rattle.hwdb_spec_commands.specs.declared.job.Task.TheVariants.{Ask, Check, Device, Diff, Dump, Explain, Keys, List as ListHits, Near, Query, Status, Test, Update, Verify}
+use Rattle.hwdb_spec_commands.specs.declared.job.Task.TheVariants.{Ask, Check, Device, Diff, Dump, Explain, Keys, List as ListHits, Near, Query, Scan, Status, Test, Update, Verify}
 use Rattle.hwdb_spec_commands.specs.declared.refusals.Refusal.{Refusal}
 use Rattle.hwdb_plan.specs.Ended.{Outs}
 use Rattle.hwdb_plan.specs.Putting.{OldOrPut}
@@ -75,6 +75,7 @@ by_task (Verify database) = inr (λ (v, s, is). cc)
 by_task (Dump database) = inr (λ (v, s, is). cc)
 by_task (Status json quiet) = inr (λ (v, s, is). cc)
 by_task (Keys words json) = inr (λ (v, s, is). cc)
+by_task (Scan device count) = inr (λ (v, s, is). cc)
 
 -- ---- by words
 -- what an update of this job is asked for
@@ -109,6 +110,7 @@ module _ (top : List Row) (found : Text × List Row) where
   unasked (Status json true) is none =
       subst (λ (n : Text). found_by n check_of ≡ None) (sym is.0) (subst (λ (b : Bool). found_by (codes "update") b ≡ None) (sym is.1) refl)
   unasked (Keys words json) is none = named_so (codes "keys") is.0 (λ b. refl)
+  unasked (Scan device count) is none = named_so (codes "scan") is.0 (λ b. refl)
 
   -- those of an update
   asked_so : (job : Job) → IsJob top found.0 found.1 job → (verbose skip : Bool) → job.task ≡ Update verbose skip → found_update top (Some found) ≡ Some (asked_of job verbose skip)
