@@ -56,6 +56,7 @@ _hwdb() {
         [dump]='DATABASE'
         [status]=''
         [keys]='WORD..'
+        [scan]='DEVICE'
         [help]='COMMAND'
     )
     local -A options=(
@@ -74,6 +75,7 @@ _hwdb() {
         [dump]='-r --root --color --text -h --help'
         [status]='-r --root --color --json -h --help'
         [keys]='-r --root --color --json -h --help'
+        [scan]='-r --root --color --count -h --help'
         [help]=''
     )
     local -A values=(
@@ -88,6 +90,7 @@ _hwdb() {
         [--format]='FORMAT'
         [--database]='DATABASE'
         [--devices]='FILE'
+        [--count]='N'
     )
     local -A kinds_of=(
         [FORMAT]='text json github sarif'

@@ -72,12 +72,12 @@ end
 complete -c hwdb -f
 # From here on completions/from-help has made it of the program's help.
 function __hwdb_takes_value
-    contains -- $argv[1] -r --root --color --after --limit --allow --baseline --name --format --database --devices
+    contains -- $argv[1] -r --root --color --after --limit --allow --baseline --name --format --database --devices --count
 end
 
 # The words that `help` takes.
 function __hwdb_command
-    printf '%s\n' update query explain ask list near device check test diff verify dump status keys help
+    printf '%s\n' update query explain ask list near device check test diff verify dump status keys scan help
 end
 
 complete -c hwdb -n __hwdb_none -a update -d 'Compiles the text files of /etc/udev/hwdb.d and /usr/lib/udev/hwdb.d into /etc/udev/hwdb.bin'
@@ -94,6 +94,7 @@ complete -c hwdb -n __hwdb_none -a verify -d 'Says whether a file is a database 
 complete -c hwdb -n __hwdb_none -a dump -d 'Prints a database as a text file'
 complete -c hwdb -n __hwdb_none -a status -d 'Says which database is asked, and whether it is what the text files make'
 complete -c hwdb -n __hwdb_none -a keys -d 'Prints the keys that a value of KEYBOARD_KEY_.. may be, each with its code'
+complete -c hwdb -n __hwdb_none -a scan -d 'Prints the scan code of each key that is pressed on an input device, the key it makes, and the line to write for it'
 complete -c hwdb -n __hwdb_none -a help -d 'Print this message or the help of the given subcommand(s)'
 
 complete -c hwdb -n __hwdb_none -l usr -d 'With update: write /usr/lib/udev/hwdb.bin'
@@ -116,6 +117,7 @@ complete -c hwdb -n '__hwdb_at verify' -l color -x -a 'auto always never' -d 'Co
 complete -c hwdb -n '__hwdb_at dump' -l color -x -a 'auto always never' -d 'Color the output: auto, always or never; auto does so on a terminal'
 complete -c hwdb -n '__hwdb_at status' -l color -x -a 'auto always never' -d 'Color the output: auto, always or never; auto does so on a terminal'
 complete -c hwdb -n '__hwdb_at keys' -l color -x -a 'auto always never' -d 'Color the output: auto, always or never; auto does so on a terminal'
+complete -c hwdb -n '__hwdb_at scan' -l color -x -a 'auto always never' -d 'Color the output: auto, always or never; auto does so on a terminal'
 complete -c hwdb -n 'not __hwdb_at help' -s h -l help -d 'Print help'
 complete -c hwdb -n __hwdb_none -s V -l version -d 'Print version'
 complete -c hwdb -n '__hwdb_at update' -l verbose -d 'Say which files are taken, and how many assignments they have'
@@ -153,6 +155,7 @@ complete -c hwdb -n '__hwdb_at check' -l format -x -a 'text json github sarif' -
 complete -c hwdb -n '__hwdb_at test' -l database -x -a '(__hwdb_database)' -d 'Ask this database, in place of that of /etc/udev or /usr/lib/udev'
 complete -c hwdb -n '__hwdb_at diff' -l devices -x -a '(__hwdb_file)' -d 'Compare what the devices of a file get, a line each, or of - for standard input; may come more than once'
 complete -c hwdb -n '__hwdb_at diff' -l stat -d 'Print how many assignments came, went and changed, by file and by key'
+complete -c hwdb -n '__hwdb_at scan' -l count -x -d 'End after N keys'
 
 complete -c hwdb -n '__hwdb_at query' -a '(__hwdb_modalias)' -d MODALIAS
 complete -c hwdb -n '__hwdb_at explain 1' -a '(__hwdb_modalias)' -d MODALIAS
@@ -169,5 +172,6 @@ complete -c hwdb -n '__hwdb_at diff 2' -k -a '(__hwdb_side)' -d NEW
 complete -c hwdb -n '__hwdb_at verify 1' -k -a '(__hwdb_database)' -d DATABASE
 complete -c hwdb -n '__hwdb_at dump 1' -k -a '(__hwdb_database)' -d DATABASE
 complete -c hwdb -n '__hwdb_at keys' -a '(__hwdb_key)' -d WORD
+complete -c hwdb -n '__hwdb_at scan 1' -a '(__hwdb_device)' -d DEVICE
 complete -c hwdb -n '__hwdb_at help 1' -a '(__hwdb_command)' -d COMMAND
 # Until here.

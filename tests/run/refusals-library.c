@@ -1,7 +1,8 @@
 /* Preloaded by tests/run/refusals: lets file calls of the program fail.
  *
  * FAILS=CALL:END:ERRNO[,..]   each call of this name whose path ends so fails with this error, a number. A call without a
- *                             path, as write, has an empty END, and fails where its descriptor is above 2. */
+ *                             path, as write, has an empty END, and fails where its descriptor is above 2. Reading fails at
+ *                             the end of a file alone. */
 #define _GNU_SOURCE
 #include <dlfcn.h>
 #include <errno.h>
@@ -37,6 +38,13 @@ int statx(int folder, const char *restrict path, int flags, unsigned mask, struc
 ssize_t write(int file, const void *bytes, size_t count) {
     if (file > 2 && fails("write", "")) return -1;
     return ((ssize_t (*)(int, const void *, size_t))dlsym(RTLD_NEXT, "write"))(file, bytes, count);
+}
+
+/* In place of a file's end. */
+ssize_t read(int file, void *bytes, size_t count) {
+    ssize_t got = ((ssize_t (*)(int, void *, size_t))dlsym(RTLD_NEXT, "read"))(file, bytes, count);
+    if (got == 0 && file > 2 && fails("read", "")) return -1;
+    return got;
 }
 
 int fsync(int file) {

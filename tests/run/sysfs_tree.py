@@ -5,6 +5,8 @@ Then FOLDER/thinkpad, FOLDER/convertible, FOLDER/desk and FOLDER/tablet are root
 import os
 import sys
 
+from events import CAPS, KEY_CAPSLOCK, pressed
+
 # The classes of input events that a modalias lists, in its order, and the file of each in `capabilities` (Documentation/input of Linux).
 EVENTS = (("k", "key"), ("r", "rel"), ("a", "abs"), ("m", "msc"), ("l", "led"), ("s", "snd"), ("f", "ff"), ("w", "sw"))
 # The number of each type of events; `repeat` is a keyboard that repeats its keys.
@@ -362,7 +364,12 @@ MACHINES = (("thinkpad", thinkpad), ("convertible", convertible), ("desk", desk)
 
 
 def lay_out(folder):
-    """Lays out all machines. Returns for each its name, and the paths of its devices, sorted."""
+    """Lays out all machines. Returns for each its name, and the paths of its devices, sorted. The node of the desk's keyboard is a file with
+    events of Caps Lock."""
+    node = os.path.join(folder, "desk/dev/input/event20")
+    os.makedirs(os.path.dirname(node))
+    with open(node, "wb") as file:
+        file.write(pressed(KEY_CAPSLOCK, CAPS))
     return [(name, sorted(make(os.path.join(folder, name)).asked)) for name, make in MACHINES]
 
 

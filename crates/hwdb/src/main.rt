@@ -4,11 +4,13 @@
 mod allowed;
 mod bypass;
 mod colours;
+mod input;
 
 use allowed::status_of_names;
 use bypass::status_of_bypass;
 use colours::coloured_kind;
 use hwdb_tool::{Coloured, FromRead, SystemStore, TextKind, ToWrite, program, write_text};
+use input::input_of;
 use std::env;
 use std::fs::{File, OpenOptions};
 use std::io::{self, ErrorKind, IsTerminal};
@@ -47,7 +49,6 @@ fn held_streams(rt: &HostRuntime) -> io::Result<[Option<File>; 3]> {
 
 fn main(rt: HostRuntime) -> ExitCode {
     let held = held_streams(&rt);
-    let mut input = FromRead::new(rt.stdin());
     let alloc = rt.alloc();
     let is_seen = rt.stderr().is_terminal();
     let mut err = Coloured::new(alloc, ToWrite::new(rt.stderr()), TextKind::Plain, is_seen);
@@ -68,6 +69,11 @@ fn main(rt: HostRuntime) -> ExitCode {
             if let Some(status) = status_of_bypass(&rt, &words, &mut err) {
                 return ExitCode::from(status);
             }
+            let Ok(input) = input_of(&rt, &words) else {
+                let _ = write_text(&mut err, MEMORY.as_bytes());
+                return ExitCode::from(1);
+            };
+            let mut input = FromRead::new(input);
             let is_seen = rt.stdout().is_terminal();
             let mut out = Coloured::new(alloc, ToWrite::new(rt.stdout()), kind, is_seen);
             let status = program(alloc, &words, &mut system, &mut input, &mut out, &mut err);

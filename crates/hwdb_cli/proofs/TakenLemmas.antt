@@ -13,7 +13,7 @@ use Rattle.clap.specs.Simple.{App, Shape, argument_words, built, built_leaf, ent
 use Rattle.clap.proofs.WalkLemmas.{both}
 use Rattle.clap.proofs.ValueTestLemmas.{accepts-Accepts}
 use Rattle.clap.specs.declared.builder.value_parser.ValueParser.TheVariants as vp
-use Rattle.hwdb_spec_commands.specs.CommandLine.{ask_app, check_app, device_app, device_rule, devices_rule, diff_app, dump_app, explain_app, file_rule, hwdb_app, keys_app, limit_rule, list_app, near_app, new_database_rule, old_database_rule, query_app, status_app, test_app, test_files_rule, update_app, verify_app}
+use Rattle.hwdb_spec_commands.specs.CommandLine.{ask_app, check_app, count_rule, device_app, device_rule, devices_rule, diff_app, dump_app, explain_app, file_rule, hwdb_app, keys_app, limit_rule, list_app, near_app, new_database_rule, node_rule, old_database_rule, query_app, scan_app, status_app, test_app, test_files_rule, update_app, verify_app}
 use Rattle.hwdb_spec_commands.specs.Jobs.{HasValue, IsCommand, IsNumber}
 use Rattle.hwdb_cli.proofs.WalkLemmas.{IsNotHelp, none_of_both, walk_not_help}
 use Rattle.hwdb_cli.proofs.UseLemmas.{Each, RowFits, StandsAlone, found_each, keeps_values, required_value, rows_fit, same_id, text_read}
@@ -95,6 +95,12 @@ diff_new = stands (built_command diff_app).rules (argument_at 2 new_database_rul
 test_words : StandsAlone (built_command test_app).rules (argument_at 1 test_files_rule)
 test_words = stands (built_command test_app).rules (argument_at 1 test_files_rule) refl refl refl refl (λ e. cc)
 
+scan_device : StandsAlone (built_command scan_app).rules (argument_at 1 node_rule)
+scan_device = stands (built_command scan_app).rules (argument_at 1 node_rule) refl refl refl refl (λ e. cc)
+
+scan_count : StandsAlone (built_command scan_app).rules (argument_at 1 count_rule)
+scan_count = stands (built_command scan_app).rules (argument_at 1 count_rule) refl refl refl refl (λ e. cc)
+
 -- a limit that was read is a number
 limit_number : (rows : List Row) → Each (RowFits (argument_at 1 limit_rule)) rows → IfSome (one_of (codes "limit") rows) IsNumber
 limit_number rows each = go (one_of (codes "limit") rows) refl
@@ -103,6 +109,17 @@ limit_number rows each = go (one_of (codes "limit") rows) refl
     go None at = tt
     go (Some t) at =
         let read = text_read (argument_at 1 limit_rule) rows t each at in
+        let fits = accepts-Accepts false (vp.Unsigned 0 18446744073709551615) read.0 read.1 in
+        subst IsNumber (sym read.2) (fits.0, fits.1)
+
+-- and so is a count
+count_number : (rows : List Row) → Each (RowFits (argument_at 1 count_rule)) rows → IfSome (one_of (codes "count") rows) IsNumber
+count_number rows each = go (one_of (codes "count") rows) refl
+  where
+    go : (o : Option Text) → one_of (codes "count") rows ≡ o → IfSome o IsNumber
+    go None at = tt
+    go (Some t) at =
+        let read = text_read (argument_at 1 count_rule) rows t each at in
         let fits = accepts-Accepts false (vp.Unsigned 0 18446744073709551615) read.0 read.1 in
         subst IsNumber (sym read.2) (fits.0, fits.1)
 
@@ -175,7 +192,14 @@ status_gives : Gives (built_command status_app)
 status_gives words e = inr (inr (inr (inr (inr (inr (inr (inr (inr (inr (inr (inr (inl refl))))))))))))
 
 keys_gives : Gives (built_command keys_app)
-keys_gives words e = inr (inr (inr (inr (inr (inr (inr (inr (inr (inr (inr (inr (inr refl))))))))))))
+keys_gives words e = inr (inr (inr (inr (inr (inr (inr (inr (inr (inr (inr (inr (inr (inl refl)))))))))))))
+
+scan_gives : Gives (built_command scan_app)
+scan_gives words e = inr (inr (inr (inr (inr (inr (inr (inr (inr (inr (inr (inr (inr (inr (
+  refl,
+  value_of (built_command scan_app) words (argument_at 1 node_rule) scan_device refl refl refl e,
+  count_number _ (rows_fit (built_command scan_app) words (argument_at 1 count_rule) scan_count e),
+))))))))))))))
 
 -- ---- the command line
 
@@ -232,5 +256,5 @@ command_taken words e =
     let has = subcommand_there a.top (finished a.top.rules end.held) (is_some (entered a end.stopped)) refl checks.1 in
     let other = walk_not_help a.top refl (names_of a) (walk_from nothing_held) left tt steps.0 in
     command_entered a end.stopped
-    (inl update_gives, (inl query_gives, (inl explain_gives, (inl ask_gives, (inl list_gives, (inl near_gives, (inl device_gives, (inl check_gives, (inl test_gives, (inl diff_gives, (inl verify_gives, (inl dump_gives, (inl status_gives, (inl keys_gives, (inr refl, tt)))))))))))))))
+    (inl update_gives, (inl query_gives, (inl explain_gives, (inl ask_gives, (inl list_gives, (inl near_gives, (inl device_gives, (inl check_gives, (inl test_gives, (inl diff_gives, (inl verify_gives, (inl dump_gives, (inl status_gives, (inl keys_gives, (inl scan_gives, (inr refl, tt))))))))))))))))
     other below.0 has

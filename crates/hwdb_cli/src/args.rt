@@ -17,7 +17,8 @@ use crate::help::{fitting_help, short_help};
 use crate::matched::{copied, has_flag, text_of};
 use crate::tips::{with_command_tip, with_fitting_tip};
 use crate::{
-    ask, check, device, diff, dump, explain, keys, list, near, query, status, test, update, verify,
+    ask, check, device, diff, dump, explain, keys, list, near, query, scan, status, test, update,
+    verify,
 };
 use clap::error::ErrorKind;
 use clap::{ArgMatches, Error};
@@ -42,6 +43,7 @@ fn task_of(alloc: Global, name: &str, inner: &ArgMatches<'_>) -> Result<Task, Al
         "verify" => verify::task(alloc, inner),
         "dump" => dump::task(alloc, inner),
         "keys" => keys::task(alloc, inner),
+        "scan" => scan::task(alloc, inner),
         "status" => Ok(status::task(inner)),
         _ => Ok(update::task(inner)),
     }

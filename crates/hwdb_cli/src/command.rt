@@ -7,7 +7,8 @@ ghost use Rattle.hwdb_cli.specs.Drafts.{IsDraft};
 
 use crate::drafts::{Draft, shared, with_command};
 use crate::{
-    ask, check, device, diff, dump, explain, keys, list, near, query, status, test, update, verify,
+    ask, check, device, diff, dump, explain, keys, list, near, query, scan, status, test, update,
+    verify,
 };
 use clap::Command;
 use std::alloc::{AllocError, Global};
@@ -44,5 +45,6 @@ pub fn hwdb_command<'a>(alloc: Global) -> Result<Command<'a>, AllocError>
     let verify = with_command(diff, verify::command(alloc));
     let dump = with_command(verify, dump::command(alloc));
     let status = with_command(dump, status::command(alloc));
-    with_command(status, keys::command(alloc))
+    let keys = with_command(status, keys::command(alloc));
+    with_command(keys, scan::command(alloc))
 }

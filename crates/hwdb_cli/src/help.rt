@@ -1,7 +1,8 @@
 //! Help: what `clap` says of a command, without options that do nothing for it; and a short one for a line without a
 //! command.
 use crate::{
-    ask, check, device, diff, dump, explain, keys, list, near, query, status, test, update, verify,
+    ask, check, device, diff, dump, explain, keys, list, near, query, scan, status, test, update,
+    verify,
 };
 use std::alloc::{AllocError, Global};
 
@@ -18,7 +19,7 @@ For more information, try 'hwdb help', or 'hwdb help COMMAND'.
 ";
 
 /// Each command, and what it does.
-const COMMANDS: [(&str, &str); 14] = [
+const COMMANDS: [(&str, &str); 15] = [
     ("update", update::SHORT),
     ("query", query::SHORT),
     ("explain", explain::SHORT),
@@ -33,6 +34,7 @@ const COMMANDS: [(&str, &str); 14] = [
     ("verify", verify::SHORT),
     ("dump", dump::SHORT),
     ("keys", keys::SHORT),
+    ("scan", scan::SHORT),
 ];
 
 /// How the usage begins, before the name that the program was called by.

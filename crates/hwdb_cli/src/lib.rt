@@ -22,6 +22,7 @@ mod list;
 mod matched;
 mod near;
 mod query;
+mod scan;
 mod status;
 mod test;
 mod tips;

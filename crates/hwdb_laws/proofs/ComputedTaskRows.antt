@@ -1,5 +1,5 @@
 -- The rows, computed.
-use Rattle.hwdb_laws.specs.TaskRows.{BesidesRows, DashRows, DiffRows, JobRows, NamedRows, OtherRows, OverRows, PlainRows, ReadRows, ReplacedRows, StatusRows, TakenRows, ToldRows}
+use Rattle.hwdb_laws.specs.TaskRows.{BesidesRows, DashRows, DiffRows, JobRows, NamedRows, OtherRows, OverRows, PlainRows, ReadRows, ReplacedRows, ScanRows, StatusRows, TakenRows, ToldRows}
 use Rattle.hex.specs.Hex.{encode_with}
 use Rattle.hwdb_plan.specs.Sides.{taken_from}
 use Rattle.hwdb_spec.specs.Answers.{effective_of, last_of_each, last_value}
@@ -26,7 +26,7 @@ use Rattle.hwdb_laws.specs.TaskRows.{of_etc, of_usr}
 use Rattle.hwdb_spec_commands.specs.Given.{any_dash, is_dash, is_input}
 use Rattle.hwdb_spec_commands.specs.OverText.{said_besides}
 use Rattle.hwdb_spec_commands.specs.Replacements.{replacements_form}
-use Rattle.std.specs.Prelude.{◌==◌, ◌∷◌, [], false, true}
+use Rattle.std.specs.Prelude.{◌==◌, ◌∷◌, [], false, not, true}
 use Rattle.std.proofs.Common.{◌∙◌, refl}
 
 pub plain_rows : PlainRows
@@ -47,6 +47,9 @@ dash_rows word other words w o ws =
     is_input (ws i) ∷ is_dash (w i) ∷ is_dash (w i) ∷ is_dash (o i) ∷ false ∷ any_dash (ws i) ∷ any_dash (ws i) ∷ any_dash (ws i) ∷ is_dash (w i) ∷ is_dash (w i)
     ∷ is_input (ws i) ∷ is_input (w i ∷ []) ∷ false ∷ [])
     ∙ refl
+
+pub scan_rows : ScanRows
+scan_rows word other w o = (λ i. not (is_dash (w i)) ∷ not (is_dash (o i)) ∷ true ∷ true ∷ false ∷ []) ∙ refl
 
 pub other_rows : OtherRows
 other_rows word words w ws =

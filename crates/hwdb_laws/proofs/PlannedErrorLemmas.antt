@@ -36,14 +36,14 @@ use Rattle.hwdb_plan.specs.Ended.{OnLines, Outs, Shows, ShowsEnd, StreamStops}
 use Rattle.hwdb_plan.specs.Input.{IsInputTold}
 use Rattle.hwdb_plan.specs.Laws.{AreAlike, OverIsNoMore, OverIsOver, PlansEndAlike}
 use Rattle.hwdb_plan.specs.Plans.{AreMadeOf, End, Ends, Plan, over, reads_over}
-use Rattle.hwdb_plan.specs.Plans.End.{Answers, Lines, Replaces, Stops, Streams}
+use Rattle.hwdb_plan.specs.Plans.End.{Answers, Lines, Replaces, Scans, Stops, Streams}
 use Rattle.hwdb_plan.specs.Plans.Plan.{Done}
 use Rattle.hwdb_spec_program.specs.DeviceErrors.{asked_names}
 use Rattle.hwdb_spec_program.specs.ProgramPlan.{ShowsPlan, Taker, as_given, command_of, files_plan, over_texts, program_plan, root_given, takers}
 use Rattle.hwdb_plan.specs.Requests.{Around, Command, Search, found_plan, plan_of, told_plan}
 use Rattle.hwdb_plan.specs.Requests.Command.{OfDevices, OfFiles}
 use Rattle.hwdb_plan.specs.Requests.Search.{AtPlace, Below, Fitting, Found}
-use Rattle.hwdb_laws.proofs.PlannedLemmas.{OverLaws, Serves, mapped, no_memory, one_told, plan_moves, too_long}
+use Rattle.hwdb_laws.proofs.PlannedLemmas.{OverLaws, Serves, mapped, no_memory, one_told, plan_moves, scan_unfailed, too_long}
 use Rattle.hwdb_laws.specs.PlannedErrors.{AreButForCause, AreOneEnd, AreOneError, IsOfReading, PlannedErrorsAreOne}
 use Rattle.hwdb_laws.specs.PlannedRuns.{HavePlan, Tells}
 
@@ -375,6 +375,8 @@ shown_error input input_now before now r bytes tells reading (Lines lines) (stop
     absurd (⊎_elim (λ cut. reading.outputs cut.0) (λ memory. reading.memory memory.0) stops)
 shown_error input input_now before now r bytes tells reading (Streams text) (stops, quiet) =
     inr (text, refl, stops_of_line text input input_now before.out now.out bytes tells r reading stops, quiet)
+shown_error input input_now before now r bytes tells reading (Scans path count) (stops, quiet) =
+    absurd (⊎_elim (λ memory. reading.memory memory) (λ write. reading.outputs write) (scan_unfailed path count input input_now before.out now.out reading.input r stops))
 shown_error input input_now before now r bytes tells reading (Replaces folder made said status) shows = absurd shows
 
 -- ---- two runs

@@ -30,7 +30,7 @@ use Rattle.hwdb_plan.specs.Asking.{if_read}
 use Rattle.hwdb_plan.specs.Baseline.{if_marked, over_baseline}
 use Rattle.hwdb_plan.specs.Sysfs.{folder_of as folder_place, none_there, one_of, place_of, says, sysfs_of}
 use Rattle.hwdb_spec_program.specs.DeviceErrors.{asked_names}
-use Rattle.hwdb_plan.specs.Ended.{Leaves, OnLines, Outs, Shows, ShowsEnd, StreamStops, Streamed}
+use Rattle.hwdb_plan.specs.Ended.{Leaves, OnLines, Outs, ScanStops, Shows, ShowsEnd, StreamStops, Streamed}
 use Rattle.hwdb_plan.specs.Files.{ask_file, given_files, if_input, is_word, read_files, source_at}
 use Rattle.hwdb_plan.specs.Folders.{Texts, choose, if_listed, names_of, paths_of, read_texts, texts_of_folders, texts_of_names, with_texts}
 use Rattle.hwdb_plan.specs.Given.{given_at, given_or_asked}
@@ -41,7 +41,7 @@ use Rattle.hwdb_plan.specs.Lemmas.Ends.{leaves_one, nothing_changed}
 use Rattle.hwdb_plan.specs.Lemmas.OverText.{said_is_after, said_is_no_more}
 use Rattle.hwdb_plan.specs.OverText.{Basis, basis, basis_of, from_basis, if_fit, is_first, text_plan, with_after}
 use Rattle.hwdb_plan.specs.Plans.{End, Ends, Next, Plan, over, reads_over}
-use Rattle.hwdb_plan.specs.Plans.End.{Answers, Lines, Replaces, Stops, Streams}
+use Rattle.hwdb_plan.specs.Plans.End.{Answers, Lines, Replaces, Scans, Stops, Streams}
 use Rattle.hwdb_plan.specs.Plans.Plan.{Done, Input}
 use Rattle.hwdb_spec_program.specs.ProgramPlan.{ShowsPlan, Taker, as_given, command_of, files_plan, over_texts, program_plan, root_given, takers}
 use Rattle.hwdb_plan.specs.Requests.{Around, Command, Request, Search, found_plan, plan_of, told_plan}
@@ -435,6 +435,7 @@ leaves (Stops s) sight input input_now before now n shows = absurd shows.0
 leaves (Answers status err out) sight input input_now before now n shows = (shows, nothing_changed _)
 leaves (Lines lines) sight input input_now before now n shows = (shows, nothing_changed _)
 leaves (Streams text) sight input input_now before now n shows = (shows, nothing_changed _)
+leaves (Scans path count) sight input input_now before now n shows = (shows, nothing_changed _)
 leaves (Replaces folder bytes said status) sight input input_now before now n shows = absurd shows
 
 -- an end that is shown with a status is no error
@@ -443,6 +444,7 @@ shown_done (Stops s) input input_now before now n shows = absurd shows.0
 shown_done (Answers status err out) input input_now before now n shows = λ s is. cc
 shown_done (Lines lines) input input_now before now n shows = λ s is. cc
 shown_done (Streams text) input input_now before now n shows = λ s is. cc
+shown_done (Scans path count) input input_now before now n shows = λ s is. cc
 shown_done (Replaces folder bytes said status) input input_now before now n shows = λ s is. cc
 
 module _ (one_end : DoneIsOne) (laws : OverLaws) (words : List Text) (w : Reads) (sight : Sight) (input input_now input_now2 : Told) (before now now2 : Outs) (status status2 : ℕ) (have : HavePlan words)
@@ -507,6 +509,23 @@ no_memory (refusal.Plain error) is = ap refusal.Plain one
 no_memory (refusal.At error path cause) is = absurd cc
 no_memory refusal.NoDatabase is = absurd cc
 no_memory (refusal.InWords text) is = absurd cc
+
+-- a scan of which no call of the input failed ends with an error only for want of memory, or since the output failed
+module _ (path : Option (List ℕ)) (count : Option ℕ) (input input_now before now : Told) (unfailed : HasFailed input.failures input_now.failures → ⊥) where
+  pub scan_unfailed : (r : Refusal) → ScanStops path count input input_now before now r → (r ≡ refusal.Plain OutOfMemory) ⊎ (r ≡ refusal.Plain Write)
+  scan_unfailed (refusal.InWords text) h = absurd (unfailed h.1)
+  scan_unfailed (refusal.Plain Write) h = inr refl
+  scan_unfailed (refusal.Plain OutOfMemory) h = inl refl
+  scan_unfailed (refusal.Plain TooManyFiles) h = absurd h
+  scan_unfailed (refusal.Plain TooManyLines) h = absurd h
+  scan_unfailed (refusal.Plain TooLarge) h = absurd h
+  scan_unfailed (refusal.Plain BadPosition) h = absurd h
+  scan_unfailed (refusal.Plain (BadDatabase f)) h = absurd h
+  scan_unfailed (refusal.Plain (Replace u)) h = absurd h
+  scan_unfailed (refusal.Plain Read) h = absurd h
+  scan_unfailed (refusal.Plain TooLong) h = absurd h
+  scan_unfailed (refusal.At e at cause) h = absurd h
+  scan_unfailed refusal.NoDatabase h = absurd h
 
 module _ (one_end : DoneIsOne) (laws : OverLaws) (words : List Text) (w : Reads) (sight : Sight) (input input_now input_now2 : Told) (before now now2 : Outs) (status : ℕ) (r : Refusal) (have : HavePlan words)
     (of_input : Tells input) (unfailed : HasFailed input.failures input_now2.failures → ⊥) where
@@ -576,6 +595,7 @@ module _ (one_end : DoneIsOne) (laws : OverLaws) (words : List Text) (w : Reads)
   shown_alike (Answers n err out) shows shows2 = inr shows2.0
   shown_alike (Lines lines) shows shows2 = ⊎_elim (λ cut. inr cut.0) (λ memory. inl memory.0) shows2.0
   shown_alike (Streams text) shows shows2 = streams text shows.0.1 r refl shows2.0
+  shown_alike (Scans path count) shows shows2 = scan_unfailed path count input input_now2 before.out now2.out unfailed r shows2.0
   shown_alike (Replaces folder bytes said n) shows shows2 = absurd shows
 
   ends_so : (e f : End) (told told2 : Result (List ℕ) Unread) (cause cause2 : List ℕ) → IsInputTold input.bytes input.failures input_now.failures told
@@ -589,6 +609,7 @@ module _ (one_end : DoneIsOne) (laws : OverLaws) (words : List Text) (w : Reads)
       let same = done_is_one one_end w (plan_told told cause) (plan_told told2 cause2) e (Streams text) done (λ s is. cc)
       (plans_are_one one_end laws words w sight input input_now input_now2 before now now2 status status have of_input told told2 cause cause2 (one_serves w input input.failures input_now.failures input_now2.failures told told2 of_input is is2)) ends ends2 in
       shown_alike (Streams text) (subst (λ (x : End). Shows x input input_now before now (Ok status)) same shows) shows2
+  ends_so e (Scans path count) told told2 cause cause2 is is2 ends ends2 shows shows2 = scan_unfailed path count input input_now2 before.out now2.out unfailed r shows2.0
   ends_so e (Replaces folder bytes said n) told told2 cause cause2 is is2 ends ends2 shows shows2 = absurd shows2
 
   both : (told told2 : Result (List ℕ) Unread) (cause cause2 : List ℕ) → IsInputTold input.bytes input.failures input_now.failures told

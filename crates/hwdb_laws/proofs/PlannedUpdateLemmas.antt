@@ -28,7 +28,7 @@ use Rattle.hwdb_plan.specs.Ended.{Outs, ReplaceStops}
 use Rattle.hwdb_plan.specs.Folders.{Texts, choose, if_listed, names_of, paths_of, read_texts, texts_of_names, with_texts}
 use Rattle.hwdb_plan.specs.Laws.{DoneIsOne, PlansEndAlike}
 use Rattle.hwdb_plan.specs.Plans.{End, Ends, Plan}
-use Rattle.hwdb_plan.specs.Plans.End.{Answers, Lines, Replaces, Stops, Streams}
+use Rattle.hwdb_plan.specs.Plans.End.{Answers, Lines, Replaces, Scans, Stops, Streams}
 use Rattle.hwdb_plan.specs.Plans.Plan.{Done}
 use Rattle.hwdb_plan.specs.Put.{put_plan}
 use Rattle.hwdb_plan.specs.Putting.{PutsEnd, SaysThen}
@@ -281,6 +281,7 @@ has_said w p After before now eb en n (inr none) = absurd none.0
 has_said w p After before now eb en n (inl (Stops s, ends, left)) = absurd left.0
 has_said w p After before now eb en n (inl (Lines lines, ends, left)) = absurd left
 has_said w p After before now eb en n (inl (Streams text, ends, left)) = absurd left
+has_said w p After before now eb en n (inl (Scans path count, ends, left)) = absurd left
 has_said w p After before now eb en n (inl (Replaces folder bytes said status, ends, left)) = absurd left
 has_said w p After before now eb en n (inl (Answers status said out, ends, inl unsaid)) = absurd unsaid.0
 has_said w p After before now eb en n (inl (Answers status said out, ends, inr (told, took, after))) =
@@ -303,6 +304,7 @@ has_put w p before now eb en n (inl (Stops s, ends, left)) = absurd left.0
 has_put w p before now eb en n (inl (Answers status said out, ends, left)) = absurd left
 has_put w p before now eb en n (inl (Lines lines, ends, left)) = absurd left
 has_put w p before now eb en n (inl (Streams text, ends, left)) = absurd left
+has_put w p before now eb en n (inl (Scans path count, ends, left)) = absurd left
 has_put w p before now eb en n (inl (Replaces folder bytes said status, ends, (is, took, place))) =
     record { folder = folder; bytes = bytes; said = said; status = status; ends = ends; is = is; took = took; in_place = place }
 
@@ -447,6 +449,7 @@ module _ (one_end : DoneIsOne) (w : Reads) (u : AskedUpdate) (before now : Files
   puts_error told (inl (Answers n err out, ends, left)) = absurd left
   puts_error told (inl (Lines ls, ends, left)) = absurd left
   puts_error told (inl (Streams text, ends, left)) = absurd left
+  puts_error told (inl (Scans path count, ends, left)) = absurd left
   puts_error told (inl (Replaces f b t n, ends, left)) =
       let at = (update_goes w u.root u.usr u.strict u.verbose u.skip words2 words2 (Replaces f b t n) tt ends).1 in
       inr (subst (λ (x : List ℕ). (r ≡ refusal.Plain Write) ⊎ IsOver Write (path_in x database_name) r) at (unput_so f b t before now told outs_now.err r left))
@@ -456,6 +459,7 @@ module _ (one_end : DoneIsOne) (w : Reads) (u : AskedUpdate) (before now : Files
   leaves_error told (inl (Stops s, ends, left)) = absurd (not_stopped s (left_out_stops w u.root u.usr u.strict u.verbose s u.skip words2 words ends))
   leaves_error told (inl (Lines ls, ends, left)) = absurd left
   leaves_error told (inl (Streams text, ends, left)) = absurd left
+  leaves_error told (inl (Scans path count, ends, left)) = absurd left
   leaves_error told (inl (Replaces f b t n, ends, left)) = absurd left
   leaves_error told (inl (Answers n err out, ends, inl unsaid)) = inr (inl unsaid.0.0)
   leaves_error told (inl (Answers n err out, ends, inr (told2, took, after))) = puts_error told2 after
@@ -467,6 +471,7 @@ module _ (one_end : DoneIsOne) (w : Reads) (u : AskedUpdate) (before now : Files
   hides_error (inl (Stops s, ends, left)) = absurd (hiding_goes_on w u.usr u.verbose u.root s ends)
   hides_error (inl (Lines ls, ends, left)) = absurd left
   hides_error (inl (Streams text, ends, left)) = absurd left
+  hides_error (inl (Scans path count, ends, left)) = absurd left
   hides_error (inl (Replaces f b t n, ends, left)) = absurd left
   hides_error (inl (Answers n err out, ends, inl unsaid)) = inr (inl unsaid.0.0)
   hides_error (inl (Answers n err out, ends, inr (told, took, after))) = leaves_error told after
@@ -501,6 +506,7 @@ module _ (w : Reads) (u : AskedUpdate) (before now : Files) (err_before err_now 
   puts_stop told (inl (Answers n err out, ends, left)) = absurd left
   puts_stop told (inl (Lines ls, ends, left)) = absurd left
   puts_stop told (inl (Streams text, ends, left)) = absurd left
+  puts_stop told (inl (Scans path count, ends, left)) = absurd left
   puts_stop told (inl (Replaces f b t n, ends, left)) =
       let at = (update_goes w u.root u.usr u.strict u.verbose u.skip words words (Replaces f b t n) tt ends).1 in
       absurd (⊎_elim (λ unsaid. reading.output unsaid) (λ unput. reading.put unput)
@@ -511,6 +517,7 @@ module _ (w : Reads) (u : AskedUpdate) (before now : Files) (err_before err_now 
   leaves_stop told (inl (Stops s, ends, left)) = (s, left_out_stops w u.root u.usr u.strict u.verbose s u.skip words words ends, left.0, left.1)
   leaves_stop told (inl (Lines ls, ends, left)) = absurd left
   leaves_stop told (inl (Streams text, ends, left)) = absurd left
+  leaves_stop told (inl (Scans path count, ends, left)) = absurd left
   leaves_stop told (inl (Replaces f b t n, ends, left)) = absurd left
   leaves_stop told (inl (Answers n err out, ends, inl unsaid)) = absurd (reading.output unsaid.0.0)
   leaves_stop told (inl (Answers n err out, ends, inr (told2, took, after))) = puts_stop told2 after
@@ -521,6 +528,7 @@ module _ (w : Reads) (u : AskedUpdate) (before now : Files) (err_before err_now 
   hides_stop (inl (Stops s, ends, left)) = absurd (hiding_goes_on w u.usr u.verbose u.root s ends)
   hides_stop (inl (Lines ls, ends, left)) = absurd left
   hides_stop (inl (Streams text, ends, left)) = absurd left
+  hides_stop (inl (Scans path count, ends, left)) = absurd left
   hides_stop (inl (Replaces f b t n, ends, left)) = absurd left
   hides_stop (inl (Answers n err out, ends, inl unsaid)) = absurd (reading.output unsaid.0.0)
   hides_stop (inl (Answers n err out, ends, inr (told, took, after))) = leaves_stop told after

@@ -19,11 +19,11 @@ use Rattle.hwdb_spec_commands.specs.declared.refusals.Refusal.{Refusal}
 use Rattle.hwdb_spec_commands.specs.declared.refusals.Refusal.TheVariants as refusal
 use Rattle.hwdb_spec_commands.specs.declared.unread.Unread.{Unread}
 use Rattle.hwdb_spec_commands.specs.declared.unread.Unread.TheVariants as unread
-use Rattle.hwdb_plan.specs.Ended.{OnLines, Outs, ShowsEnd, StreamStops, outs}
+use Rattle.hwdb_plan.specs.Ended.{OnLines, Outs, ScanStops, ShowsEnd, StreamStops, outs}
 use Rattle.hwdb_plan.specs.Input.{IsInputTold}
 use Rattle.hwdb_plan.specs.Laws.{DoneIsOne, OverIsNoMore, OverIsOver, PlansEndAlike}
 use Rattle.hwdb_plan.specs.Plans.{Ends, Plan}
-use Rattle.hwdb_plan.specs.Plans.End.{Answers, Lines, Replaces, Stops, Streams}
+use Rattle.hwdb_plan.specs.Plans.End.{Answers, Lines, Replaces, Scans, Stops, Streams}
 use Rattle.hwdb_spec_program.specs.ProgramPlan.{IsReported, ShowsPlan, error_status, program_plan}
 use Rattle.hwdb_plan.specs.Requests.{Around}
 use Rattle.hwdb_laws.proofs.PlannedErrorLemmas.{planned_errors}
@@ -111,6 +111,13 @@ module _ (text : List (List ℕ) → List ℕ) (input input_now before now : Tol
   over_stream refusal.NoDatabase h is = absurd h
   over_stream (refusal.InWords said) h is = absurd h
 
+  -- an error of a scan is over no path
+  no_scan : {X : Type 0} (at : Option (List ℕ)) (count : Option ℕ) (r : Refusal) → ScanStops at count input input_now before now r → stop_of r ≡ Over error path cause → X
+  no_scan at count (refusal.Plain e) h is = not_plain e is
+  no_scan at count (refusal.InWords said) h is = absurd cc
+  no_scan at count (refusal.At e p c) h is = absurd h
+  no_scan at count refusal.NoDatabase h is = absurd h
+
 module _ (words : List Text) (w : Reads) (sight : Sight) (input input_now : Told) (before now : Outs) (r : Refusal) (error : ToolError) (path : List ℕ) (cause : Option Cause) (have : HavePlan words)
     (says : stop_of r ≡ Over error path cause) (laws : OverLaws) where
   abbrev plan_of : (told : Result (List ℕ) Unread) (words_of_cause : List ℕ) → Plan
@@ -123,6 +130,7 @@ module _ (words : List Text) (w : Reads) (sight : Sight) (input input_now : Told
   stops_or_streams p (inl (Answers status err out, ends, (write, failed))) = no_over r Write error path cause write says
   stops_or_streams p (inl (Lines lines, ends, (stops, quiet))) = ⊎_elim (λ cut. no_over r Write error path cause cut.0 says) (λ memory. no_over r OutOfMemory error path cause memory.0 says) stops
   stops_or_streams p (inl (Streams text, ends, (stops, quiet))) = inr (over_stream text input input_now before.out now.out error path cause r stops says)
+  stops_or_streams p (inl (Scans at count, ends, (stops, quiet))) = no_scan (λ lines. []) input input_now before.out now.out error path cause at count r stops says
   stops_or_streams p (inl (Replaces folder made said status, ends, shows)) = absurd shows
 
   -- what standard input is told doesn't matter, or the error is that it isn't told

@@ -30,7 +30,7 @@ use Rattle.hwdb_plan.specs.List.{list_plan}
 use Rattle.hwdb_plan.specs.Near.{near_plan}
 use Rattle.hwdb_plan.specs.OverText.{replaced_of, said_after}
 use Rattle.hwdb_plan.specs.Plans.{Plan, over}
-use Rattle.hwdb_plan.specs.Plans.End.{Answers, Stops}
+use Rattle.hwdb_plan.specs.Plans.End.{Answers, Scans, Stops}
 use Rattle.hwdb_plan.specs.Plans.Plan.{Database, Done}
 use Rattle.hwdb_plan.specs.Sides.{made_of, taken_from}
 use Rattle.hwdb_plan.specs.Status.{status_plan}
@@ -124,6 +124,15 @@ KeysRows =
     (a : Around)
     → asked a (codes "keys" ∷ codes "super" ∷ codes "--json" ∷ codes "f1" ∷ []) ∷ asked a (codes "-r/r" ∷ codes "keys" ∷ []) ∷ []
     ≡ Some (keys_plan true (codes "super" ∷ codes "f1" ∷ [])) ∷ Some (keys_plan false []) ∷ []
+
+-- Events of a device below a root, of a path, and of standard input. A count is a number.
+abbrev pub ScanRows : Type 0
+ScanRows =
+    (a : Around)
+    → asked a (codes "scan" ∷ codes "--count=2" ∷ codes "event4" ∷ []) ∷ asked a (codes "-r/r" ∷ codes "scan" ∷ codes "event4" ∷ []) ∷ asked a (codes "scan" ∷ codes "./f" ∷ [])
+    ∷ asked a (codes "scan" ∷ codes "--root" ∷ codes "r" ∷ codes "./f" ∷ []) ∷ asked a (codes "scan" ∷ codes "--root=/r" ∷ codes "-" ∷ []) ∷ []
+    ≡ Some (Done (Scans (Some (codes "/dev/input/event4")) (Some 2))) ∷ Some (Done (Scans (Some (codes "/r/dev/input/event4")) None)) ∷ Some (Done (Scans (Some (codes "./f")) None))
+    ∷ Some (Done (Scans (Some (codes "r/./f")) None)) ∷ Some (Done (Scans None None)) ∷ []
 
 -- Words that ask for no command, or for an update.
 abbrev pub NoneRows : Type 0

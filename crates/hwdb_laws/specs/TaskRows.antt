@@ -14,7 +14,7 @@ use Rattle.hwdb_spec.specs.Store.{Contents, database_file}
 use Rattle.hwdb_spec_program.specs.TaskRefusals.{refused_status, with_err}
 use Rattle.hwdb_spec_commands.specs.declared.job.Job.{Job}
 use Rattle.hwdb_spec_commands.specs.declared.job.Task.{Task}
-use Rattle.hwdb_spec_commands.specs.declared.job.Task.TheVariants.{Ask, Check, Device, Diff, Dump, Explain, Keys, List as ListHits, Near, Query, Status, Test, Update, Verify}
+use Rattle.hwdb_spec_commands.specs.declared.job.Task.TheVariants.{Ask, Check, Device, Diff, Dump, Explain, Keys, List as ListHits, Near, Query, Scan, Status, Test, Update, Verify}
 
 -- ---- tasks that name no file
 
@@ -36,6 +36,12 @@ DashRows =
     ∷ reads_input (Near words other None false) ∷ reads_input (Test words None false) ∷ reads_input (Verify (Some word)) ∷ reads_input (Dump (Some word)) ∷ streams (Query words true) ∷ streams (Explain word true)
     ∷ streams (Ask word other) ∷ []
     ≡ true ∷ true ∷ true ∷ false ∷ false ∷ true ∷ true ∷ true ∷ true ∷ true ∷ true ∷ true ∷ false ∷ []
+
+-- Of `scan` the device below the root is read in place of standard input. With `-` it is none below the root.
+abbrev pub ScanRows : Type 0
+ScanRows =
+    (word other : String Global) → string_bytes word ≡ codes "-" → string_bytes other ≡ codes "f"
+    → looks_below_root (Scan word None) ∷ looks_below_root (Scan other None) ∷ reads_input (Scan word None) ∷ reads_input (Scan other None) ∷ streams (Scan word None) ∷ [] ≡ false ∷ true ∷ true ∷ true ∷ false ∷ []
 
 -- It is another one.
 abbrev pub OtherRows : Type 0

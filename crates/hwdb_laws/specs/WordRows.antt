@@ -125,6 +125,13 @@ KeysRows =
     (codes "json" ∷ []) (codes "WORD" ∷ [])
     ≡ (codes "keys", true ∷ [], Some (codes "super" ∷ codes "f1" ∷ []) ∷ [])
 
+-- A count is a value of its own, before the device or after it.
+abbrev pub ScanRows : Type 0
+ScanRows =
+    read (codes "scan" ∷ codes "event4" ∷ codes "--count" ∷ codes "2" ∷ [])
+    [] (codes "DEVICE" ∷ codes "count" ∷ [])
+    ≡ (codes "scan", [], Some (codes "event4" ∷ []) ∷ Some (codes "2" ∷ []) ∷ [])
+
 -- Options before the command are its own too.
 abbrev pub BeforeRows : Type 0
 BeforeRows =

@@ -224,6 +224,7 @@ pub fn word_rows()
     ensures dump { WordRows.DumpRows }
     ensures status { WordRows.StatusRows }
     ensures keys { WordRows.KeysRows }
+    ensures scan { WordRows.ScanRows }
     ensures before { WordRows.BeforeRows }
     ensures wrong { WordRows.WrongRows }
     ensures right { WordRows.RightRows }
@@ -249,6 +250,7 @@ pub fn task_rows()
     ensures dash { TaskRows.DashRows }
     ensures other { TaskRows.OtherRows }
     ensures diff { TaskRows.DiffRows }
+    ensures scan { TaskRows.ScanRows }
     ensures named { TaskRows.NamedRows }
     ensures status { TaskRows.StatusRows }
     ensures jobs { TaskRows.JobRows }
@@ -317,6 +319,7 @@ pub fn plan_rows()
     ensures diff { PlanRows.DiffRows }
     ensures fresh { PlanRows.FreshRows }
     ensures keys { PlanRows.KeysRows }
+    ensures scan { PlanRows.ScanRows }
     ensures none { PlanRows.NoneRows }
     ensures text { PlanRows.TextRows }
     ensures misuse { PlanRows.MisuseRows }

@@ -1,19 +1,21 @@
 -- What a run leaves whose plan ends so: its result, both outputs and the files, also if an output fails. Our choice.
-use Rattle.std.specs.Io.KnownBytes.{Appends}
+use Rattle.std.specs.Io.KnownBytes.{Appends, Consumes}
 use Rattle.std.specs.Prelude.{◌≡◌, ◌⊎◌, ℕ, List, [], None, Option, Some, IfSome, MatchResult, Result, IsErrAnd, codes, flat_map, take}
 use Rattle.hwdb_spec_commands.specs.AnsweredLines.{answered_lines, line_error}
-use Rattle.hwdb_spec.specs.Failures.{HasFailed, OneFailed}
+use Rattle.hwdb_spec.specs.Failures.{HasFailed, IsOneLine, OneFailed}
 use Rattle.hwdb_spec.specs.NotReplaced.{IsLeft, IsSeen, failures_after}
 use Rattle.hwdb_spec.specs.Outputs.{AppendsPrefix}
 use Rattle.hwdb_spec_commands.specs.Runs.{AreKept, Files, HasTaken, Told, WasCut, World}
+use Rattle.hwdb_spec_commands.specs.ScanAsked.{scanned_name, scanned_text, unscanned_text}
 use Rattle.hwdb_spec.specs.Store.{InPlace, database_name, path_in}
 use Rattle.hwdb_spec.specs.Texts.{devices_of}
+use Rattle.hwdb_spec.specs.declared.causes.Cause.{Cause}
 use Rattle.hwdb_spec.specs.declared.errors.ToolError.TheVariants.{Memory, Read, TooLong, TooManyLines, Write}
 use Rattle.hwdb_spec.specs.declared.errors.Unreplaced.{Unreplaced}
 use Rattle.hwdb_spec_commands.specs.declared.refusals.Refusal.{Refusal}
 use Rattle.hwdb_spec_commands.specs.declared.refusals.Refusal.TheVariants as refusal
 use Rattle.hwdb_plan.specs.Plans.{End, Ends, Plan}
-use Rattle.hwdb_plan.specs.Plans.End.{Answers, Lines, Replaces, Stops, Streams}
+use Rattle.hwdb_plan.specs.Plans.End.{Answers, Lines, Replaces, Scans, Stops, Streams}
 use Rattle.hwdb_spec_commands.specs.Told.{Reads, stop_of}
 
 -- what standard error and standard output tell
@@ -97,6 +99,45 @@ abbrev pub StreamsTo : (text : List (List ℕ) → List ℕ) (input_before input
 StreamsTo text input_before input_now before now result =
     MatchResult result (λ n. (n ≡ 0) × Streamed text input_before.bytes before now) (StreamStops text input_before input_now before now)
 
+-- ---- the keys of events
+module _ (count : Option ℕ) (input : Option (List ℕ)) (before now : Told) where
+  -- standard output took the lines of all events
+  pub record Scanned : Type 0 where
+    pub unfailed : now.failures ≡ before.failures
+    pub taken : IfSome input (λ bytes. Appends before.bytes now.bytes (scanned_text count bytes))
+
+  -- it took the lines of the first bytes
+  pub record ScannedSome : Type 0 where
+    pub unfailed : now.failures ≡ before.failures
+    pub taken : IfSome input (λ bytes. (n : ℕ) × Appends before.bytes now.bytes (scanned_text count (take n bytes)))
+
+  -- it took the lines of all bytes that aren't left
+  pub record ScannedRead (left : Option (List ℕ)) : Type 0 where
+    pub unfailed : now.failures ≡ before.failures
+    pub taken : IfSome input (λ bytes. (read : List ℕ) × Consumes (Some bytes) left read × Appends before.bytes now.bytes (scanned_text count read))
+
+  -- it took a prefix of the lines of all events, and then it failed
+  pub record ScannedPrefix : Type 0 where
+    pub failed : OneFailed before.failures now.failures
+    pub taken : IfSome input (λ bytes. AppendsPrefix before.bytes now.bytes (scanned_text count bytes))
+
+-- an error says that what was to be read can't be
+abbrev pub IsUnscanned : (path : Option (List ℕ)) (text : List ℕ) → Type 0
+IsUnscanned path text = (cause : Option Cause) × (words : List ℕ) × IsOneLine words × (text ≡ unscanned_text (scanned_name path) cause words)
+
+-- it ends with an error: the events can't be read, or no more of them, and all keys were told; standard output fails, or memory does
+abbrev pub ScanStops : (path : Option (List ℕ)) (count : Option ℕ) (input_before input_now before now : Told) → Refusal → Type 0
+ScanStops path count input_before input_now before now (refusal.InWords text) =
+    IsUnscanned path text.items × HasFailed input_before.failures input_now.failures × ScannedRead count input_before.bytes before now input_now.bytes
+ScanStops path count input_before input_now before now (refusal.Plain Write) = ScannedPrefix count input_before.bytes before now
+ScanStops path count input_before input_now before now (refusal.Plain Memory) = ScannedSome count input_before.bytes before now
+ScanStops path count input_before input_now before now r = ⊥
+
+-- the keys of events are told, with status 0; or that ends with such an error
+abbrev pub ScansTo : (path : Option (List ℕ)) (count : Option ℕ) (input_before input_now before now : Told) → Result ℕ Refusal → Type 0
+ScansTo path count input_before input_now before now result =
+    MatchResult result (λ n. (n ≡ 0) × Scanned count input_before.bytes before now) (ScanStops path count input_before input_now before now)
+
 -- ---- a database in its place
 -- the database wasn't replaced: standard error took what was to be said, and this is what the replacement left
 pub record IsUnreplaced (folder bytes said : List ℕ) (before now : Files) (err_before err_now : Told) : Type 0 where
@@ -134,6 +175,7 @@ Shows (Stops s) input_before input_now before now result = IsErrAnd result (λ r
 Shows (Answers status err out) input_before input_now before now result = Prints status err out before now result
 Shows (Lines lines) input_before input_now before now result = LinesTo lines before.out now.out result × (now.err ≡ before.err)
 Shows (Streams text) input_before input_now before now result = StreamsTo text input_before input_now before.out now.out result × (now.err ≡ before.err)
+Shows (Scans path count) input_before input_now before now result = ScansTo path count input_before input_now before.out now.out result × (now.err ≡ before.err)
 Shows (Replaces folder bytes said status) input_before input_now before now result = ⊥
 
 -- there was no memory before anything was shown

@@ -27,6 +27,7 @@ pub mod Readable
 pub mod Update
 pub mod Status
 pub mod Keys
+pub mod Scan
 pub mod TextLaws
 pub mod Advice
 pub mod Putting

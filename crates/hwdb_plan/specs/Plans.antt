@@ -19,13 +19,14 @@ use Rattle.hwdb_spec_commands.specs.declared.unread.Unread.{Unread}
 use Rattle.hwdb_spec_commands.specs.Told.{Reads, Stop, Unlisted, stop_of}
 
 -- what a plan ends in: an error; a status, with a text for standard error and one for standard output; lines for standard output, each
--- as it is found; a text for the lines of standard input, as they come; or the database in a folder, its bytes after a text for standard
--- error, with a status
+-- as it is found; a text for the lines of standard input, as they come; the keys that events tell, of a device at a path or of standard
+-- input, as many as are asked for; or the database in a folder, its bytes after a text for standard error, with a status
 pub data End : Type 0 where
   Stops : Stop → End
   Answers : (status : ℕ) (err out : List ℕ) → End
   Lines : (lines : List (List ℕ)) → End
   Streams : (text : List (List ℕ) → List ℕ) → End
+  Scans : (path : Option (List ℕ)) (count : Option ℕ) → End
   Replaces : (folder bytes said : List ℕ) (status : ℕ) → End
 
 -- the next question, and what follows each answer: of what is read or listed at a path, and of what a text, bytes or text files are

@@ -8,7 +8,7 @@ use Rattle.hwdb_spec_commands.specs.declared.refusals.Refusal.TheVariants.{Plain
 use Rattle.hwdb_plan.specs.Ended.{Outs, Shows}
 use Rattle.hwdb_plan.specs.OverText.{said_after, with_after}
 use Rattle.hwdb_plan.specs.Plans.{End, Ends, Plan}
-use Rattle.hwdb_plan.specs.Plans.End.{Answers, Lines, Replaces, Stops, Streams}
+use Rattle.hwdb_plan.specs.Plans.End.{Answers, Lines, Replaces, Scans, Stops, Streams}
 
 -- what a plan ends in, with the text after it `said_after` of the plan ends in
 abbrev pub SaidIsAfter : Type 0
@@ -24,6 +24,7 @@ MayFollow text (Stops s) = Unit {0}
 MayFollow text (Answers status err out) = Unit {0}
 MayFollow text (Lines lines) = text ≡ []
 MayFollow text (Streams of_lines) = text ≡ []
+MayFollow text (Scans path count) = text ≡ []
 MayFollow text (Replaces folder bytes said status) = text ≡ []
 
 -- A run had a first result, and left both outputs so. If it was done, a text was said to standard output then, or that failed. An empty text

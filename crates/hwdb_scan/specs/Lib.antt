@@ -1,3 +1,5 @@
 pub mod Views
+pub mod Internal
+pub mod Scanning
 pub mod Laws
 pub mod Rows

@@ -1,5 +1,7 @@
 -- Worked rows: what is told of recorded events. The bytes are by hand from linux/input.h and linux/input-event-codes.h.
-use Rattle.std.specs.Prelude.{◌≡◌, ◌++◌, ◌∷◌, List, [], None, Some, codes, drop, map, take, ℕ}
+use Rattle.std.specs.Prelude.{◌≡◌, ◌++◌, ◌∷◌, List, [], None, Some, codes, drop, map, pos, take, ℕ}
+use Rattle.hwdb_spec.specs.declared.causes.Cause.TheVariants.{Memory, System}
+use Rattle.hwdb_spec_commands.specs.ScanAsked.{scanned_name, scanned_path, scanned_text, unscanned_text}
 use Rattle.hwdb_spec_commands.specs.Scans.{key_name, scan_text}
 use Rattle.hwdb_scan.specs.Views.{after_bytes, bytes_text, start}
 
@@ -100,3 +102,25 @@ CountRows =
 abbrev pub NameRows : Type 0
 NameRows =
     map (key_name (codes "a 30\ncoffee 152\nscreenlock 152\nz 3\n")) (30 ∷ 152 ∷ 3 ∷ 15 ∷ []) ≡ codes "a" ∷ codes "coffee" ∷ codes "z" ∷ codes "15" ∷ []
+
+-- what is read: a node by its name or its path, a file, and standard input; also below a root
+abbrev pub PathRows : Type 0
+PathRows =
+    (map (scanned_path []) (codes "event4" ∷ codes "/dev/input/event4" ∷ codes "./keys" ∷ codes "-" ∷ [])
+    ≡ Some (codes "/dev/input/event4") ∷ Some (codes "/dev/input/event4") ∷ Some (codes "./keys") ∷ None ∷ [])
+    × (map (scanned_path (codes "/r")) (codes "event4" ∷ codes "/dev/input/event4" ∷ codes "./keys" ∷ codes "-" ∷ [])
+    ≡ Some (codes "/r/dev/input/event4") ∷ Some (codes "/r/dev/input/event4") ∷ Some (codes "/r/./keys") ∷ None ∷ [])
+    × (map scanned_name (Some (codes "/f") ∷ None ∷ []) ≡ codes "/f" ∷ codes "standard input" ∷ [])
+
+-- what is said, with what to do: of EACCES, EPERM and ENOENT. Of ENODEV, of want of memory and without a cause there is nothing to do.
+abbrev pub SaidRows : Type 0
+SaidRows =
+    map (λ cause. unscanned_text (codes "/dev/input/event4") cause (codes "w")) (Some (System (pos 13)) ∷ Some (System (pos 1)) ∷ Some (System (pos 2)) ∷ Some (System (pos 19)) ∷ Some Memory ∷ None ∷ [])
+    ≡ codes "cannot read /dev/input/event4: w; run it as root: sudo hwdb scan /dev/input/event4"
+    ∷ codes "cannot read /dev/input/event4: w; run it as root: sudo hwdb scan /dev/input/event4"
+    ∷ codes "cannot read /dev/input/event4: w; 'hwdb device' lists the devices" ∷ codes "cannot read /dev/input/event4: w" ∷ codes "cannot read /dev/input/event4: w"
+    ∷ codes "cannot read /dev/input/event4" ∷ []
+
+-- what is printed of all bytes that are there, if they are no more than may be read
+abbrev pub WholeRows : Type 0
+WholeRows = map (λ count. scanned_text count (caps ++ caps)) (Some 1 ∷ Some 0 ∷ []) ≡ codes "70039 capslock KEYBOARD_KEY_70039=capslock\n" ∷ [] ∷ []

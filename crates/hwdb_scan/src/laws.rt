@@ -1,7 +1,7 @@
 //! Laws over the definitions alone. Each function does nothing: its contract is the law.
 ghost use Rattle.std.specs.Prelude.{List, ℕ};
 ghost use Rattle.hwdb_scan.specs.Laws.{AtOnce, InPieces};
-ghost use Rattle.hwdb_scan.specs.Rows.{CountRows, CutRows, KeyRows, NameRows, OtherRows};
+ghost use Rattle.hwdb_scan.specs.Rows.{CountRows, CutRows, KeyRows, NameRows, OtherRows, PathRows, SaidRows, WholeRows};
 ghost use Rattle.hwdb_scan.specs.Views.{Scanning};
 
 /// Bytes that come in pieces are the same as if they come at once.
@@ -20,5 +20,8 @@ pub fn scan_rows()
     ensures others { OtherRows }
     ensures cut { CutRows }
     ensures count { CountRows }
+    ensures whole { WholeRows }
     ensures names { NameRows }
+    ensures paths { PathRows }
+    ensures said { SaidRows }
 {}

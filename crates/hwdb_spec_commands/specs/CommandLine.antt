@@ -134,6 +134,14 @@ path_rule = record (new_rule (codes "DEVICE")) { action = Some Set }
 abbrev pub words_rule : Rule
 words_rule = record (new_rule (codes "WORD")) { action = Some Append }
 
+-- a device's node
+abbrev pub node_rule : Rule
+node_rule = record (new_rule (codes "DEVICE")) { required = true; action = Some Set }
+
+-- `--count`, with a number of 64 bits
+abbrev pub count_rule : Rule
+count_rule = record (new_rule (codes "count")) { value_names = 1; long = Some (codes "count"); action = Some Set; parser = Some (vp.Unsigned 0 18446744073709551615) }
+
 -- the options that come before or after the command's word
 abbrev pub with_shared : App → App
 with_shared a = with_rule (with_rule (with_rule (with_rule a usr_rule) strict_rule) root_rule) color_rule
@@ -199,6 +207,10 @@ status_app = with_rule (with_shared (new_app (codes "status"))) json_rule
 abbrev pub keys_app : App
 keys_app = with_rule (with_rule (with_shared (new_app (codes "keys"))) json_rule) words_rule
 
+-- `scan`
+abbrev pub scan_app : App
+scan_app = with_rule (with_rule (with_shared (new_app (codes "scan"))) count_rule) node_rule
+
 -- the program's own options
 abbrev pub top_app : App
 top_app = on_top (λ (s : Shape). record s { has_version = true; subcommand_required = true }) (with_shared (new_app (codes "hwdb")))
@@ -213,4 +225,4 @@ with_inspections app = with_subcommand (with_subcommand (with_subcommand (with_s
 
 -- the command line: the program and its commands
 abbrev pub hwdb_app : App
-hwdb_app = with_subcommand (with_inspections (with_answers (with_subcommand top_app update_app.top))) keys_app.top
+hwdb_app = with_subcommand (with_subcommand (with_inspections (with_answers (with_subcommand top_app update_app.top))) keys_app.top) scan_app.top

@@ -5,7 +5,7 @@ use Rattle.std.specs.Option.{option_map_or, option_or}
 use Rattle.std.specs.declared.num.ParseIntError.{ParseIntError}
 use Rattle.std.specs.Str.Parse.{ParsesUnsigned, IsNumeral, digits_value, without_leading_plus}
 use Rattle.clap.specs.Walk.{Row, Text, all_of, first_of, one_of}
-use Rattle.hwdb_spec_commands.specs.declared.job.Task.TheVariants.{Ask, Check, Device, Diff, Dump, Explain, Keys, List as ListHits, Near, Query, Status, Test, Update, Verify}
+use Rattle.hwdb_spec_commands.specs.declared.job.Task.TheVariants.{Ask, Check, Device, Diff, Dump, Explain, Keys, List as ListHits, Near, Query, Scan, Status, Test, Update, Verify}
 use Rattle.hwdb_spec_commands.specs.declared.job.Task.{Task}
 use Rattle.hwdb_spec_commands.specs.declared.job.Job.{Job}
 
@@ -56,6 +56,7 @@ IsTask name inner (Dump database) = (name ≡ codes "dump") × (option_map strin
 IsTask name inner (Status json false) = (name ≡ codes "status") × (json ≡ has_flag (codes "json") inner)
 IsTask name inner (Status json true) = (name ≡ codes "update") × (has_flag (codes "check") inner ≡ true) × (json ≡ false)
 IsTask name inner (Keys words json) = (name ≡ codes "keys") × (json ≡ has_flag (codes "json") inner) × AreAnyValues (codes "WORD") inner (map string_bytes words.items)
+IsTask name inner (Scan device count) = (name ≡ codes "scan") × IsValue (codes "DEVICE") inner (string_bytes device) × IsLimit (one_of (codes "count") inner) count
 
 -- the job of both sides' options and of the command
 pub record IsJob (top : List Row) (name : Text) (inner : List Row) (job : Job) : Type 0 where
@@ -81,7 +82,7 @@ HasValue id rows = is_some (first_of id rows) ≡ true
 abbrev pub IsNumber : Text → Type 0
 IsNumber text = IsNumeral 10 (without_leading_plus text) × (digits_value 10 (without_leading_plus text) < 2 ^ 64)
 
--- it is one of the fourteen commands, with each argument that this command needs
+-- it is one of the fifteen commands, with each argument that this command needs
 abbrev pub IsCommand : Text → List Row → Type 0
 IsCommand name inner = (name ≡ codes "update")
     ⊎ (((name ≡ codes "query") × HasValue (codes "MODALIAS") inner)
@@ -96,4 +97,5 @@ IsCommand name inner = (name ≡ codes "update")
     ⊎ (((name ≡ codes "near") × HasValue (codes "MODALIAS") inner × IfSome (one_of (codes "limit") inner) IsNumber)
     ⊎ (((name ≡ codes "test") × HasValue (codes "FILE") inner)
     ⊎ ((name ≡ codes "status")
-    ⊎ (name ≡ codes "keys")))))))))))))
+    ⊎ ((name ≡ codes "keys")
+    ⊎ ((name ≡ codes "scan") × HasValue (codes "DEVICE") inner × IfSome (one_of (codes "count") inner) IsNumber))))))))))))))

@@ -81,3 +81,4 @@ pub mod OverText
 pub mod KeysAsked
 pub mod AllStrings
 pub mod Scans
+pub mod ScanAsked

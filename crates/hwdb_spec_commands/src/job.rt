@@ -132,6 +132,13 @@ pub enum Task {
         /// Whether as JSON.
         json: bool,
     },
+    /// Print the keys that are pressed, as the events of an input device tell them.
+    Scan {
+        /// The device's node, its name or its path; `-` is standard input.
+        device: String,
+        /// How many keys are told; none if all of them are.
+        count: Option<u64>,
+    },
 }
 
 /// What a command line asks for.

@@ -87,6 +87,7 @@
 //! | `KeysAsked` | which keys words ask for, what `keys` prints of them, and what it says if there is none |
 //! | `AllStrings` | the strings of all devices, each once |
 //! | `Scans` | the keys that events of a keyboard tell |
+//! | `ScanAsked` | what `scan` reads, and what is said if it can't be read |
 //!
 //! The types below are those that the definitions name.
 #![tactic(auto)]

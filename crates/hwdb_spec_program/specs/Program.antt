@@ -9,7 +9,7 @@ use Rattle.hwdb_spec_commands.specs.Given.{is_dash, any_dash, is_input}
 use Rattle.hwdb_spec_program.specs.GivenDatabases.{names_input}
 use Rattle.hwdb_spec_commands.specs.Runs.{AreKept, HasTaken, World}
 use Rattle.hwdb_spec.specs.Store.{Contents, Outcomes}
-use Rattle.hwdb_spec_commands.specs.declared.job.Task.TheVariants.{Ask, Check, Diff, Dump, Explain, Keys, Near, Query, Test, Update, Verify}
+use Rattle.hwdb_spec_commands.specs.declared.job.Task.TheVariants.{Ask, Check, Diff, Dump, Explain, Keys, Near, Query, Scan, Test, Update, Verify}
 use Rattle.hwdb_spec_commands.specs.declared.job.Task.{Task}
 use Rattle.hwdb_spec_commands.specs.declared.job.Job.{Job}
 use Rattle.hwdb_spec_commands.specs.Done.{IsLeftByUpdateLess}
@@ -29,6 +29,7 @@ looks_below_root (Verify database) = not (is_some database)
 looks_below_root (Dump database) = not (is_some database)
 looks_below_root (Test files database json) = not (is_some database)
 looks_below_root (Keys words json) = false
+looks_below_root (Scan device count) = not (is_dash (string_bytes device))
 looks_below_root _ = true
 
 -- the task answers the devices that standard input names, each as it comes
@@ -61,6 +62,7 @@ reads_input (Test files database json) = any_dash (map string_bytes files.items)
 reads_input (Diff old_path new_path devices json stat) = any_dash (string_bytes old_path ∷ string_bytes new_path ∷ map string_bytes devices.items)
 reads_input (Verify database) = names_input (option_map string_bytes database)
 reads_input (Dump database) = names_input (option_map string_bytes database)
+reads_input (Scan device count) = true
 reads_input _ = false
 
 -- the task is an update

@@ -44,6 +44,7 @@ use Rattle.hwdb_plan.specs.Putting.{OldOrPut}
 use Rattle.hwdb_plan.specs.Requests.{Around, Command, Request, Search, plan_of}
 use Rattle.hwdb_plan.specs.Requests.Command.{OfDevices, OfFiles}
 use Rattle.hwdb_plan.specs.Requests.Request.{Alone, AtPath, Fit, OfBase}
+use Rattle.hwdb_plan.specs.Scan.{scan_plan}
 use Rattle.hwdb_plan.specs.Status.{status_plan}
 use Rattle.hwdb_plan.specs.Sysfs.{OfCause}
 use Rattle.hwdb_plan.specs.Test.{test_request}
@@ -62,6 +63,10 @@ value_of id rows = unwrap_or (first_of id rows) []
 -- the number that is given as limit, in decimal digits
 abbrev pub limit_of : List Row → Option ℕ
 limit_of rows = option_map (λ text. digits_value 10 (without_leading_plus text)) (one_of (codes "limit") rows)
+
+-- the number of keys that is given, in the same way
+abbrev pub count_of : List Row → Option ℕ
+count_of rows = option_map (λ text. digits_value 10 (without_leading_plus text)) (one_of (codes "count") rows)
 
 -- all texts but the last
 abbrev pub before_last : List Text → List Text
@@ -129,6 +134,7 @@ commands sight root strict rows =
     ∷ (codes "diff", OfFiles (diff_of rows))
     ∷ (codes "status", OfFiles (Alone (status_plan root json false)))
     ∷ (codes "keys", OfFiles (Alone (keys_plan json (values_of (codes "WORD") rows))))
+    ∷ (codes "scan", OfFiles (Alone (scan_plan root (value_of (codes "DEVICE") rows) (count_of rows))))
     ∷ update_rows root rows
 
 -- the one with this word

@@ -14,6 +14,7 @@
 //! | `devices` | the file system as it is asked for devices |
 //! | `overlay` | a file system with another database in its place |
 //! | `new_folders` | folders that are made, with their mode |
+//! | `nodes` | a file, a pipe or a device, opened to be read |
 //! | `parts` | new files of updates: whose they are, and what killed updates left |
 //! | `roots` | where a path below a root leads; `place` is such a place |
 //! | `memory` | a store in memory as such a system, for tests |
@@ -30,6 +31,7 @@ mod left_out;
 mod machine;
 mod memory;
 mod new_folders;
+mod nodes;
 mod one_file;
 mod opened;
 mod overlay;
@@ -52,6 +54,7 @@ pub use identity::Identity;
 pub use laws::first_long_file_is_named;
 pub use left_out::{ReadableSelection, name_set, selected_readable};
 pub use machine::Machine;
+pub use nodes::open_below;
 pub use one_file::OneFile;
 pub use opened::{OpenedBytes, OpenedFile};
 pub use overlay::Overlay;

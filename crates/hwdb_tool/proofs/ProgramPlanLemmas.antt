@@ -40,13 +40,13 @@ some_values id rows texts are = ap (λ (o : Option (List Text)). unwrap_or o [])
 pub some_value : (id : Text) (rows : List Row) (text : Text) → Some text ≡ first_of id rows → text ≡ value_of id rows
 some_value id rows text is = ap (λ (o : Option Text). unwrap_or o []) is
 
+pub number_is : (text : Option Text) (number : Option ℕ) → IsLimit text number → number ≡ option_map (λ text. digits_value 10 (without_leading_plus text)) text
+number_is None number none = none
+number_is (Some text) None nope = absurd nope
+number_is (Some text) (Some n) parsed = ap Some parsed.1
+
 pub limit_is : (rows : List Row) (limit : Option ℕ) → IsLimit (one_of (codes "limit") rows) limit → limit ≡ limit_of rows
-limit_is rows limit is = by (one_of (codes "limit") rows) limit is
-  where
-    by : (o : Option Text) (l : Option ℕ) → IsLimit o l → l ≡ option_map (λ text. digits_value 10 (without_leading_plus text)) o
-    by None l none = none
-    by (Some text) None nope = absurd nope
-    by (Some text) (Some n) parsed = ap Some parsed.1
+limit_is rows limit is = number_is (one_of (codes "limit") rows) limit is
 
 same_default : (o : Option (List ℕ)) → option_map_or (λ (x : List ℕ). x) o [] ≡ unwrap_or o []
 same_default None = refl

@@ -1,3 +1,4 @@
+pub mod Scanned
 pub mod Views
 pub mod Laws
 pub mod Internal

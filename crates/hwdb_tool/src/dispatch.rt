@@ -31,6 +31,7 @@ use crate::outlet::Outlet;
 use crate::over_text::{asks_text, run_over_text};
 use crate::printing::printed;
 use crate::query_command::query;
+use crate::scan_command::scan;
 use crate::status_command::status;
 use crate::test_command::test;
 use crate::verify_command::verify;
@@ -137,6 +138,7 @@ fn looks_below_root(task: &Task) -> bool
 {
     match task {
         Task::Ask { .. } | Task::Diff { .. } | Task::Keys { .. } => false,
+        Task::Scan { device, .. } => device.as_str() != "-",
         Task::Check { files, .. } | Task::Near { files, .. } => files.is_empty(),
         Task::Verify { database } | Task::Dump { database } => database.is_none(),
         Task::Test { database, .. } => database.is_none(),
@@ -375,6 +377,7 @@ pub fn run<D: Machine, I: Source, O: Sink, E: Sink>(
             printed(status(alloc, root, *json, *quiet, system), out, err)
         }
         Task::Keys { words, json } => printed(keys(alloc, words, *json), out, err),
+        Task::Scan { device, count } => scan(alloc, root, device.as_str(), *count, input, out),
         Task::Verify { database } => {
             let given = text_of(database);
             let answer = verify(alloc, root, given, system, input);

@@ -21,6 +21,7 @@
 //! | `verify_command` | `verify`; `verdicts`: its words on bytes that are no database |
 //! | `dump_command` | `dump` |
 //! | `keys_command` | `keys` |
+//! | `scan_command` | `scan` |
 //! | `status_command` | `status`; `commands`: the command that makes a database anew |
 //! | `over_text` | `--text`: the text files in place of a database; `besides`: what `explain` tells of them that no database can |
 //! | `databases` | the database that a command asks for |
@@ -64,6 +65,7 @@ mod printing;
 mod progress;
 mod query_command;
 mod reloading;
+mod scan_command;
 mod sides;
 mod status_command;
 mod test_command;
@@ -78,7 +80,7 @@ pub use coloured::{Coloured, kind_of, terminals_get_no_control, write_shown};
 pub use crash::{crash_then_query, kill_then_query};
 pub use device_command::{device, device_form};
 pub use diff_command::diff;
-pub use dispatch::program;
+pub use dispatch::{program, root_of};
 pub use dump_command::dump;
 pub use every_device::devices;
 pub use failures::{counts_tell_failures, faultless_words_begin, faulty_update_leaves_all};
@@ -89,8 +91,9 @@ pub use hwdb_cli::{Job, Task, WordsFault, format_fault, kind_fault, read_words};
 pub use hwdb_io::{
     Cause, DeviceFailed, FromRead, Sink, Source, ToWrite, read_all, testing, write_text,
 };
+pub use hwdb_scan::scanned_path;
 pub use hwdb_spec_commands::TextKind;
-pub use hwdb_system::{Refusal, System, SystemStore};
+pub use hwdb_system::{Refusal, System, SystemStore, open_below};
 pub use laws::{listings_give_one_reading, update_then_query};
 pub use near_command::near;
 pub use outlet::Outlet;

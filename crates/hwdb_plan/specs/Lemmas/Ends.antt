@@ -1,11 +1,12 @@
 -- A run does what its plan ends in.
-use Rattle.std.proofs.Common.{◌≡◌, ◌∙◌, ◌⊎◌, inl, inr, ap, sym, subst, List, None, Option, Some, Result, Ok, Err, MatchResult, ℕ, refl}
+use Rattle.std.proofs.Common.{◌≡◌, ◌∙◌, ◌⊎◌, inl, inr, ap, sym, subst, List, None, Option, Some, Result, Ok, Err, IfSome, MatchResult, ℕ, refl}
 use Rattle.std.specs.Io.KnownBytes.{Appends}
 use Rattle.std.specs.Result.{IsErrAnd}
 use Rattle.hwdb_spec_commands.specs.Databases.{IsNoDatabase}
 use Rattle.hwdb_spec.specs.Format.{IsDatabase}
 use Rattle.hwdb_spec_commands.specs.Refusals.{IsOfCause}
 use Rattle.hwdb_spec_commands.specs.Runs.{AreKept, Files, HasTaken, Told, World}
+use Rattle.hwdb_spec_commands.specs.ScanAsked.{scanned_text}
 use Rattle.hwdb_spec_commands.specs.Streams.{texts_of}
 use Rattle.hwdb_spec.specs.Texts.{devices_of}
 use Rattle.hwdb_spec.specs.Tree.{Tree}
@@ -19,7 +20,7 @@ use Rattle.hwdb_plan.specs.Answers.{streamed}
 use Rattle.hwdb_plan.specs.Dump.{bad_database}
 use Rattle.hwdb_plan.specs.Ended.{Does, Leaves, OnLines, Outs, Prints, ShowsEnd, StreamsTo, outs_of, whole}
 use Rattle.hwdb_plan.specs.Plans.{End, Ends, Follows, Next, Plan}
-use Rattle.hwdb_plan.specs.Plans.End.{Answers, Lines, Replaces, Stops, Streams}
+use Rattle.hwdb_plan.specs.Plans.End.{Answers, Lines, Replaces, Scans, Stops, Streams}
 use Rattle.hwdb_spec_commands.specs.Told.{Reads, Stop, stop_of}
 use Rattle.hwdb_spec_commands.specs.Told.Stop.{Over}
 
@@ -68,6 +69,7 @@ shown_does w p before now result (inl (Stops s, ends, shows)) kept = inl (Stops 
 shown_does w p before now result (inl (Answers status err out, ends, shows)) kept = inl (Answers status err out, ends, (shows, kept))
 shown_does w p before now result (inl (Lines lines, ends, shows)) kept = inl (Lines lines, ends, (shows, kept))
 shown_does w p before now result (inl (Streams text, ends, shows)) kept = inl (Streams text, ends, (shows, kept))
+shown_does w p before now result (inl (Scans path count, ends, shows)) kept = inl (Scans path count, ends, (shows, kept))
 shown_does w p before now result (inl (Replaces folder bytes said status, ends, shows)) kept = absurd shows
 shown_does w p before now result (inr none) kept = inr (none, kept)
 
@@ -140,6 +142,16 @@ leaves_one (Streams text) before now now2 m n tell a b = (
     took then taken =
         subst (λ (o : Option (List ℕ)). Appends o then.out.bytes (text (devices_of tell.input))) tell.of_out
         (subst (λ (o : Option (List ℕ)). OnLines o (λ lines. Appends before.out.bytes then.out.bytes (text lines))) tell.of_input taken)
+leaves_one (Scans path count) before now now2 m n tell a b = (
+  a.0.0.0 ∙ sym b.0.0.0,
+  ap (λ (t : Told). t.bytes) (a.0.1 ∙ sym b.0.1),
+  one_grown tell.out now.out.bytes now2.out.bytes (scanned_text count tell.input) (took now a.0.0.1.taken) (took now2 b.0.0.1.taken),
+)
+  where
+    took : (then : World) → IfSome before.input.bytes (λ bytes. Appends before.out.bytes then.out.bytes (scanned_text count bytes)) → Appends (Some tell.out) then.out.bytes (scanned_text count tell.input)
+    took then taken =
+        subst (λ (o : Option (List ℕ)). Appends o then.out.bytes (scanned_text count tell.input)) tell.of_out
+        (subst (λ (o : Option (List ℕ)). IfSome o (λ bytes. Appends before.out.bytes then.out.bytes (scanned_text count bytes))) tell.of_input taken)
 leaves_one (Replaces folder bytes said status) before now now2 m n tell a b =
     (a.0.0 ∙ sym b.0.0, one_taken tell.err before.err now.err now2.err said tell.of_err a.0.1 b.0.1, ap (λ (t : Told). t.bytes) (a.1 ∙ sym b.1))
 

@@ -20,7 +20,7 @@ use Rattle.hwdb_plan.specs.Folders.{Texts, texts_of_folders}
 use Rattle.hwdb_plan.specs.Lemmas.Folders.{value_stops, value_then}
 use Rattle.hwdb_plan.specs.OverText.{Basis, basis, basis_now, basis_of, from_basis, is_first, said_after, text_plan, with_after}
 use Rattle.hwdb_plan.specs.Plans.{End, Ends, Plan, ReachesValue, over}
-use Rattle.hwdb_plan.specs.Plans.End.{Answers, Lines, Replaces, Stops, Streams}
+use Rattle.hwdb_plan.specs.Plans.End.{Answers, Lines, Replaces, Scans, Stops, Streams}
 use Rattle.hwdb_plan.specs.Plans.Plan.{Compile, Database, Decode, Done, Folder, Ignored, Input, Inspect, Names, Spell, Text}
 use Rattle.hwdb_plan.specs.Sides.{made_of, taken_from}
 use Rattle.hwdb_plan.specs.TextLaws.{MayFollow, SaidIsAfter, SaidIsNoMore, ShowsAfter, WasSaid}
@@ -142,6 +142,8 @@ shows_after text (Lines lines) ib im before middle now first result may shows sa
     none_after text before middle now (λ o r. Shows (Lines lines) ib im before o r) first result may said shows
 shows_after text (Streams of_lines) ib im before middle now first result may shows said =
     none_after text before middle now (λ o r. Shows (Streams of_lines) ib im before o r) first result may said shows
+shows_after text (Scans path count) ib im before middle now first result may shows said =
+    none_after text before middle now (λ o r. Shows (Scans path count) ib im before o r) first result may said shows
 shows_after text (Replaces folder bytes out status) ib im before middle now first result may shows said = absurd shows
 
 -- ---- what is answered from
@@ -177,6 +179,7 @@ none_follows text (Stops s) none = tt
 none_follows text (Answers status err out) none = tt
 none_follows text (Lines lines) none = none
 none_follows text (Streams of_lines) none = none
+none_follows text (Scans path count) none = none
 none_follows text (Replaces folder bytes said status) none = none
 
 -- what the database that is asked gives devices is an answer, or an error

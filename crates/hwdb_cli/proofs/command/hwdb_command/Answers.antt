@@ -16,4 +16,5 @@ returns c =
     let verify = c.with_command-verify.ensures _ _ diff c.command-11.ensures in
     let dump = c.with_command-dump.ensures _ _ verify c.command-12.ensures in
     let status = c.with_command-status.ensures _ _ dump c.command-13.ensures in
-    IfOk-weaker c.with_command.result _ _ (λ r is. is.app) (c.with_command.ensures _ _ status c.command-14.ensures)
+    let keys = c.with_command-keys.ensures _ _ status c.command-14.ensures in
+    IfOk-weaker c.with_command.result _ _ (λ r is. is.app) (c.with_command.ensures _ _ keys c.command-15.ensures)

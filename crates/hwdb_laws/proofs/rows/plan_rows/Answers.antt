@@ -1,4 +1,4 @@
-use Rattle.hwdb_laws.proofs.ComputedPlanRows.{after_rows, baseline_rows, besides_rows, check_rows, device_rows, diff_rows, fresh_rows, input_rows, keys_rows, list_rows, misuse_rows, named_rows, near_rows, none_rows, query_rows, status_rows, sysfs_rows, text_rows, no_update_rows, update_rows}
+use Rattle.hwdb_laws.proofs.ComputedPlanRows.{after_rows, baseline_rows, besides_rows, check_rows, device_rows, diff_rows, fresh_rows, input_rows, keys_rows, list_rows, misuse_rows, named_rows, near_rows, none_rows, query_rows, scan_rows, status_rows, sysfs_rows, text_rows, no_update_rows, update_rows}
 use Rattle.hwdb_laws.proofs.rows.plan_rows.Goals as goal
 
 pub returns : goal.returns
@@ -13,6 +13,7 @@ returns c = record {
   diff = diff_rows;
   fresh = fresh_rows;
   keys = keys_rows;
+  scan = scan_rows;
   none = none_rows;
   text = text_rows;
   misuse = misuse_rows;

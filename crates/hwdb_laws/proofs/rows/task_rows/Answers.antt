@@ -1,4 +1,4 @@
-use Rattle.hwdb_laws.proofs.ComputedTaskRows.{besides_rows, dash_rows, diff_rows, job_rows, named_rows, other_rows, over_rows, plain_rows, read_rows, replaced_rows, status_rows, taken_rows, told_rows}
+use Rattle.hwdb_laws.proofs.ComputedTaskRows.{besides_rows, dash_rows, diff_rows, job_rows, named_rows, other_rows, over_rows, plain_rows, read_rows, replaced_rows, scan_rows, status_rows, taken_rows, told_rows}
 use Rattle.hwdb_laws.proofs.rows.task_rows.Goals as goal
 
 pub returns : goal.returns
@@ -7,6 +7,7 @@ returns c = record {
   dash = dash_rows;
   other = other_rows;
   diff = diff_rows;
+  scan = scan_rows;
   named = named_rows;
   status = status_rows;
   jobs = job_rows;

@@ -21,6 +21,7 @@ use Rattle.hwdb_plan.specs.Input.{OverGiven, OverNamed}
 use Rattle.hwdb_plan.specs.List.{list_plan}
 use Rattle.hwdb_plan.specs.Near.{near_plan}
 use Rattle.hwdb_plan.specs.Plans.{Follows, Plan}
+use Rattle.hwdb_plan.specs.Scan.{scan_plan}
 use Rattle.hwdb_plan.specs.Status.{status_plan}
 use Rattle.hwdb_plan.specs.Test.{test_plan}
 use Rattle.hwdb_plan.specs.Verify.{verify_plan}
@@ -36,6 +37,7 @@ use Rattle.hwdb_tool.proofs.ExplainWords.{explain_planned}
 use Rattle.hwdb_tool.proofs.ListWords.{list_planned}
 use Rattle.hwdb_tool.proofs.NearWords.{near_planned}
 use Rattle.hwdb_tool.proofs.QueryWords.{query_planned}
+use Rattle.hwdb_tool.proofs.ScanWords.{scan_planned}
 use Rattle.hwdb_tool.proofs.StatusWords.{status_planned, update_unplanned}
 use Rattle.hwdb_tool.proofs.TestWords.{test_planned}
 use Rattle.hwdb_tool.proofs.VerifyWords.{verify_planned}
@@ -362,3 +364,21 @@ returns-in-Keys-clause-follows g c = λ tells words asked.
     keys_follow w (sight_by g.D.DeviceFiles.answers c.args.system.now) (told_by g.I.Source.left g.I.Source.failures c.args.input.now) (outs (E c.args.err.now) (O c.args.out.now))
     (outs (E c.printed-in-Keys.new.err) (O c.printed-in-Keys.new.out)) c.printed-in-Keys.result words c.args.job.now asked c.keys.result c.printed-in-Keys.ensures.prints
     c.in-Keys.words c.deref-in-Keys.result.now c.in-Keys.json c.deref-in-Keys.ensures.value c.in-Keys.is (c.keys.ensures.follows w)
+
+pub returns-in-Scan-clause-follows : goal.returns-in-Scan-clause-follows
+returns-in-Scan-clause-follows g c = λ tells words asked.
+    let w = g.D.System.reads c.args.system.now in
+    let sight = sight_by g.D.DeviceFiles.answers c.args.system.now in
+    let I = told_by g.I.Source.left g.I.Source.failures in
+    let O = told_by g.O.Sink.taken g.O.Sink.failures in
+    let err = told_by g.E.Sink.taken g.E.Sink.failures c.args.err.now in
+    let input = I c.args.input.now in
+    let left = I c.scan.new.input in
+    let before = outs err (O c.args.out.now) in
+    let now = outs err (O c.scan.new.out) in
+    let result = c.scan.result in
+    let root = root_of c.args.job.now in
+    of_words w sight input left before now result words c.args.job.now asked
+    (λ word rows is. scan_planned w sight input left before now result root c.args.job.now.strict word rows c.in-Scan.device c.in-Scan.count (subst (λ t. IsTask word rows t) c.in-Scan.is is)
+    (subst (λ (r : List ℕ). ShowsEnd w (scan_plan r (string_bytes c.in-Scan.device) c.in-Scan.count) input left before now result) c.root_of-root.ensures
+    (subst (λ (d : List ℕ). ShowsEnd w (scan_plan c.root_of-root.result.now d c.in-Scan.count) input left before now result) c.as_str-in-Scan.ensures.value (c.scan.ensures.follows w err))))
