@@ -1,8 +1,9 @@
 -- The plan of `check`. Our choice.
 use Rattle.std.specs.Prelude.{◌∷◌, ℕ, Bool, List, [], Option, Result, map}
 use Rattle.hwdb_spec.specs.Folders.{Choice, Source, path_of}
-use Rattle.hwdb_spec_commands.specs.Checks.{check_status, check_text, named, names_nothing, nothing_named, told_tally}
+use Rattle.hwdb_spec_commands.specs.Checks.{named, names_nothing, nothing_named}
 use Rattle.hwdb_spec_commands.specs.OverText.{text_if}
+use Rattle.hwdb_spec_commands.specs.Patches.{said_err, said_out, said_status}
 use Rattle.hwdb_spec_commands.specs.declared.formats.Format.{Format}
 use Rattle.hwdb_spec_commands.specs.declared.unread.Unread.{Unread}
 use Rattle.hwdb_plan.specs.Files.{source_at}
@@ -14,11 +15,11 @@ use Rattle.hwdb_plan.specs.Requests.{Request, told_plan}
 use Rattle.hwdb_plan.specs.Requests.Request.{Alone, Fit, Meant, Over, Texts}
 
 -- What is said of some files, but for kinds that are allowed and findings that are known. Standard input may have a name. The status is 1 if
--- a fault is among it, or `strict` and a warning.
+-- a fault is among it, or `strict` and a warning; with a patch, if there is something to mend.
 abbrev pub said_of : (format : Format) (strict : Bool) (allowed : List (List ℕ)) (name : Option (List ℕ)) (known : List (List ℕ)) → List Source → End
 said_of format strict allowed name known sources =
     let files = map (named name) sources in
-    Answers (check_status strict (told_tally format allowed known files)) [] (check_text format allowed known files)
+    Answers (said_status format strict allowed known files) (said_err format allowed files) (said_out format allowed known files)
 
 -- chosen files with their texts, each by its stored path
 unfoldable pub stored : List Choice → (texts : List (List ℕ)) → List Source

@@ -22,6 +22,7 @@ pub mod Near
 pub mod Diff
 pub mod Check
 pub mod Device
+pub mod Report
 pub mod Put
 pub mod Readable
 pub mod Update

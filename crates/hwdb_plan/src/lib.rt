@@ -18,6 +18,7 @@
 //! | `Answers` | those of `query` and `explain`, also of devices of standard input |
 //! | `List`, `Ask` | those of `list` and `ask` |
 //! | `Device` | that of `device`, over what sysfs shows |
+//! | `Report` | that of `device --from`, over what an export of udev's database tells |
 //! | `Sides` | the bytes of a side of `diff`, as the front of a plan |
 //! | `Diff` | that of `diff`, over two sides |
 //! | `Status` | that of `status`, and the test that two maps say the same |

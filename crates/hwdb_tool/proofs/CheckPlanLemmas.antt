@@ -15,10 +15,10 @@ use Rattle.hwdb_spec.specs.declared.errors.ToolError.TheVariants as error
 use Rattle.hwdb_spec_commands.specs.Baselines.{marks_in, wrong_text}
 use Rattle.hwdb_spec_commands.specs.CheckErrors.{HasLongFile, IsCheckRefusal}
 use Rattle.hwdb_spec_commands.specs.CheckedFiles.{IsChecked}
-use Rattle.hwdb_spec_commands.specs.Checks.{check_status, check_text, named, names_nothing, nothing_named, told_tally}
+use Rattle.hwdb_spec_commands.specs.Checks.{named, names_nothing, nothing_named}
+use Rattle.hwdb_spec_commands.specs.Patches.{said_err, said_out, said_status}
 use Rattle.hwdb_spec_commands.specs.OverText.{text_if}
 use Rattle.hwdb_spec_commands.specs.Refusals.{IsInWords}
-use Rattle.hwdb_spec_commands.specs.Runs.{OnOut}
 use Rattle.hwdb_spec_commands.specs.Told.{IsUnreadAs, Reads, Stop, stop_of}
 use Rattle.hwdb_spec_commands.specs.Told.Stop.{Says}
 use Rattle.hwdb_spec_commands.specs.Undone.{AreNotChecked}
@@ -60,14 +60,14 @@ files_stored (c ∷ chosen) (text ∷ texts) (f ∷ files) named held =
 module _ (w : Reads) (format : Format) (strict : Bool) (allowed : List (List ℕ)) (name : Option (List ℕ)) (known : List (List ℕ)) (sources : List Source) where
   -- they are looked over, which only want of memory can stop
   pub checked_ends : All (λ (s : Source). length s.bytes ≤ max_file) sources → (result : Result Answer Refusal)
-      → IfOk result (λ a. OnOut (λ text. IsChecked (λ some. some ≡ sources) format strict allowed known name text a.status) (texts_in a)) → IfErr result (AreNotChecked (λ some. some ≡ sources))
+      → IfOk result (λ a. IsChecked (λ some. some ≡ sources) format strict allowed known name (texts_in a) a.status) → IfErr result (AreNotChecked (λ some. some ≡ sources))
       → Follows end_of w (Done (said_of format strict allowed name known sources)) result
   unfolding Ends
   checked_ends short (Ok a) checked not =
-      let err : a.err.items ≡ [] = checked.0 in
-      let out : a.out.items ≡ check_text format allowed known (map (named name) sources) = checked.1.is ∙ ap (λ (l : List Source). check_text format allowed known (map (named name) l)) checked.1.are in
-      let status : a.status ≡ check_status strict (told_tally format allowed known (map (named name) sources)) = checked.1.says
-      ∙ ap (λ (l : List Source). check_status strict (told_tally format allowed known (map (named name) l))) checked.1.are in
+      let err : a.err.items ≡ said_err format allowed (map (named name) sources) = checked.err ∙ ap (λ (l : List Source). said_err format allowed (map (named name) l)) checked.are in
+      let out : a.out.items ≡ said_out format allowed known (map (named name) sources) = checked.out ∙ ap (λ (l : List Source). said_out format allowed known (map (named name) l)) checked.are in
+      let status : a.status ≡ said_status format strict allowed known (map (named name) sources) = checked.says
+      ∙ ap (λ (l : List Source). said_status format strict allowed known (map (named name) l)) checked.are in
       cc
   checked_ends short (Err r) checked not = by not.error not.is not.refused
     where

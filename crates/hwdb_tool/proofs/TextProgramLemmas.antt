@@ -98,9 +98,9 @@ taker_found (Near files device limit json) word rows is takes =
       subst (λ (n : Text). Found n rows ≡ Some (codes "near", TakerOf (Near files device limit json))) (sym is.0)
           (subst (λ (n : ℕ). Found (codes "near") rows ≡ Some (codes "near", taker (text_if (not (n == 0)) (codes "--text and FILE are two sources: leave out one of them")))) long refl),
     )
-taker_found (Device path strings json pattern all) word rows is takes = (
+taker_found (Device path strings json pattern all from) word rows is takes = (
   codes "device",
-  subst (λ (n : Text). Found n rows ≡ Some (codes "device", TakerOf (Device path strings json pattern all))) (sym is.0)
+  subst (λ (n : Text). Found n rows ≡ Some (codes "device", TakerOf (Device path strings json pattern all from))) (sym is.0)
       (subst (λ (b : Bool). Found (codes "device") rows ≡ Some (codes "device", taker (text_if (not (b || all)) (codes "--text needs DEVICE or --all: a list of devices asks no database"))))
       (ap is_some (sym is.1) ∙ same_some string_bytes path)
       (subst (λ (b : Bool). Found (codes "device") rows ≡ Some (codes "device", taker (text_if (not (is_some (first_of (codes "DEVICE") rows) || b)) (codes "--text needs DEVICE or --all: a list of devices asks no database"))))

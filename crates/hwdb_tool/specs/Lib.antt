@@ -11,3 +11,4 @@ pub mod Reloading
 pub mod Crash
 pub mod Failures
 pub mod Updating
+pub mod Reported

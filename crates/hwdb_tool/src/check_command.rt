@@ -1,7 +1,6 @@
 //! `check`: text files that are read and looked over. Nothing is written.
 ghost use Rattle.std.specs.Prelude.{◌≡◌, ◌≤◌, ◌==◌, All, List, [], true, false, map, option_map, string_bytes, Some, IfOk, IfErr, IfNone, IfSome, length};
 ghost use Rattle.hwdb_check.specs.Checks.{source_of};
-ghost use Rattle.hwdb_spec_commands.specs.Runs.{OnOut};
 ghost use Rattle.hwdb_spec_commands.specs.Checks.{names_nothing, nothing_named};
 ghost use Rattle.hwdb_spec_commands.specs.Refusals.{IsInWords};
 ghost use Rattle.hwdb_spec.specs.Folders.{Source, path_of};
@@ -24,7 +23,7 @@ use crate::answer::Answer;
 use crate::given::{any_dash, bytes_given, input_text};
 use crate::given_folders::named_files;
 use hwdb_answers::ToolError;
-use hwdb_check::{BaselineFault, Telling, TextFile, check_files, marks_in, wrong_text};
+use hwdb_check::{BaselineFault, Telling, TextFile, marks_in, say_files, wrong_text};
 use hwdb_io::Source;
 use hwdb_spec_commands::Format;
 use hwdb_system::{Refusal, System, selected};
@@ -33,7 +32,7 @@ use std::alloc::{AllocError, Global};
 
 /// What is wrong in the given text files, in this format, and without the kinds of warnings that are allowed. `-` is what `input`
 /// has left, and a folder is the text files in it. If none is given, both folders below the root are checked. The status is 1 if
-/// there is a fault, or `strict` and a warning, else 0.
+/// there is a fault, or `strict` and a warning, else 0; with a patch, if there is something to mend.
 pub fn check<D: System, I: Source>(
     alloc: Global,
     root: &str,
@@ -145,10 +144,10 @@ fn check_read(
     allowed: &[String],
     strict: bool,
 ) -> Result<Answer, Refusal>
-    ensures checked { IfOk result (λ a. OnOut (λ text. IsChecked
+    ensures checked { IfOk result (λ a. IsChecked
         (λ sources. sources ≡ map source_of files.now) format strict
         (map string_bytes allowed.now) (map (λ t. t.items) known.now)
-        (option_map (λ t. t.now) name.entry) text a.status) (texts_in a)) }
+        (option_map (λ t. t.now) name.entry) (texts_in a) a.status) }
     ensures refused { IfErr result
         (AreNotChecked (λ sources. sources ≡ map source_of files.now)) }
 {
@@ -158,8 +157,8 @@ fn check_read(
         known,
         name,
     };
-    match check_files(alloc, &telling, files, strict) {
-        Ok(checked) => Ok(Answer::new(alloc, checked.text, checked.status)),
+    match say_files(alloc, &telling, files, strict) {
+        Ok(said) => Ok(Answer::with_error(said.err, said.out, said.status)),
         Err(error) => Err(Refusal::from(ToolError::from(error))),
     }
 }

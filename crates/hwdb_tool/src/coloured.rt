@@ -173,8 +173,12 @@ pub fn kind_of(task: &Task) -> TextKind {
         Task::Query { json: false, .. } | Task::Ask { .. } => TextKind::Properties,
         Task::Explain { json: false, .. } => TextKind::Origins,
         Task::List { json: false, .. } => TextKind::Hits,
-        Task::Check { json: false, .. } | Task::Near { json: false, .. } => TextKind::Reports,
-        Task::Test { json: false, .. } => TextKind::Reports,
+        Task::Check {
+            json: false,
+            diff: false,
+            ..
+        } => TextKind::Reports,
+        Task::Near { json: false, .. } | Task::Test { json: false, .. } => TextKind::Reports,
         Task::Diff {
             devices,
             json: false,

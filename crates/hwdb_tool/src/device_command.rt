@@ -83,7 +83,11 @@ fn listed<D: Machine>(alloc: Global, root: &str, system: &D) -> Result<Answer, R
 }
 
 /// The lines of all devices.
-fn list_text<F: DeviceFiles>(alloc: Global, sys: &[u8], files: &F) -> Result<Vec<u8>, AllocError>
+pub(crate) fn list_text<F: DeviceFiles>(
+    alloc: Global,
+    sys: &[u8],
+    files: &F,
+) -> Result<Vec<u8>, AllocError>
     ensures { F.tells → IfOk result (λ text. text.items
         ≡ device_list (sight_by F.answers files.now) asked_names sys.now) }
 {
@@ -222,7 +226,7 @@ fn answered<D: System>(
 }
 
 /// The same over the bytes of a database.
-fn text_over(
+pub(crate) fn text_over(
     alloc: Global,
     bytes: &[u8],
     device: &Device,

@@ -23,7 +23,6 @@ use crate::check_command::check_as_asked;
 use crate::device_command::device_form;
 use crate::diff_command::diff;
 use crate::dump_command::dump;
-use crate::every_device::devices;
 use crate::hiding::update_telling;
 use crate::keys_command::keys;
 use crate::near_command::near;
@@ -31,12 +30,13 @@ use crate::outlet::Outlet;
 use crate::over_text::{asks_text, run_over_text};
 use crate::printing::printed;
 use crate::query_command::query;
+use crate::reported::{Wanted, devices_from};
 use crate::scan_command::scan;
 use crate::status_command::status;
 use crate::test_command::test;
 use crate::verify_command::verify;
 use hwdb_answers::ToolError;
-use hwdb_check::format_of;
+use hwdb_check::format_asked;
 use hwdb_cli::{Job, Task, WordsFault, read_words};
 use hwdb_io::{Sink, Source, write_text};
 use hwdb_system::{Machine, Refusal, Rooted, refuse_for, refuse_memory};
@@ -319,10 +319,11 @@ pub fn run<D: Machine, I: Source, O: Sink, E: Sink>(
             allowed,
             json,
             format,
+            diff,
             name,
             baseline,
         } => {
-            let form = format_of(*json, format);
+            let form = format_asked(*diff, *json, format);
             let name = text_of(name);
             let known = text_of(baseline);
             let strict = job.strict;
@@ -356,10 +357,18 @@ pub fn run<D: Machine, I: Source, O: Sink, E: Sink>(
             json,
             pattern,
             all,
+            from,
         } => {
             let form = device_form(*strings, *json, *pattern);
             let given = text_of(path);
-            let answer = devices(alloc, root, given, form, *all, system);
+            let wanted = Wanted {
+                root,
+                given,
+                form,
+                all: *all,
+            };
+            let named = text_of(from);
+            let answer = devices_from(alloc, named, wanted, system, input);
             printed(answer, out, err)
         }
         Task::Diff {

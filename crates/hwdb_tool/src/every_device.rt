@@ -25,7 +25,7 @@ use hwdb_system::{Machine, Refusal};
 use std::alloc::Global;
 
 /// What is said of `--all`, if it is given with a device or without `--strings`.
-fn all_misuse(form: DeviceForm, given: Option<&str>) -> Option<&'static str>
+pub(crate) fn all_misuse(form: DeviceForm, given: Option<&str>) -> Option<&'static str>
     ensures { option_map (λ t. t.now) result
         ≡ plan.all_misuse form (option_map (λ t. t.now) given.entry) }
 {
@@ -113,7 +113,7 @@ fn strings_answer<D: Machine>(
 }
 
 /// The same over the bytes of a database.
-fn strings_over<F: DeviceFiles>(
+pub(crate) fn strings_over<F: DeviceFiles>(
     alloc: Global,
     bytes: &[u8],
     sys: &[u8],

@@ -17,6 +17,7 @@
 //! | `near_command` | `near` |
 //! | `device_command` | `device`; `missing`: what is said if there is no sysfs, or no such device |
 //! | `every_device` | `device --all` |
+//! | `reported` | `device --from`: an export of udev's database in place of sysfs |
 //! | `diff_command` | `diff` |
 //! | `verify_command` | `verify`; `verdicts`: its words on bytes that are no database |
 //! | `dump_command` | `dump` |
@@ -65,6 +66,7 @@ mod printing;
 mod progress;
 mod query_command;
 mod reloading;
+mod reported;
 mod scan_command;
 mod sides;
 mod status_command;
@@ -87,7 +89,7 @@ pub use failures::{counts_tell_failures, faultless_words_begin, faulty_update_le
 pub use hiding::update_telling;
 pub use hwdb_answers::{ToolError, ask, run_list, run_query, run_update};
 pub use hwdb_check::KINDS;
-pub use hwdb_cli::{Job, Task, WordsFault, format_fault, kind_fault, read_words};
+pub use hwdb_cli::{Job, Task, WordsFault, diff_fault, format_fault, kind_fault, read_words};
 pub use hwdb_io::{
     Cause, DeviceFailed, FromRead, Sink, Source, ToWrite, read_all, testing, write_text,
 };

@@ -125,7 +125,7 @@ fn place_else<F: DeviceFiles>(
 
 /// The places of the devices that are meant, if no whole name is one's for this reason. There are none if what would tell of a whole name
 /// can't be read.
-fn places_else<F: DeviceFiles>(
+pub(crate) fn places_else<F: DeviceFiles>(
     alloc: Global,
     sys: &[u8],
     given: &[u8],
@@ -147,7 +147,7 @@ fn places_else<F: DeviceFiles>(
 }
 
 /// What is said of several devices.
-fn several<F: DeviceFiles>(
+pub(crate) fn several<F: DeviceFiles>(
     alloc: Global,
     sys: &[u8],
     given: &[u8],
@@ -231,7 +231,7 @@ fn not_there<F: DeviceFiles>(alloc: Global, sys: &[u8], given: &[u8], files: &F)
 }
 
 /// What is said of what was given: whether it leads nowhere, why, and what is near.
-fn no_device<F: DeviceFiles>(
+pub(crate) fn no_device<F: DeviceFiles>(
     alloc: Global,
     sys: &[u8],
     given: &[u8],

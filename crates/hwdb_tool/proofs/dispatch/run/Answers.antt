@@ -6,14 +6,12 @@ use Rattle.hwdb_spec_commands.specs.Runs.{files_by, told_by}
 use Rattle.hwdb_spec_commands.specs.NearAsked.{near_form, near_limit}
 use Rattle.hwdb_spec_commands.specs.SysfsAnswers.{sight_by}
 use Rattle.hwdb_spec_commands.specs.DeviceAsked.{device_form}
-use Rattle.hwdb_spec_program.specs.DeviceErrors.{asked_names}
 use Rattle.hwdb_spec_program.specs.Program.{reads_input, root_of}
+use Rattle.hwdb_tool.specs.Reported.{FollowsFrom}
 use Rattle.hwdb_tool.specs.Views.{end_of}
 use Rattle.hwdb_tool.proofs.KeyLemmas.{keys_follow}
 use Rattle.hwdb_plan.specs.Answers.{explain_plan, query_plan}
 use Rattle.hwdb_plan.specs.Ask.{ask_plan}
-use Rattle.hwdb_plan.specs.Device.{device_asked}
-use Rattle.hwdb_plan.specs.Sysfs.{OfCause}
 use Rattle.hwdb_plan.specs.Dump.{dump_plan}
 use Rattle.hwdb_plan.specs.Ended.{ShowsEnd, outs}
 use Rattle.hwdb_plan.specs.Files.{OfInput}
@@ -194,7 +192,7 @@ returns-in-Check-clause-follows g c = λ tells words asked.
     let result = c.printed-in-Check.result in
     let root = root_of c.args.job.now in
     let strict = c.args.job.now.strict in
-    let form = c.format_of-form.result in
+    let form = c.format_asked-form.result in
     let files = map string_bytes c.deref-in-Check.result.now in
     let kinds = map string_bytes c.deref-in-Check-2.result.now in
     let name = option_map (λ t. t.now) c.text_of-name.result in
@@ -206,9 +204,9 @@ returns-in-Check-clause-follows g c = λ tells words asked.
     let answer = c.check_as_asked-answer.result in
     let Told = λ (is : Result (List ℕ) Unread → Plan). OfInput input.bytes input.failures left.failures (λ told. Follows end_of w (is told) answer) in
     of_words w sight input left before now result words c.args.job.now asked
-    (λ word rows is. check_planned w sight input left before now result root strict word rows answer c.printed-in-Check.ensures.prints c.in-Check.files c.in-Check.allowed c.in-Check.json c.in-Check.format c.in-Check.name
+    (λ word rows is. check_planned w sight input left before now result root strict word rows answer c.printed-in-Check.ensures.prints c.in-Check.files c.in-Check.allowed c.in-Check.json c.in-Check.format c.in-Check.diff c.in-Check.name
     c.in-Check.baseline (subst (λ t. IsTask word rows t) c.in-Check.is is)
-    (subst (λ (f : Format). Told (λ told. check_as told root strict files2 name2 known2 f kinds2)) c.format_of-form.ensures
+    (subst (λ (f : Format). Told (λ told. check_as told root strict files2 name2 known2 f kinds2)) c.format_asked-form.ensures
     (subst (λ (fs : List (String Global)). Told (λ told. check_as told root strict (map string_bytes fs) name2 known2 form kinds2)) c.deref-in-Check.ensures.value
     (subst (λ (n : Option (List ℕ)). Told (λ told. check_as told root strict files n known2 form kinds2)) c.text_of-name.ensures
     (subst (λ (b : Option (List ℕ)). Told (λ told. check_as told root strict files name b form kinds2)) c.text_of-known.ensures
@@ -263,6 +261,10 @@ returns-in-Test-clause-follows g c = λ tells words asked.
     (subst (λ (d : Option (List ℕ)). OfInput input.bytes input.failures left.failures (λ told. Follows end_of w (test_plan told (map string_bytes files) d root json) answer)) c.text_of-database.ensures
     (subst (λ (r : List ℕ). OfInput input.bytes input.failures left.failures (λ told. Follows end_of w (test_plan told (map string_bytes files) database r json) answer)) c.root_of-root.ensures (c.test-answer.ensures.follows tells)))))
 
+pub returns-in-Device-clause-unread : goal.returns-in-Device-clause-unread
+returns-in-Device-clause-unread g c = λ none.
+    c.devices_from-answer.ensures.unread (subst (λ d. names_input d ≡ false) (sym c.text_of-named.ensures) (subst (λ t. reads_input t ≡ false) c.in-Device.is none))
+
 pub returns-in-Device-clause-follows : goal.returns-in-Device-clause-follows
 returns-in-Device-clause-follows g c = λ tells words asked.
     let w = g.D.System.reads c.args.system.now in
@@ -271,19 +273,24 @@ returns-in-Device-clause-follows g c = λ tells words asked.
     let O = told_by g.O.Sink.taken g.O.Sink.failures in
     let E = told_by g.E.Sink.taken g.E.Sink.failures in
     let input = I c.args.input.now in
+    let left = I c.devices_from-answer.new.input in
     let before = outs (E c.args.err.now) (O c.args.out.now) in
     let now = outs (E c.printed-in-Device.new.err) (O c.printed-in-Device.new.out) in
     let result = c.printed-in-Device.result in
     let root = root_of c.args.job.now in
     let path = option_map (λ t. t.now) c.text_of-given.result in
+    let named = option_map string_bytes c.in-Device.from in
     let form = device_form c.in-Device.strings c.in-Device.json c.in-Device.pattern in
     let all = c.in-Device.all in
-    let answer = c.devices-answer.result in
-    of_words w sight input input before now result words c.args.job.now asked
-    (λ word rows is. device_planned w sight input input before now result root c.args.job.now.strict word rows answer c.printed-in-Device.ensures.prints c.in-Device.path c.in-Device.strings c.in-Device.json c.in-Device.pattern all (subst (λ t. IsTask word rows t) c.in-Device.is is)
-    (subst (λ (p : Option (List ℕ)). OfCause (λ cause. Follows end_of w (device_asked sight cause asked_names root form all p) answer)) c.text_of-given.ensures
-    (subst (λ (k : DeviceForm). OfCause (λ cause. Follows end_of w (device_asked sight cause asked_names root k all path) answer)) c.device_form-form.ensures
-    (subst (λ (r : List ℕ). OfCause (λ cause. Follows end_of w (device_asked sight cause asked_names r c.device_form-form.result all path) answer)) c.root_of-root.ensures (c.devices-answer.ensures.follows tells)))))
+    let answer = c.devices_from-answer.result in
+    let Follows_ = λ (f : Option (List ℕ)) (r : List ℕ) (k : DeviceForm) (p : Option (List ℕ)). FollowsFrom f r k all p sight w input.bytes input.failures left.failures answer in
+    of_words w sight input left before now result words c.args.job.now asked
+    (λ word rows is. device_planned w sight input left before now result root c.args.job.now.strict word rows answer c.printed-in-Device.ensures.prints c.in-Device.path c.in-Device.strings c.in-Device.json c.in-Device.pattern all
+    c.in-Device.from (subst (λ t. IsTask word rows t) c.in-Device.is is)
+    (subst (λ (p : Option (List ℕ)). Follows_ named root form p) c.text_of-given.ensures
+    (subst (λ (k : DeviceForm). Follows_ named root k path) c.device_form-form.ensures
+    (subst (λ (r : List ℕ). Follows_ named r c.device_form-form.result path) c.root_of-root.ensures
+    (subst (λ (f : Option (List ℕ)). Follows_ f c.root_of-root.result.now c.device_form-form.result path) c.text_of-named.ensures (c.devices_from-answer.ensures.follows tells))))))
 
 pub returns-in-Diff-clause-follows : goal.returns-in-Diff-clause-follows
 returns-in-Diff-clause-follows g c = λ tells words asked.

@@ -1,0 +1,4 @@
+pub mod Views
+pub mod Internal
+pub mod Reports
+pub mod Rows
