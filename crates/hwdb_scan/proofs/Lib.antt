@@ -1,3 +1,4 @@
 pub mod PieceLemmas
 pub mod ComputedRows
 pub mod ScanningLemmas
+pub mod EnoughLemmas

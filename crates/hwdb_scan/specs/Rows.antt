@@ -112,13 +112,14 @@ PathRows =
     ≡ Some (codes "/r/dev/input/event4") ∷ Some (codes "/r/dev/input/event4") ∷ Some (codes "/r/./keys") ∷ None ∷ [])
     × (map scanned_name (Some (codes "/f") ∷ None ∷ []) ≡ codes "/f" ∷ codes "standard input" ∷ [])
 
--- what is said, with what to do: of EACCES, EPERM and ENOENT. Of ENODEV, of want of memory and without a cause there is nothing to do.
+-- what is said, with what to do: of EACCES, EPERM, ENOENT and EISDIR. Of ENODEV, of want of memory and without a cause there is nothing to do.
 abbrev pub SaidRows : Type 0
 SaidRows =
-    map (λ cause. unscanned_text (codes "/dev/input/event4") cause (codes "w")) (Some (System (pos 13)) ∷ Some (System (pos 1)) ∷ Some (System (pos 2)) ∷ Some (System (pos 19)) ∷ Some Memory ∷ None ∷ [])
+    map (λ cause. unscanned_text (codes "/dev/input/event4") cause (codes "w")) (Some (System (pos 13)) ∷ Some (System (pos 1)) ∷ Some (System (pos 2)) ∷ Some (System (pos 21)) ∷ Some (System (pos 19)) ∷ Some Memory ∷ None ∷ [])
     ≡ codes "cannot read /dev/input/event4: w; run it as root: sudo hwdb scan /dev/input/event4"
     ∷ codes "cannot read /dev/input/event4: w; run it as root: sudo hwdb scan /dev/input/event4"
-    ∷ codes "cannot read /dev/input/event4: w; 'hwdb device' lists the devices" ∷ codes "cannot read /dev/input/event4: w" ∷ codes "cannot read /dev/input/event4: w"
+    ∷ codes "cannot read /dev/input/event4: w; 'hwdb device' lists the devices"
+    ∷ codes "cannot read /dev/input/event4: w; give a device in it, as event4: 'hwdb device' lists them" ∷ codes "cannot read /dev/input/event4: w" ∷ codes "cannot read /dev/input/event4: w"
     ∷ codes "cannot read /dev/input/event4" ∷ []
 
 -- what is printed of all bytes that are there, if they are no more than may be read

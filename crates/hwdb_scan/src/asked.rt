@@ -10,12 +10,14 @@ use hwdb_show::{push_name, push_word};
 use hwdb_text::begins_with;
 use std::alloc::{AllocError, Global};
 
-/// The numbers of errors that say that a file may not be read, or isn't there (errno, on Linux).
+/// The numbers of errors that say that a file may not be read, isn't there, or is a folder (errno, on Linux).
 const NOT_PERMITTED: i32 = 1;
 
 const NO_ENTRY: i32 = 2;
 
 const NO_ACCESS: i32 = 13;
+
+const IS_FOLDER: i32 = 21;
 
 /// Whether a text has a `/`.
 fn has_slash(text: &[u8]) -> bool
@@ -84,6 +86,16 @@ fn is_missing(cause: Cause) -> bool
     }
 }
 
+/// Whether it is that a folder is there.
+fn is_of_folder(cause: Cause) -> bool
+    ensures { result ≡ spec.is_of_folder cause }
+{
+    match cause {
+        Cause::System(IS_FOLDER) => true,
+        _ => false,
+    }
+}
+
 /// Adds the command that reads a path as root.
 fn push_command(text: &mut Vec<u8>, path: &[u8]) -> Result<(), AllocError>
     ensures { OnOk result (text.new.items
@@ -103,6 +115,10 @@ fn push_advice(text: &mut Vec<u8>, path: &[u8], cause: Cause) -> Result<(), Allo
     }
     if is_missing(cause) {
         text.extend_from_slice(b"; 'hwdb device' lists the devices")?;
+        return Ok(());
+    }
+    if is_of_folder(cause) {
+        text.extend_from_slice(b"; give a device in it, as event4: 'hwdb device' lists them")?;
     }
     Ok(())
 }

@@ -4,6 +4,7 @@ ghost use Rattle.std.specs.Prelude.{◌≡◌, ◌-◌, ◌≤◌, ◌<◌, ◌�
 ghost use Rattle.hwdb_spec.specs.Failures.{CountsFailures};
 ghost use Rattle.hwdb_spec.specs.Flushing.{HandsOn};
 ghost use Rattle.hwdb_spec.specs.Outputs.{CutShort, FailedOnly, Took};
+ghost use Rattle.hwdb_scan.specs.Enough.{IsNoMoreRead, IsOnePiece, WentOn};
 ghost use Rattle.hwdb_scan.specs.Internal.{IsScanning, IsStoppedBy};
 ghost use Rattle.hwdb_scan.specs.Scanning.{IsScanError, IsScanned};
 ghost use Rattle.hwdb_scan.specs.Views.{after_bytes, bytes_text, scanning_of};
@@ -100,19 +101,15 @@ fn scan_once<I: Source, O: Sink>(
     out: &mut O,
 ) -> Result<u64, ToolError>
     requires room { 0 < room }
-    ensures within { IfOk result (λ n. n ≤ room) }
-    ensures end { IfOk result (λ n. n ≡ 0 → IsAtEnd (I.left input.new)) }
-    ensures went { IfOk result (λ n. (most : ℕ) (count : Option ℕ) (left taken : Option (List ℕ))
-        → IsScanning most count left (I.left input.old) taken (O.taken out.old)
-        (scanning_of scanner.old) room
-        → IsScanning most count left (I.left input.new) taken (O.taken out.new)
-        (scanning_of scanner.new) (room - n)) }
-    ensures stopped { IfErr result (λ e. (most : ℕ) (count : Option ℕ)
+    ensures went { IfOk result (λ n. WentOn room n (I.left input.old) (I.left input.new)
+        (O.taken out.old) (O.taken out.new) (scanning_of scanner.old) (scanning_of scanner.new)) }
+    ensures stopped { IfErr result (λ e. IsScanError e × ((most : ℕ) (count : Option ℕ)
         (left taken : Option (List ℕ)) → IsScanning most count left (I.left input.old)
         taken (O.taken out.old) (scanning_of scanner.old) room
         → IfSome left (λ bytes.
-        IsStoppedBy most count bytes (I.left input.new) taken (O.taken out.new) e)) }
-    ensures errors { IfErr result IsScanError }
+        IsStoppedBy most count bytes (I.left input.new) taken (O.taken out.new) e))) }
+    ensures piece { IsOnePiece (I.left input.old) (I.left input.new)
+        (scanning_of scanner.old) (scanning_of scanner.new) result }
     ensures reads { FailedOnly ToolError.Read result (I.failures input.old) (I.failures input.new) }
     ensures writes { FailedOnly ToolError.Write result (O.failures out.old) (O.failures out.new) }
     ensures flushed { OnOk result (O.is_flushed out.old → O.is_flushed out.new) }
@@ -131,7 +128,8 @@ fn scan_once<I: Source, O: Sink>(
 }
 
 /// Reads events of an input device up to the source's end, and prints the line of each key that is pressed as soon as its bytes are
-/// read. With a count it ends after so many keys. No more than 2^64 - 1 bytes are read.
+/// read. With a count it ends after so many keys, and no more is read then: a read brings at most 65,536 bytes. No more than 2^64 - 1 bytes
+/// are read.
 ///
 /// Errors are a failed read, before which the lines of all that was read were printed; a failed write, before which a prefix of all lines
 /// was; and memory, before which those of the first bytes were. Memory doesn't grow with the events.
@@ -143,6 +141,7 @@ pub fn run_scan<I: Source, O: Sink>(
 ) -> Result<(), ToolError>
     ensures scanned { IfSome (I.left input.old) (λ bytes. IsScanned count bytes
         (I.left input.new) (O.taken out.old) (O.taken out.new) result) }
+    ensures enough { IsNoMoreRead count (I.left input.old) (I.left input.new) }
     ensures errors { IfErr result IsScanError }
     ensures reads { FailedOnly ToolError.Read result (I.failures input.old) (I.failures input.new) }
     ensures writes { FailedOnly ToolError.Write result (O.failures out.old) (O.failures out.new) }
