@@ -4,9 +4,9 @@ ghost use Rattle.clap.specs.Walk.{rows_of};
 ghost use Rattle.clap.specs.Matches.{found_of};
 ghost use Rattle.hwdb_cli.specs.Drafts.{IsArgument, IsDraft};
 ghost use Rattle.hwdb_spec_commands.specs.Jobs.{IsTask};
-ghost use Rattle.hwdb_spec_commands.specs.CommandLine.{allow_rule, baseline_rule, check_app, format_rule, name_rule};
+ghost use Rattle.hwdb_spec_commands.specs.CommandLine.{allow_rule, baseline_rule, check_app, diff_rule, format_rule, name_rule};
 
-use crate::drafts::{Draft, json_option, option, shared, with_argument, word};
+use crate::drafts::{Draft, flag, json_option, option, shared, with_argument, word};
 use crate::matched::{any_values_of, copied, has_flag, text_of};
 use clap::{Arg, ArgAction, ArgMatches};
 use hwdb_spec_commands::Task;
@@ -20,7 +20,7 @@ const ABOUT: &str = "Says what is wrong in text files, or hardly meant, and writ
 
 /// What help ends with.
 const AFTER: &str =
-    "Exit status: 0 if nothing is wrong; 1 if there is a fault, with --strict also if there is a warning; 2 on errors.\nExample: hwdb check 60-keyboard.hwdb";
+    "Exit status: 0 if nothing is wrong; 1 if there is a fault, with --strict also if there is a warning; with --diff 1 if something can be mended; 2 on errors.\nExample: hwdb check 60-keyboard.hwdb";
 
 /// The command.
 pub fn command<'a>(alloc: Global) -> Draft<'a>
@@ -32,7 +32,8 @@ pub fn command<'a>(alloc: Global) -> Draft<'a>
     let with_allow = with_argument(command, allow_option(alloc));
     let with_baseline = with_argument(with_allow, baseline_option(alloc));
     let with_name = with_argument(with_baseline, name_option(alloc));
-    let with_format = with_argument(with_name, format_option(alloc));
+    let with_diff = with_argument(with_name, diff_option(alloc));
+    let with_format = with_argument(with_diff, format_option(alloc));
     let with_json = with_argument(with_format, json_option(alloc));
     with_argument(with_json, word(alloc, "FILE", help, ArgAction::Append))
 }
@@ -62,6 +63,14 @@ fn name_option<'a>(alloc: Global) -> Arg<'a>
     option(alloc, "name", "NAME", help)
 }
 
+/// `--diff`.
+fn diff_option<'a>(alloc: Global) -> Arg<'a>
+    ensures { IsArgument diff_rule result }
+{
+    let help = "Print a patch of all sure mends instead, as patch -p0 and git apply -p0 take it";
+    flag(alloc, "diff", help)
+}
+
 /// `--format`.
 fn format_option<'a>(alloc: Global) -> Arg<'a>
     ensures { IsArgument format_rule result }
@@ -78,6 +87,7 @@ pub fn task(alloc: Global, inner: &ArgMatches<'_>) -> Result<Task, AllocError>
     let files = any_values_of(alloc, inner, "FILE")?;
     let allowed = any_values_of(alloc, inner, "allow")?;
     let json = has_flag(inner, "json");
+    let diff = has_flag(inner, "diff");
     let format = copied(alloc, text_of(inner, "format"))?;
     let name = copied(alloc, text_of(inner, "name"))?;
     let baseline = copied(alloc, text_of(inner, "baseline"))?;
@@ -86,6 +96,7 @@ pub fn task(alloc: Global, inner: &ArgMatches<'_>) -> Result<Task, AllocError>
         allowed,
         json,
         format,
+        diff,
         name,
         baseline,
     })

@@ -2,13 +2,13 @@
 ghost use Rattle.std.specs.Prelude.{IfOk, codes};
 ghost use Rattle.clap.specs.Walk.{rows_of};
 ghost use Rattle.clap.specs.Matches.{found_of};
-ghost use Rattle.hwdb_cli.specs.Drafts.{IsDraft};
+ghost use Rattle.hwdb_cli.specs.Drafts.{IsArgument, IsDraft};
 ghost use Rattle.hwdb_spec_commands.specs.Jobs.{IsTask};
-ghost use Rattle.hwdb_spec_commands.specs.CommandLine.{device_app};
+ghost use Rattle.hwdb_spec_commands.specs.CommandLine.{device_app, from_rule};
 
-use crate::drafts::{Draft, flag, json_option, shared, text_option, with_argument, word};
+use crate::drafts::{Draft, flag, json_option, option, shared, text_option, with_argument, word};
 use crate::matched::{copied, has_flag, text_of};
-use clap::{ArgAction, ArgMatches};
+use clap::{Arg, ArgAction, ArgMatches};
 use hwdb_spec_commands::Task;
 use std::alloc::{AllocError, Global};
 
@@ -33,12 +33,22 @@ pub fn command<'a>(alloc: Global) -> Draft<'a>
     let path = "A device: its name, as event3, its ids, as 046d:c31c, a part of what it is called, \
         its node below /dev, or its path below /sys";
     let command = shared(alloc, "device", ABOUT, AFTER);
-    let with_text = with_argument(command, text_option(alloc));
+    let with_from = with_argument(command, from_option(alloc));
+    let with_text = with_argument(with_from, text_option(alloc));
     let with_strings = with_argument(with_text, flag(alloc, "strings", strings));
     let with_json = with_argument(with_strings, json_option(alloc));
     let with_pattern = with_argument(with_json, flag(alloc, "pattern", pattern));
     let with_all = with_argument(with_pattern, flag(alloc, "all", all));
     with_argument(with_all, word(alloc, "DEVICE", path, ArgAction::Set))
+}
+
+/// `--from`.
+fn from_option<'a>(alloc: Global) -> Arg<'a>
+    ensures { IsArgument from_rule result }
+{
+    let help =
+        "Take devices from a file in place of sysfs: what 'udevadm info --export-db' printed; - for standard input";
+    option(alloc, "from", "FILE", help)
 }
 
 /// The task of `device`.
@@ -50,11 +60,13 @@ pub fn task(alloc: Global, inner: &ArgMatches<'_>) -> Result<Task, AllocError>
     let json = has_flag(inner, "json");
     let pattern = has_flag(inner, "pattern");
     let all = has_flag(inner, "all");
+    let from = copied(alloc, text_of(inner, "from"))?;
     Ok(Task::Device {
         path,
         strings,
         json,
         pattern,
         all,
+        from,
     })
 }

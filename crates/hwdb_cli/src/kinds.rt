@@ -89,6 +89,31 @@ pub fn kind_fault(alloc: Global, task: &Task, kinds: &str) -> Result<Option<Stri
     Ok(None)
 }
 
+/// What is said of words beside `--diff` that say how findings are told. None if there are none, or the task has no `--diff`.
+///
+/// The only error is want of memory.
+pub fn diff_fault(alloc: Global, task: &Task) -> Result<Option<String>, AllocError> {
+    let Task::Check {
+        diff: true,
+        json,
+        format,
+        baseline,
+        ..
+    } = task
+    else {
+        return Ok(None);
+    };
+    if !*json && format.is_none() && baseline.is_none() {
+        return Ok(None);
+    }
+    let mut text = String::new(alloc);
+    text.push_str(
+        "error: --diff tells no findings: leave out --json, --format and --baseline\n\n",
+    )?;
+    text.push_str("For more information, try 'hwdb check --help'.\n")?;
+    Ok(Some(text))
+}
+
 /// What is said of the word after `--format`, if it names none. None if it names one, or the task has no such word.
 ///
 /// The only error is want of memory.

@@ -32,4 +32,4 @@ mod verify;
 pub use args::read_words;
 pub use command::hwdb_command;
 pub use hwdb_spec_commands::{Job, Task, WordsFault};
-pub use kinds::{format_fault, kind_fault};
+pub use kinds::{diff_fault, format_fault, kind_fault};

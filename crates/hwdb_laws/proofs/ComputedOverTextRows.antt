@@ -17,11 +17,11 @@ fine_rows = refl
 
 pub list_rows : ListRows
 unfolding pieces
-list_rows = λ strings json pattern. refl
+list_rows = λ strings json pattern from. refl
 
 pub device_rows : DeviceRows
 unfolding pieces
-device_rows = λ path strings json pattern all. refl
+device_rows = λ path strings json pattern all from. refl
 
 pub taken_rows : TakenRows
 unfolding pieces

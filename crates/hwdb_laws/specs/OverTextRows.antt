@@ -1,5 +1,5 @@
 -- Worked rows of `--text`: which words don't fit it, and what is said of them.
-use Rattle.std.specs.Prelude.{◌∷◌, ◌≡◌, Bool, None, Some, String, [], codes, false, true}
+use Rattle.std.specs.Prelude.{◌∷◌, ◌≡◌, Bool, None, Option, Some, String, [], codes, false, true}
 use Rattle.std.specs.declared.alloc.Global.{Global}
 use Rattle.hwdb_spec_commands.specs.OverText.{misuse_text, takes_text}
 use Rattle.hwdb_spec_commands.specs.declared.job.Task.TheVariants.{Device, Dump, Status, Update, Verify}
@@ -16,10 +16,10 @@ FineRows = misuse_text (Verify None) ∷ misuse_text (Dump None) ∷ [] ≡ None
 
 -- `device` needs a device: a list asks no database
 abbrev pub ListRows : Type 0
-ListRows = (strings json pattern : Bool) → misuse_text (Device None strings json pattern false) ≡ Some (codes "--text needs DEVICE or --all: a list of devices asks no database")
+ListRows = (strings json pattern : Bool) (from : Option (String Global)) → misuse_text (Device None strings json pattern false from) ≡ Some (codes "--text needs DEVICE or --all: a list of devices asks no database")
 
 abbrev pub DeviceRows : Type 0
-DeviceRows = (path : String Global) (strings json pattern all : Bool) → misuse_text (Device (Some path) strings json pattern all) ≡ None
+DeviceRows = (path : String Global) (strings json pattern all : Bool) (from : Option (String Global)) → misuse_text (Device (Some path) strings json pattern all from) ≡ None
 
 -- what takes `--text` asks a database; `status` and `update` don't
 abbrev pub TakenRows : Type 0

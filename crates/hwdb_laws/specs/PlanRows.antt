@@ -36,7 +36,7 @@ use Rattle.hwdb_plan.specs.Sides.{made_of, taken_from}
 use Rattle.hwdb_plan.specs.Status.{status_plan}
 use Rattle.hwdb_plan.specs.Test.{test_plan}
 use Rattle.hwdb_plan.specs.Verify.{verify_plan}
-use Rattle.hwdb_spec_commands.specs.declared.formats.Format.TheVariants.{Json as JsonLines, Sarif, Text as Reports}
+use Rattle.hwdb_spec_commands.specs.declared.formats.Format.TheVariants.{Json as JsonLines, Patch, Sarif, Text as Reports}
 
 -- the plan of a run with these words after the program's name
 abbrev pub asked : Around → (words : List Text) → Option Plan
@@ -87,9 +87,9 @@ abbrev pub CheckRows : Type 0
 CheckRows =
     (a : Around)
     → asked a (codes "--strict" ∷ codes "check" ∷ codes "--allow" ∷ codes "near-name" ∷ codes "-r" ∷ codes "/r" ∷ codes "--allow=scan-code" ∷ codes "f" ∷ codes "-" ∷ []) ∷ asked a (codes "check" ∷ codes "--json" ∷ [])
-    ∷ asked a (codes "check" ∷ codes "--format" ∷ codes "sarif" ∷ []) ∷ []
+    ∷ asked a (codes "check" ∷ codes "--format" ∷ codes "sarif" ∷ []) ∷ asked a (codes "check" ∷ codes "--diff" ∷ []) ∷ []
     ≡ Some (check_plan a.input (codes "f" ∷ codes "-" ∷ []) (codes "/r") (said_of Reports true (codes "near-name" ∷ codes "scan-code" ∷ []) None [])) ∷ Some (check_plan a.input [] [] (said_of JsonLines false [] None []))
-    ∷ Some (check_plan a.input [] [] (said_of Sarif false [] None [])) ∷ []
+    ∷ Some (check_plan a.input [] [] (said_of Sarif false [] None [])) ∷ Some (check_plan a.input [] [] (said_of Patch false [] None [])) ∷ []
 
 -- A path of a baseline, and a name for standard input. If no file is that, nothing is asked, and this is said.
 abbrev pub BaselineRows : Type 0

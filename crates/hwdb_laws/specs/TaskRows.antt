@@ -20,8 +20,8 @@ use Rattle.hwdb_spec_commands.specs.declared.job.Task.TheVariants.{Ask, Check, D
 
 abbrev pub PlainRows : Type 0
 PlainRows =
-    (map looks_below_root (Update true false ∷ Status false false ∷ Verify None ∷ Dump None ∷ Device None false false false false ∷ []) ≡ true ∷ true ∷ true ∷ true ∷ true ∷ [])
-    × (map reads_input (Update true false ∷ Status false false ∷ Verify None ∷ Dump None ∷ Device None false false false false ∷ []) ≡ false ∷ false ∷ false ∷ false ∷ false ∷ [])
+    (map looks_below_root (Update true false ∷ Status false false ∷ Verify None ∷ Dump None ∷ Device None false false false false None ∷ []) ≡ true ∷ true ∷ true ∷ true ∷ true ∷ [])
+    × (map reads_input (Update true false ∷ Status false false ∷ Verify None ∷ Dump None ∷ Device None false false false false None ∷ []) ≡ false ∷ false ∷ false ∷ false ∷ false ∷ [])
     × (map streams (Update true false ∷ Verify None ∷ []) ≡ false ∷ false ∷ [])
     × (map skips (Update true true ∷ Update true false ∷ Verify None ∷ []) ≡ true ∷ false ∷ false ∷ [])
     × (map refused_status (Update true true ∷ Verify None ∷ []) ≡ 1 ∷ 1 ∷ [])
@@ -32,7 +32,7 @@ PlainRows =
 abbrev pub DashRows : Type 0
 DashRows =
     (word other : String Global) (words : Vec (String Global) Global) → string_bytes word ≡ codes "-" → string_bytes other ≡ codes "f" → map string_bytes words.items ≡ codes "-" ∷ []
-    → reads_input (Query words false) ∷ reads_input (Explain word false) ∷ reads_input (Ask word other) ∷ reads_input (Ask other word) ∷ reads_input (ListHits None None word false) ∷ reads_input (Check words words false None None None)
+    → reads_input (Query words false) ∷ reads_input (Explain word false) ∷ reads_input (Ask word other) ∷ reads_input (Ask other word) ∷ reads_input (ListHits None None word false) ∷ reads_input (Check words words false None false None None)
     ∷ reads_input (Near words other None false) ∷ reads_input (Test words None false) ∷ reads_input (Verify (Some word)) ∷ reads_input (Dump (Some word)) ∷ streams (Query words true) ∷ streams (Explain word true)
     ∷ streams (Ask word other) ∷ []
     ≡ true ∷ true ∷ true ∷ false ∷ false ∷ true ∷ true ∷ true ∷ true ∷ true ∷ true ∷ true ∷ false ∷ []
@@ -47,7 +47,7 @@ ScanRows =
 abbrev pub OtherRows : Type 0
 OtherRows =
     (word : String Global) (words : Vec (String Global) Global) → string_bytes word ≡ codes "f" → map string_bytes words.items ≡ codes "f" ∷ codes "g" ∷ []
-    → reads_input (Query words false) ∷ reads_input (Explain word false) ∷ reads_input (Ask word word) ∷ reads_input (Check words words false None None None) ∷ reads_input (Near words word None false)
+    → reads_input (Query words false) ∷ reads_input (Explain word false) ∷ reads_input (Ask word word) ∷ reads_input (Check words words false None false None None) ∷ reads_input (Near words word None false)
     ∷ reads_input (Test words None false) ∷ reads_input (Diff word word words false false) ∷ reads_input (Verify (Some word)) ∷ reads_input (Dump (Some word)) ∷ streams (Query words true) ∷ streams (Explain word true) ∷ []
     ≡ false ∷ false ∷ false ∷ false ∷ false ∷ false ∷ false ∷ false ∷ false ∷ false ∷ false ∷ []
 
@@ -62,7 +62,7 @@ DiffRows =
 abbrev pub NamedRows : Type 0
 NamedRows =
     (word : String Global) (words none : Vec (String Global) Global) → length words.items ≡ 1 → length none.items ≡ 0
-    → (looks_below_root (Check words words false None None None) ∷ looks_below_root (Check none words false None None None) ∷ looks_below_root (Near words word None false) ∷ looks_below_root (Near none word None false)
+    → (looks_below_root (Check words words false None false None None) ∷ looks_below_root (Check none words false None false None None) ∷ looks_below_root (Near words word None false) ∷ looks_below_root (Near none word None false)
     ∷ looks_below_root (Test words (Some word) false) ∷ looks_below_root (Test words None false) ∷ looks_below_root (Verify (Some word)) ∷ looks_below_root (Dump (Some word)) ∷ looks_below_root (Ask word word)
     ∷ looks_below_root (Diff word word words false false) ∷ looks_below_root (Keys words false) ∷ looks_below_root (Query words false) ∷ [])
     ≡ false ∷ true ∷ false ∷ true ∷ false ∷ true ∷ false ∷ false ∷ false ∷ false ∷ false ∷ true ∷ []
@@ -70,7 +70,7 @@ NamedRows =
 abbrev pub StatusRows : Type 0
 StatusRows =
     (word : String Global) (words : Vec (String Global) Global)
-    → refused_status (Diff word word words false false) ∷ refused_status (Check words words false None None None) ∷ refused_status (Query words false) ∷ [] ≡ 2 ∷ 2 ∷ 1 ∷ []
+    → refused_status (Diff word word words false false) ∷ refused_status (Check words words false None false None None) ∷ refused_status (Query words false) ∷ [] ≡ 2 ∷ 2 ∷ 1 ∷ []
 
 -- ---- jobs
 

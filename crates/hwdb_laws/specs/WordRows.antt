@@ -5,9 +5,9 @@ use Rattle.clap.specs.Faults.{fault_of}
 use Rattle.clap.specs.Kinds.{Kinds}
 use Rattle.clap.specs.Simple.{matches_of, subcommand_of}
 use Rattle.clap.specs.declared.error.kind.ErrorKind.TheVariants.{ArgumentConflict, DisplayHelp, DisplayVersion, InvalidSubcommand, InvalidValue, MissingRequiredArgument, MissingSubcommand, UnknownArgument, ValueValidation}
-use Rattle.clap.specs.Walk.{Row, Text, all_of}
-use Rattle.hwdb_spec_commands.specs.CommandLine.{hwdb_app}
-use Rattle.hwdb_spec_commands.specs.Jobs.{has_flag}
+use Rattle.clap.specs.Walk.{Row, Rule, Text, all_of}
+use Rattle.hwdb_spec_commands.specs.CommandLine.{after_rule, count_rule, device_rule, hwdb_app, limit_rule}
+use Rattle.hwdb_spec_commands.specs.Jobs.{has_flag, takes_number}
 
 -- ---- what commands take
 
@@ -131,6 +131,10 @@ ScanRows =
     read (codes "scan" ∷ codes "event4" ∷ codes "--count" ∷ codes "2" ∷ [])
     [] (codes "DEVICE" ∷ codes "count" ∷ [])
     ≡ (codes "scan", [], Some (codes "event4" ∷ []) ∷ Some (codes "2" ∷ []) ∷ [])
+
+-- which options take a number: of `list` and `near` the limit, of `scan` the count
+abbrev pub NumberRows : Type 0
+NumberRows = map (λ (a : Rule). takes_number a.parser) (limit_rule ∷ count_rule ∷ after_rule ∷ device_rule ∷ []) ≡ true ∷ true ∷ false ∷ false ∷ []
 
 -- Options before the command are its own too.
 abbrev pub BeforeRows : Type 0

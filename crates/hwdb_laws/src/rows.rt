@@ -225,6 +225,7 @@ pub fn word_rows()
     ensures status { WordRows.StatusRows }
     ensures keys { WordRows.KeysRows }
     ensures scan { WordRows.ScanRows }
+    ensures numbers { WordRows.NumberRows }
     ensures before { WordRows.BeforeRows }
     ensures wrong { WordRows.WrongRows }
     ensures right { WordRows.RightRows }

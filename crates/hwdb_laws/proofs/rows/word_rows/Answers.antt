@@ -1,4 +1,4 @@
-use Rattle.hwdb_laws.proofs.ComputedWordRows.{ask_rows, bare_device_rows, bare_update_rows, before_rows, check_rows, device_rows, diff_rows, dump_rows, explain_rows, keys_rows, list_rows, near_rows, query_rows, right_rows, scan_rows, status_rows, test_rows, update_rows, verify_rows, wrong_rows}
+use Rattle.hwdb_laws.proofs.ComputedWordRows.{ask_rows, bare_device_rows, bare_update_rows, before_rows, check_rows, device_rows, diff_rows, dump_rows, explain_rows, keys_rows, list_rows, near_rows, number_rows, query_rows, right_rows, scan_rows, status_rows, test_rows, update_rows, verify_rows, wrong_rows}
 use Rattle.hwdb_laws.proofs.rows.word_rows.Goals as goal
 
 pub returns : goal.returns
@@ -20,6 +20,7 @@ returns c = record {
   status = status_rows;
   keys = keys_rows;
   scan = scan_rows;
+  numbers = number_rows;
   before = before_rows;
   wrong = wrong_rows;
   right = right_rows;
