@@ -73,7 +73,7 @@ all: program
 
 # What building needs, before anything is proved.
 kit:
-	@command -v rt >/dev/null || { echo "make: building needs the Rattle toolchain: the kit rattle-kit-13b, with its command rt on" \
+	@command -v rt >/dev/null || { echo "make: building needs the Rattle toolchain: the kit rattle-kit-13f, with its command rt on" \
 		"the path (README.md, 'Install')" >&2; exit 1; }
 	@missing=; for tool in python3 $(firstword $(CC)) ld objcopy ar; do \
 		command -v "$$tool" >/dev/null || missing="$$missing $$tool"; \

@@ -72,7 +72,7 @@ end
 complete -c hwdb -f
 # From here on completions/from-help has made it of the program's help.
 function __hwdb_takes_value
-    contains -- $argv[1] -r --root --color --after --limit --allow --baseline --name --format --database --devices --count
+    contains -- $argv[1] -r --root --color --after --limit --from --allow --baseline --name --format --database --devices --count
 end
 
 # The words that `help` takes.
@@ -145,12 +145,14 @@ complete -c hwdb -n '__hwdb_at keys' -l json -d 'Print JSON, one object a line'
 complete -c hwdb -n '__hwdb_at list' -l after -x -d 'Print only what stands after this position, as list prints it'
 complete -c hwdb -n '__hwdb_at list' -l limit -x -d 'Print at most N lines; 0 prints nothing'
 complete -c hwdb -n '__hwdb_at near' -l limit -x -d 'Print at most N patterns that don\'t match, in place of 3'
+complete -c hwdb -n '__hwdb_at device' -l from -x -a '(__hwdb_file)' -d 'Take devices from a file in place of sysfs: what \'udevadm info --export-db\' printed; - for standard input'
 complete -c hwdb -n '__hwdb_at device' -l strings -d 'Print the strings alone, one a line'
 complete -c hwdb -n '__hwdb_at device' -l pattern -d 'Print records to begin with, which fit the device; before --json and --strings'
 complete -c hwdb -n '__hwdb_at device' -l all -d 'With --strings: print those of all devices, each once'
 complete -c hwdb -n '__hwdb_at check' -l allow -x -a 'byte-order-mark leading-tab carriage-return open-bracket empty-range spaced-equals cut-value repeated-match replaced near-name old-name scan-code unknown-key unfit-value zero-row singular-matrix two-defaults unread unknown-property unpaired unknown-prefix dead-pattern unlikely-pattern too-long-for-udev' -d 'Leave out warnings of these kinds, with commas between; may come more than once'
 complete -c hwdb -n '__hwdb_at check' -l baseline -x -a '(__hwdb_file)' -d 'Leave out what this file has, which check --json printed once, as often as it is there'
 complete -c hwdb -n '__hwdb_at check' -l name -x -a '(__hwdb_file)' -d 'The path that findings of standard input have'
+complete -c hwdb -n '__hwdb_at check' -l diff -d 'Print a patch of all sure mends instead, as patch -p0 and git apply -p0 take it'
 complete -c hwdb -n '__hwdb_at check' -l format -x -a 'text json github sarif' -d 'Print findings as text, json, github (annotations) or sarif; --json is --format json'
 complete -c hwdb -n '__hwdb_at test' -l database -x -a '(__hwdb_database)' -d 'Ask this database, in place of that of /etc/udev or /usr/lib/udev'
 complete -c hwdb -n '__hwdb_at diff' -l devices -x -a '(__hwdb_file)' -d 'Compare what the devices of a file get, a line each, or of - for standard input; may come more than once'

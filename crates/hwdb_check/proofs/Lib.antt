@@ -26,3 +26,7 @@ pub mod BaselineLemmas
 pub mod CountLemmas
 pub mod WordLemmas
 pub mod PassLemmas
+pub mod EditLemmas
+pub mod EditRecordLemmas
+pub mod HunkLemmas
+pub mod SureLaws

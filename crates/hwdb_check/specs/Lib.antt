@@ -12,3 +12,7 @@ pub mod Leaving
 pub mod Lemmas
 pub mod Kept
 pub mod Following
+pub mod Patching
+pub mod Places
+pub mod Summed
+pub mod Sure

@@ -90,7 +90,7 @@ fn any_line_allowed(bytes: &[u8]) -> bool
 }
 
 /// Whether a line ends a record.
-fn ends_record(text: &[u8]) -> bool
+pub fn ends_record(text: &[u8]) -> bool
     ensures { result ≡ AllowedKinds.ends_record text.now }
 {
     match content_of(text) {

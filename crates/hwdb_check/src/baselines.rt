@@ -228,7 +228,7 @@ fn put_mark_of(json: &mut Writer, found: &Found) -> Result<(), AllocError>
 }
 
 /// The path, the kind and the line of a finding as one text.
-fn mark_of(alloc: Global, found: &Found) -> Result<Vec<u8>, AllocError>
+pub fn mark_of(alloc: Global, found: &Found) -> Result<Vec<u8>, AllocError>
     ensures { IfOk result (λ text. text.items ≡ Baselines.mark_of (kept_of found.now)) }
 {
     let mut json = Writer::new(Vec::new(alloc));

@@ -47,7 +47,7 @@ fn named<'a>(file: TextFile<'a>, name: Option<&'a str>) -> TextFile<'a>
 }
 
 /// The same of each file. The only error is `AllocError`.
-fn all_named<'a>(
+pub fn all_named<'a>(
     alloc: Global,
     files: &[TextFile<'a>],
     name: Option<&'a str>,
@@ -73,11 +73,11 @@ pub struct Checked {
 
 /// What is in a file, or in some.
 #[derive(Drop)]
-struct Findings {
+pub struct Findings {
     /// The faults and warnings.
-    found: Vec<Found>,
+    pub found: Vec<Found>,
     /// How much is in them.
-    tally: Tally,
+    pub tally: Tally,
 }
 
 /// What is printed of some faults of a file. If the faults ascend by line, it takes a step for each byte of the file.
@@ -105,7 +105,7 @@ pub fn reports_of(
 }
 
 /// What is in a file.
-fn look_over(
+pub fn look_over(
     alloc: Global,
     telling: &Telling<'_>,
     path: &[u8],
@@ -208,7 +208,7 @@ fn ended(
 {
     match format {
         Format::Text | Format::Github => with_tally(alloc, findings, tally),
-        Format::Json => Ok(findings),
+        Format::Json | Format::Patch => Ok(findings),
         Format::Sarif => log_of(alloc, &findings),
     }
 }

@@ -318,11 +318,12 @@ pub fn push_finding(
         Format::Json => text.extend_from_slice(&json_of(alloc, found)?),
         Format::Github => push_github(alloc, text, found),
         Format::Sarif => push_sarif(alloc, text, found),
+        Format::Patch => Ok(()),
     }
 }
 
 /// A text, if there is one. The only error, here and below, is `AllocError`.
-fn copy_of(alloc: Global, text: &Option<Vec<u8>>) -> Result<Option<Vec<u8>>, AllocError>
+pub fn copy_of(alloc: Global, text: &Option<Vec<u8>>) -> Result<Option<Vec<u8>>, AllocError>
     ensures { IfOk result (λ copy.
         option_map (λ t. t.items) copy ≡ option_map (λ t. t.items) text.now) }
 {

@@ -202,6 +202,6 @@ pub fn fix_for(
 {
     match format {
         Format::Json | Format::Sarif => fix(alloc, kind, source, clean),
-        Format::Text | Format::Github => Ok(None),
+        Format::Text | Format::Github | Format::Patch => Ok(None),
     }
 }

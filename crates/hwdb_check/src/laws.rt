@@ -1,6 +1,7 @@
 //! Laws over the definitions alone. Each function does nothing: its contract is the law.
 ghost use Rattle.hwdb_check.specs.Comments.{BareAreTold, CommentRows, FaultsStay, LeftAreTold, LinesAreMarked, RecordsAreApart};
 ghost use Rattle.hwdb_check.specs.Passing.{AsManyPass, BaselineRows, NothingPasses};
+ghost use Rattle.hwdb_check.specs.Sure.{LinesStay, MendsAreSure, PatchRows, SaidRows, TriedRows, WorseRows};
 ghost use Rattle.hwdb_check.specs.Laws.{FieldRows, KindsAreNamed, LikelihoodIsJudged, MendRows, MendsAreLikely, PatternsAreJudged, RunsAreAll, TooDeepRows, TooLongRows, UnmatchedRows};
 
 use hwdb_forms::forms_are_tested;
@@ -71,3 +72,16 @@ pub fn baselines_let_pass()
     ensures without { NothingPasses }
     ensures rows { BaselineRows }
 {}
+
+/// What a patch mends is sure: the patched text, checked again, has no finding that the old one hasn't, and none that was mended. It has the
+/// lines of the file, in the place of some of which come others. This is so whatever is told of texts.
+pub fn patches_are_sure()
+    ensures sure { MendsAreSure }
+    ensures stay { LinesStay }
+    ensures worse { WorseRows }
+    ensures mended { TriedRows }
+    ensures patches { PatchRows }
+    ensures said { SaidRows }
+{
+    hwdb_text::laws::lines_are_the_file();
+}

@@ -35,6 +35,11 @@
 //! | `tallies` | how much was found: the last line, and the status |
 //! | `baselines` | findings that are let pass since a baseline has them |
 //! | `files` | text files that are checked, one after another |
+//! | `edits` | the lines of a file, some of which are mended |
+//! | `edit_records` | the same, record by record |
+//! | `sure` | which mends of a file are sure |
+//! | `hunks` | a unified patch of a file |
+//! | `patched` | the patch of text files, and what is said of some in a format |
 //! | `laws` | what is proved of the definitions alone |
 #![tactic(auto)]
 
@@ -42,10 +47,13 @@ mod allowed;
 mod annotations;
 mod baselines;
 mod companions;
+mod edit_records;
+mod edits;
 mod fields;
 mod files;
 mod findings;
 mod fixes;
+mod hunks;
 mod judgements;
 mod kinds;
 mod known;
@@ -57,12 +65,14 @@ mod line_warnings;
 mod logs;
 mod mends;
 mod misuses;
+mod patched;
 mod places;
 mod plain_files;
 mod repeats;
 mod replacements;
 mod reports;
 mod runs;
+mod sure;
 mod tallies;
 mod too_long;
 mod unread;
@@ -76,8 +86,9 @@ pub use hwdb_spec_commands::KINDS;
 pub use kinds::Telling;
 pub use laws::{
     baselines_let_pass, comments_are_told, deep_lines_are_told, kinds_are_named,
-    likelihood_is_judged, mends_are_likely, patterns_are_judged,
+    likelihood_is_judged, mends_are_likely, patches_are_sure, patterns_are_judged,
 };
 pub use line_texts::{LineStart, find_line, first_start};
+pub use patched::{Said, format_asked, say_files};
 pub use tallies::push_count;
 pub use too_long::push_too_long;

@@ -141,7 +141,7 @@ fn recased(alloc: Global, first: u8, more: &[u8]) -> Result<Vec<u8>, AllocError>
 }
 
 /// Whether a byte is among some.
-fn has(byte: u8, bytes: &[u8]) -> bool
+pub fn has(byte: u8, bytes: &[u8]) -> bool
     ensures { result ≡ has byte bytes.now }
 {
     bytes.iter().any(|own| *own == byte)

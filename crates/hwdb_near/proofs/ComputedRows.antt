@@ -48,7 +48,7 @@ file_rows = refl
 
 pub head_rows : HeadRows
 unfolding tokens_from token_at bracket_at items_from item_at classes some_ending byte_then piece_then matches some_up_to last_up_to first_up_to
-head_rows = refl
+head_rows = (refl, refl)
 
 pub gathered_rows : GatheredRows
 gathered_rows = refl

@@ -72,11 +72,14 @@ WordRows =
     ∷ codes "the device has `_`, the pattern `b`"
     ∷ []
 
--- and at devices without a colon
+-- and at devices whose first part may be missing, and at those without a colon
 abbrev pub HeadRows : Type 0
 HeadRows =
-    map (why (codes "ab")) (codes "k:ab*" ∷ codes "b*" ∷ [])
-    ≡ codes "the device has no prefix like `k:`; 'hwdb device ab' says what udev asks for a device of this name" ∷ codes "the device has `a`, the pattern `b`" ∷ []
+    (map (why (codes "input:a")) (codes "evdev:input:a*" ∷ codes "k:*" ∷ [])
+    ≡ codes "the device begins with `input:`, and most patterns for it have `evdev:` before that; 'hwdb device' says what udev asks"
+    ∷ codes "the device begins with `input:`, and most patterns for it have `evdev:` before that; 'hwdb device' says what udev asks" ∷ [])
+    × (map (why (codes "ab")) (codes "k:ab*" ∷ codes "b*" ∷ [])
+    ≡ codes "the device has no prefix like `k:`; 'hwdb device ab' says what udev asks for a device of this name" ∷ codes "the device has `a`, the pattern `b`" ∷ [])
 
 -- the patterns of a database whose assignments are these, by file and line: each once, at the first of its places
 abbrev pub assigned : ℕ → ℕ → List ℕ → List ℕ → Assignment

@@ -1,7 +1,9 @@
 //! Why a pattern stops, in words: one line, which says what to do.
-ghost use Rattle.std.specs.Prelude.{◌≡◌, ◌++◌, codes, drop, take, OnOk};
+ghost use Rattle.std.specs.Prelude.{◌≡◌, ◌++◌, Some, codes, drop, option_map, take, OnOk};
+ghost use Rattle.hwdb_spec.specs.Folders.{same};
 ghost use Rattle.hwdb_spec.specs.Lines;
 ghost use Rattle.hwdb_spec_commands.specs.Reports.{shown};
+ghost use Rattle.hwdb_spec_commands.specs.FirstParts.{part_before};
 ghost use Rattle.hwdb_spec_commands.specs.Near;
 ghost use Rattle.hwdb_spec_commands.specs.Near.{byte_text, head_text, on_firsts, other_text, quoted, why_text};
 
@@ -188,6 +190,58 @@ fn push_headless(text: &mut Vec<u8>, pattern: &[u8], device: &[u8]) -> Result<()
     push_name(text, device)
 }
 
+/// Whether two texts are one.
+fn is(text: &[u8], other: &[u8]) -> bool
+    ensures { result ≡ same other.now text.now }
+{
+    other.cmp(text).is_eq()
+}
+
+/// What may be missing before a text that begins so.
+fn part_before(head: &[u8]) -> Option<&'static str>
+    ensures { option_map (λ t. t.now) result ≡ part_before head.now }
+{
+    if is(head, b"input:") {
+        return Some("evdev:");
+    }
+    if is(head, b"name:") {
+        return Some("evdev:");
+    }
+    if is(head, b"atkbd:") {
+        return Some("evdev:");
+    }
+    if is(head, b"modalias:") {
+        return Some("sensor:");
+    }
+    None
+}
+
+/// Adds that a device begins with a part before which another one may be missing.
+fn push_headed(text: &mut Vec<u8>, head: &[u8], part: &str) -> Result<(), AllocError>
+    ensures { OnOk result
+        (text.new.items ≡ text.old.items ++ Near.other_head head.now (Some part.now)) }
+{
+    let between = ", and most patterns for it have ";
+    let advice = " before that; 'hwdb device' says what udev asks";
+    push_words(text, "the device begins with ")?;
+    push_quoted(text, head)?;
+    push_between(text, between, part.as_bytes(), advice)
+}
+
+/// Adds why a pattern stops at a device that begins with this part.
+fn push_other_head(text: &mut Vec<u8>, head: &[u8]) -> Result<(), AllocError>
+    ensures { OnOk result
+        (text.new.items ≡ text.old.items ++ Near.other_head head.now (part_before head.now)) }
+{
+    match part_before(head) {
+        Some(part) => push_headed(text, head, part),
+        None => {
+            let advice = ": begin the pattern with that";
+            push_between(text, "the device begins with ", head, advice)
+        }
+    }
+}
+
 /// Adds why a pattern stops before the device's first colon is passed.
 fn push_head(
     text: &mut Vec<u8>,
@@ -200,8 +254,7 @@ fn push_head(
         ≡ text.old.items ++ head_text pattern.now device.now wanted.now left.now) }
 {
     if has_head(device) {
-        let advice = ": begin the pattern with that";
-        return push_between(text, "the device begins with ", head_of(device), advice);
+        return push_other_head(text, head_of(device));
     }
     if has_head(pattern) {
         return push_headless(text, pattern, device);

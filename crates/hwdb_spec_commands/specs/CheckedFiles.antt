@@ -1,10 +1,12 @@
 -- Which text files `check` reads, and what it prints. Our choice.
 use Rattle.std.specs.Prelude.{◌++◌, ◌==◌, ◌∷◌, ◌≡◌, ◌≤◌, All, Bool, IfSome, List, None, Ok, Option, Some, [], false, if◌then◌else◌, is_some, length, map, true, ℕ}
 use Rattle.hwdb_spec_commands.specs.Baselines.{marks_in}
-use Rattle.hwdb_spec_commands.specs.Checks.{check_status, check_text, named, told_tally}
+use Rattle.hwdb_spec_commands.specs.Checks.{named}
 use Rattle.hwdb_spec.specs.Folders.{Choice, Source, choice, max_files, names, path_of}
 use Rattle.hwdb_spec_commands.specs.Given.{IsGiven, is_dash}
 use Rattle.hwdb_spec.specs.Lines.{byte}
+use Rattle.hwdb_spec.specs.Outputs.{Texts}
+use Rattle.hwdb_spec_commands.specs.Patches.{said_err, said_out, said_status}
 use Rattle.hwdb_spec.specs.Store.{Contents, path_in}
 use Rattle.hwdb_spec.specs.System.{AreNamesIn, bytes_at, etc_files, usr_files}
 use Rattle.hwdb_spec.specs.Texts.{max_file}
@@ -61,10 +63,11 @@ StandFor contents (path ∷ more) paths =
 abbrev pub AreNamedFiles : (given : List (List ℕ)) (input : Option (List ℕ)) → Contents → List Source → Type 0
 AreNamedFiles given input contents sources = (paths : List (List ℕ)) × StandFor contents given paths × AreGivenFiles paths input contents sources
 
--- The text is what is said of such files, in this format, but for kinds that are allowed and findings that are known. The status says whether
--- something is wrong with one. Standard input may have a name.
-pub record IsChecked (Are : List Source → Type 0) (format : Format) (strict : Bool) (allowed known : List (List ℕ)) (name : Option (List ℕ)) (text : List ℕ) (status : ℕ) : Type 0 where
+-- The texts are what is said of such files, in this format, but for kinds that are allowed and findings that are known. The status says whether
+-- something is wrong with one, or can be mended. Standard input may have a name.
+pub record IsChecked (Are : List Source → Type 0) (format : Format) (strict : Bool) (allowed known : List (List ℕ)) (name : Option (List ℕ)) (texts : Texts) (status : ℕ) : Type 0 where
   pub sources : List Source
   pub are : Are sources
-  pub is : text ≡ check_text format allowed known (map (named name) sources)
-  pub says : status ≡ check_status strict (told_tally format allowed known (map (named name) sources))
+  pub out : texts.out ≡ said_out format allowed known (map (named name) sources)
+  pub err : texts.err ≡ said_err format allowed (map (named name) sources)
+  pub says : status ≡ said_status format strict allowed known (map (named name) sources)

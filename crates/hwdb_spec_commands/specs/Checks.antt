@@ -13,7 +13,7 @@ use Rattle.hwdb_spec_commands.specs.Given.{any_dash, is_dash}
 use Rattle.hwdb_spec_commands.specs.Logs.{log_text}
 use Rattle.hwdb_spec_commands.specs.declared.Tally.{Tally}
 use Rattle.hwdb_spec_commands.specs.declared.formats.Format.{Format}
-use Rattle.hwdb_spec_commands.specs.declared.formats.Format.TheVariants.{Github, Json as JsonLines, Sarif, Text as Reports}
+use Rattle.hwdb_spec_commands.specs.declared.formats.Format.TheVariants.{Github, Json as JsonLines, Patch, Sarif, Text as Reports}
 
 -- two counts together; a count stops at the greatest number of 64 bits
 abbrev pub both : ℕ → ℕ → ℕ
@@ -84,6 +84,7 @@ ended Reports t findings = findings ++ tally_line t
 ended JsonLines t findings = findings
 ended Github t findings = findings ++ tally_line t
 ended Sarif t findings = log_text findings
+ended Patch t findings = findings
 
 -- the findings of some files, one file after another; the name of each is the path that is printed
 abbrev pub all_findings : Format → (allowed : List (List ℕ)) → List Source → List Finding

@@ -90,6 +90,10 @@ allow_rule = record (new_rule (codes "allow")) { value_names = 1; long = Some (c
 abbrev pub format_rule : Rule
 format_rule = record (new_rule (codes "format")) { value_names = 1; long = Some (codes "format"); action = Some Set }
 
+-- `--diff`
+abbrev pub diff_rule : Rule
+diff_rule = record (new_rule (codes "diff")) { long = Some (codes "diff"); action = Some SetTrue }
+
 -- `--baseline`, with a path
 abbrev pub baseline_rule : Rule
 baseline_rule = record (new_rule (codes "baseline")) { value_names = 1; long = Some (codes "baseline"); action = Some Set }
@@ -125,6 +129,10 @@ pattern_rule = record (new_rule (codes "pattern")) { long = Some (codes "pattern
 -- `--all`
 abbrev pub all_rule : Rule
 all_rule = record (new_rule (codes "all")) { long = Some (codes "all"); action = Some SetTrue }
+
+-- `--from`, with a path
+abbrev pub from_rule : Rule
+from_rule = record (new_rule (codes "from")) { value_names = 1; long = Some (codes "from"); action = Some Set }
 
 -- a device's path or name, or none
 abbrev pub path_rule : Rule
@@ -177,11 +185,13 @@ near_app = with_rule (with_rule (with_rule (with_rule (with_shared (new_app (cod
 -- `device`
 abbrev pub device_app : App
 device_app =
-    with_rule (with_rule (with_rule (with_rule (with_rule (with_rule (with_shared (new_app (codes "device"))) text_rule) strings_rule) json_rule) pattern_rule) all_rule) path_rule
+    with_rule (with_rule (with_rule (with_rule (with_rule (with_rule (with_rule (with_shared (new_app (codes "device"))) from_rule) text_rule) strings_rule) json_rule) pattern_rule) all_rule)
+    path_rule
 
 -- `check`
 abbrev pub check_app : App
-check_app = with_rule (with_rule (with_rule (with_rule (with_rule (with_rule (with_shared (new_app (codes "check"))) allow_rule) baseline_rule) name_rule) format_rule) json_rule) files_rule
+check_app =
+    with_rule (with_rule (with_rule (with_rule (with_rule (with_rule (with_rule (with_shared (new_app (codes "check"))) allow_rule) baseline_rule) name_rule) diff_rule) format_rule) json_rule) files_rule
 
 -- `test`
 abbrev pub test_app : App

@@ -17,7 +17,7 @@ use Rattle.hwdb_spec_commands.specs.Warnings.{line_warnings, warning_hint, warni
 use Rattle.hwdb_spec.specs.declared.Fault.{Fault}
 use Rattle.hwdb_spec_commands.specs.declared.WarningKind.{WarningKind}
 use Rattle.hwdb_spec_commands.specs.declared.formats.Format.{Format}
-use Rattle.hwdb_spec_commands.specs.declared.formats.Format.TheVariants.{Github, Json as JsonLines, Sarif, Text as Reports}
+use Rattle.hwdb_spec_commands.specs.declared.formats.Format.TheVariants.{Github, Json as JsonLines, Patch, Sarif, Text as Reports}
 
 -- what is found in a line of a file
 pub record Finding : Type 0 where
@@ -76,12 +76,13 @@ finding_json f =
     ∷ (codes "kind", text_json f.kind) ∷ (codes "text", text_json f.text) ∷ (codes "hint", text_json f.hint)
     ∷ (codes "severity", text_json (severity_name f.fault)) ∷ (codes "source", text_json f.source) ∷ fix_members f.fix)
 
--- what is printed of a finding
+-- what is printed of a finding; a patch tells of none
 abbrev pub told : Format → Finding → List ℕ
 told Reports f = report f
 told JsonLines f = json_line (finding_json f)
 told Github f = annotation (severity_name f.fault) (shown_name f.path) f.line (column f.place) f.kind (message f)
 told Sarif f = result_line (severity_name f.fault) f.path f.line (column f.place) f.kind (message f) (column (length f.source)) f.fix
+told Patch f = []
 
 -- ---- faults and warnings
 

@@ -4,7 +4,11 @@ use Rattle.std.specs.Str.{bytes_eq}
 use Rattle.std.specs.Option.{option_map_or, option_or}
 use Rattle.std.specs.declared.num.ParseIntError.{ParseIntError}
 use Rattle.std.specs.Str.Parse.{ParsesUnsigned, IsNumeral, digits_value, without_leading_plus}
-use Rattle.clap.specs.Walk.{Row, Text, all_of, first_of, one_of}
+use Rattle.clap.specs.Simple.{Shape}
+use Rattle.clap.specs.Walk.{Row, Rule, Text, all_of, first_of, one_of}
+use Rattle.clap.specs.declared.builder.value_parser.ValueParser.{ValueParser}
+use Rattle.clap.specs.declared.builder.value_parser.ValueParser.TheVariants as vp
+use Rattle.hwdb_spec_commands.specs.CommandLine.{hwdb_app}
 use Rattle.hwdb_spec_commands.specs.declared.job.Task.TheVariants.{Ask, Check, Device, Diff, Dump, Explain, Keys, List as ListHits, Near, Query, Scan, Status, Test, Update, Verify}
 use Rattle.hwdb_spec_commands.specs.declared.job.Task.{Task}
 use Rattle.hwdb_spec_commands.specs.declared.job.Job.{Job}
@@ -41,12 +45,12 @@ IsTask name inner (ListHits after limit device json) = (name ≡ codes "list") �
     × IsLimit (one_of (codes "limit") inner) limit × IsValue (codes "MODALIAS") inner (string_bytes device)
 IsTask name inner (Near files device limit json) = (name ≡ codes "near") × (json ≡ has_flag (codes "json") inner) × AreValues (codes "MODALIAS") inner (map string_bytes files.items ++ string_bytes device ∷ [])
     × IsLimit (one_of (codes "limit") inner) limit
-IsTask name inner (Device path strings json pattern all) = (name ≡ codes "device") × (option_map string_bytes path ≡ first_of (codes "DEVICE") inner) × (strings ≡ has_flag (codes "strings") inner)
-    × (json ≡ has_flag (codes "json") inner) × (pattern ≡ has_flag (codes "pattern") inner) × (all ≡ has_flag (codes "all") inner)
-IsTask name inner (Check files allowed json format input_name baseline) = (name ≡ codes "check") × AreAnyValues (codes "FILE") inner (map string_bytes files.items)
+IsTask name inner (Device path strings json pattern all from) = (name ≡ codes "device") × (option_map string_bytes path ≡ first_of (codes "DEVICE") inner) × (strings ≡ has_flag (codes "strings") inner)
+    × (json ≡ has_flag (codes "json") inner) × (pattern ≡ has_flag (codes "pattern") inner) × (all ≡ has_flag (codes "all") inner) × (option_map string_bytes from ≡ first_of (codes "from") inner)
+IsTask name inner (Check files allowed json format diff input_name baseline) = (name ≡ codes "check") × AreAnyValues (codes "FILE") inner (map string_bytes files.items)
     × AreAnyValues (codes "allow") inner (map string_bytes allowed.items) × (json ≡ has_flag (codes "json") inner)
     × (option_map string_bytes format ≡ first_of (codes "format") inner) × (option_map string_bytes input_name ≡ first_of (codes "name") inner)
-    × (option_map string_bytes baseline ≡ first_of (codes "baseline") inner)
+    × (option_map string_bytes baseline ≡ first_of (codes "baseline") inner) × (diff ≡ has_flag (codes "diff") inner)
 IsTask name inner (Test files database json) = (name ≡ codes "test") × (json ≡ has_flag (codes "json") inner) × (option_map string_bytes database ≡ first_of (codes "database") inner)
     × AreValues (codes "FILE") inner (map string_bytes files.items)
 IsTask name inner (Diff old new devices json stat) = (name ≡ codes "diff") × (json ≡ has_flag (codes "json") inner) × (stat ≡ has_flag (codes "stat") inner) × AreAnyValues (codes "devices") inner (map string_bytes devices.items)
@@ -82,20 +86,26 @@ HasValue id rows = is_some (first_of id rows) ≡ true
 abbrev pub IsNumber : Text → Type 0
 IsNumber text = IsNumeral 10 (without_leading_plus text) × (digits_value 10 (without_leading_plus text) < 2 ^ 64)
 
--- it is one of the fifteen commands, with each argument that this command needs
+-- an argument takes a number
+abbrev pub takes_number : Option ValueParser → Bool
+takes_number (Some (vp.Unsigned low high)) = true
+takes_number parser = false
+
+-- nothing is asked if that isn't so
+abbrev pub IfSo : Bool → Type 0 → Type 0
+IfSo true P = P
+IfSo false P = Unit {0}
+
+-- each argument that the command needs has a value, and each that takes a number is one if it is given
+abbrev pub AreGiven : List Rule → List Row → Type 0
+AreGiven [] inner = Unit {0}
+AreGiven (a ∷ more) inner = IfSo a.required (HasValue a.id inner) × IfSo (takes_number a.parser) (IfSome (one_of a.id inner) IsNumber) × AreGiven more inner
+
+-- it is one of these commands, with each argument that this one needs
+abbrev pub IsOneOf : List Shape → Text → List Row → Type 0
+IsOneOf [] name inner = ⊥
+IsOneOf (s ∷ more) name inner = ((name ≡ s.name) × AreGiven s.rules inner) ⊎ IsOneOf more name inner
+
+-- it is one of the program's commands
 abbrev pub IsCommand : Text → List Row → Type 0
-IsCommand name inner = (name ≡ codes "update")
-    ⊎ (((name ≡ codes "query") × HasValue (codes "MODALIAS") inner)
-    ⊎ (((name ≡ codes "explain") × HasValue (codes "MODALIAS") inner)
-    ⊎ (((name ≡ codes "ask") × HasValue (codes "FILE") inner × HasValue (codes "MODALIAS") inner)
-    ⊎ (((name ≡ codes "list") × HasValue (codes "MODALIAS") inner × IfSome (one_of (codes "limit") inner) IsNumber)
-    ⊎ ((name ≡ codes "check")
-    ⊎ (((name ≡ codes "diff") × HasValue (codes "OLD") inner × HasValue (codes "NEW") inner)
-    ⊎ ((name ≡ codes "verify")
-    ⊎ ((name ≡ codes "dump")
-    ⊎ ((name ≡ codes "device")
-    ⊎ (((name ≡ codes "near") × HasValue (codes "MODALIAS") inner × IfSome (one_of (codes "limit") inner) IsNumber)
-    ⊎ (((name ≡ codes "test") × HasValue (codes "FILE") inner)
-    ⊎ ((name ≡ codes "status")
-    ⊎ ((name ≡ codes "keys")
-    ⊎ ((name ≡ codes "scan") × HasValue (codes "DEVICE") inner × IfSome (one_of (codes "count") inner) IsNumber))))))))))))))
+IsCommand name inner = IsOneOf hwdb_app.subs name inner

@@ -40,6 +40,7 @@ pub mod Commands
 pub mod Ignored
 pub mod Status
 pub mod Done
+pub mod FirstParts
 pub mod Near
 pub mod NearAsked
 pub mod NearPrefixes
@@ -82,3 +83,5 @@ pub mod KeysAsked
 pub mod AllStrings
 pub mod Scans
 pub mod ScanAsked
+pub mod Exports
+pub mod Patches

@@ -1,5 +1,5 @@
 -- The pattern that almost matched, and where it stopped: what `near` says. Our choice.
-use Rattle.std.specs.Prelude.{Bool, true, false, ℕ, zero, suc, List, [], ◌∷◌, ◌++◌, ◌+◌, ◌==◌, if◌then◌else◌, codes, drop, filter, flat_map, length, map, nat_le, nat_lt, not, reverse, take}
+use Rattle.std.specs.Prelude.{Bool, true, false, ℕ, zero, suc, List, [], ◌∷◌, ◌++◌, ◌+◌, ◌==◌, None, Option, Some, if◌then◌else◌, codes, drop, filter, flat_map, length, map, nat_le, nat_lt, not, reverse, take}
 use Rattle.std.specs.List.{list_any, position_or_len}
 use Rattle.std.specs.declared.cmp.Ordering.{Ordering}
 use Rattle.std.specs.Ordering.{nat_cmp, ordering_then}
@@ -11,6 +11,7 @@ use Rattle.hwdb_spec.specs.Forms.{is_star, text_size}
 use Rattle.hwdb_spec.specs.Fronts.{Front}
 use Rattle.hwdb_spec.specs.Tree.{some_up_to}
 use Rattle.hwdb_spec.specs.Texts.{place_text}
+use Rattle.hwdb_spec_commands.specs.FirstParts.{part_before}
 use Rattle.hwdb_spec_commands.specs.Reports.{mark_line, shown, shown_line}
 use Rattle.hwdb_spec_commands.specs.Json.{json_line, number_json, object_of, text_json}
 
@@ -188,10 +189,16 @@ byte_text wanted left = if is_replacement wanted left then replaced_text wanted 
 abbrev pub name_text : (device : List ℕ) → List ℕ
 name_text device = codes "; 'hwdb device " ++ (shown device ++ codes "' says what udev asks for a device of this name")
 
+-- why it stops at a device that begins with this part: the pattern begins with another one, or one may be missing before this
+abbrev pub other_head : (head : List ℕ) → Option (List ℕ) → List ℕ
+other_head head None = codes "the device begins with " ++ (quoted head ++ codes ": begin the pattern with that")
+other_head head (Some part) =
+    codes "the device begins with " ++ (quoted head ++ (codes ", and most patterns for it have " ++ (quoted part ++ codes " before that; 'hwdb device' says what udev asks")))
+
 -- why it stops before the device's first colon is passed: the two begin with other parts, or the device has none
 abbrev pub head_text : (pattern device wanted left : List ℕ) → List ℕ
 head_text pattern device wanted left =
-    if has_head device then codes "the device begins with " ++ (quoted (head_of device) ++ codes ": begin the pattern with that")
+    if has_head device then other_head (head_of device) (part_before (head_of device))
     else (if has_head pattern
     then codes "the device has no prefix like " ++ (quoted (head_of pattern) ++ name_text device)
     else byte_text wanted left)

@@ -33,7 +33,7 @@ takes_text (Query devices json) = true
 takes_text (Explain device json) = true
 takes_text (ListHits after limit device json) = true
 takes_text (Near files device limit json) = true
-takes_text (Device path strings json pattern all) = true
+takes_text (Device path strings json pattern all from) = true
 takes_text (Test files database json) = true
 takes_text (Verify database) = true
 takes_text (Dump database) = true
@@ -47,7 +47,7 @@ text_if false text = None
 -- what is said of other words that don't fit `--text`: they name what is asked, or no database is
 abbrev pub misuse_text : Task → Option (List ℕ)
 misuse_text (Near files device limit json) = text_if (not (length files.items == 0)) (codes "--text and FILE are two sources: leave out one of them")
-misuse_text (Device path strings json pattern all) = text_if (not (is_some path || all)) (codes "--text needs DEVICE or --all: a list of devices asks no database")
+misuse_text (Device path strings json pattern all from) = text_if (not (is_some path || all)) (codes "--text needs DEVICE or --all: a list of devices asks no database")
 misuse_text (Test files database json) = text_if (is_some database) (codes "--text and --database are two sources: leave out one of them")
 misuse_text (Verify database) = text_if (is_some database) (codes "--text and DATABASE are two sources: leave out one of them")
 misuse_text (Dump database) = text_if (is_some database) (codes "--text and DATABASE are two sources: leave out one of them")

@@ -48,11 +48,17 @@ abbrev pub is_missing : Cause → Bool
 is_missing (System number) = int_eq number (pos 2)
 is_missing cause = false
 
+-- whether it is that a folder is there: EISDIR
+abbrev pub is_of_folder : Cause → Bool
+is_of_folder (System number) = int_eq number (pos 21)
+is_of_folder cause = false
+
 -- what to do if a path can't be read for some cause
 abbrev pub advice_for : (path : List ℕ) → Cause → List ℕ
 advice_for path cause =
     if is_denied cause then codes "; run it as root: sudo hwdb scan " ++ shell_word path
-    else (if is_missing cause then codes "; 'hwdb device' lists the devices" else [])
+    else (if is_missing cause then codes "; 'hwdb device' lists the devices"
+    else (if is_of_folder cause then codes "; give a device in it, as event4: 'hwdb device' lists them" else []))
 
 -- a cause after a name, in these words, and what to do
 abbrev pub cause_text : (name : List ℕ) → Cause → (words : List ℕ) → List ℕ

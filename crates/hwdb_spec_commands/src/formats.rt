@@ -11,6 +11,8 @@ pub enum Format {
     Github,
     /// One log in SARIF 2.1.0.
     Sarif,
+    /// A patch of what can be mended surely, in place of findings.
+    Patch,
 }
 
 /// The words that `--format` takes.

@@ -57,6 +57,8 @@ pub enum Task {
         json: bool,
         /// The name of the format, if one is given.
         format: Option<String>,
+        /// Whether a patch of what can be mended surely is printed instead.
+        diff: bool,
         /// The path that findings of standard input have, if one is given.
         name: Option<String>,
         /// The path of a file with findings that are let pass; none if each is told.
@@ -94,6 +96,8 @@ pub enum Task {
         pattern: bool,
         /// Whether the strings of all devices are printed.
         all: bool,
+        /// The path of an export of udev's database, or `-` for standard input; none if sysfs is asked.
+        from: Option<String>,
     },
     /// Print what changed from one side to another: a database, a text file, a folder of text files or a root.
     Diff {

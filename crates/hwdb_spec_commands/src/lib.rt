@@ -46,6 +46,7 @@
 //! | `Ignored` | which files of the folders of text files are none, by their names |
 //! | `Status` | what `status` says of the database that is asked, beside what the text files make |
 //! | `Done` | what `update` and `ask` leave, and what a crash leaves during an update |
+//! | `FirstParts` | strings whose first part may be left out |
 //! | `Near` | the pattern that almost matched a device, and where it stopped |
 //! | `NearAsked` | which patterns `near` compares with a device: those of text files, or of a database |
 //! | `NearPrefixes` | of some strings with a prefix and of some patterns with it the two that are nearest |
@@ -88,6 +89,8 @@
 //! | `AllStrings` | the strings of all devices, each once |
 //! | `Scans` | the keys that events of a keyboard tell |
 //! | `ScanAsked` | what `scan` reads, and what is said if it can't be read |
+//! | `Exports` | what an export of udev's database tells of devices, as sysfs would, and what it lacks |
+//! | `Patches` | the patch that `check --diff` prints, and which mends are sure |
 //!
 //! The types below are those that the definitions name.
 #![tactic(auto)]
@@ -95,6 +98,7 @@
 mod attributes;
 mod colours;
 mod devices;
+mod exported;
 mod finders;
 mod form;
 mod formats;
@@ -107,6 +111,7 @@ mod vocabulary;
 pub use attributes::ATTRIBUTES;
 pub use colours::{LinePart, Style, TextKind};
 pub use devices::DeviceForm;
+pub use exported::EXPORTED;
 pub use finders::FINDERS;
 pub use form::Form;
 pub use formats::{FORMATS, Format};

@@ -9,7 +9,7 @@ use Rattle.hwdb_spec_commands.specs.Given.{is_dash, any_dash, is_input}
 use Rattle.hwdb_spec_program.specs.GivenDatabases.{names_input}
 use Rattle.hwdb_spec_commands.specs.Runs.{AreKept, HasTaken, World}
 use Rattle.hwdb_spec.specs.Store.{Contents, Outcomes}
-use Rattle.hwdb_spec_commands.specs.declared.job.Task.TheVariants.{Ask, Check, Diff, Dump, Explain, Keys, Near, Query, Scan, Test, Update, Verify}
+use Rattle.hwdb_spec_commands.specs.declared.job.Task.TheVariants.{Ask, Check, Device, Diff, Dump, Explain, Keys, Near, Query, Scan, Test, Update, Verify}
 use Rattle.hwdb_spec_commands.specs.declared.job.Task.{Task}
 use Rattle.hwdb_spec_commands.specs.declared.job.Job.{Job}
 use Rattle.hwdb_spec_commands.specs.Done.{IsLeftByUpdateLess}
@@ -23,7 +23,7 @@ root_of job = option_map_or string_bytes job.root []
 abbrev pub looks_below_root : Task → Bool
 looks_below_root (Ask file device) = false
 looks_below_root (Diff old_path new_path devices json stat) = false
-looks_below_root (Check files allowed json format name baseline) = length files.items == 0
+looks_below_root (Check files allowed json format diff name baseline) = length files.items == 0
 looks_below_root (Near files device limit json) = length files.items == 0
 looks_below_root (Verify database) = not (is_some database)
 looks_below_root (Dump database) = not (is_some database)
@@ -56,13 +56,14 @@ abbrev pub reads_input : Task → Bool
 reads_input (Query devices json) = is_input (map string_bytes devices.items)
 reads_input (Explain device json) = is_dash (string_bytes device)
 reads_input (Ask file device) = is_dash (string_bytes file)
-reads_input (Check files allowed json format name baseline) = any_dash (map string_bytes files.items)
+reads_input (Check files allowed json format diff name baseline) = any_dash (map string_bytes files.items)
 reads_input (Near files device limit json) = any_dash (map string_bytes files.items)
 reads_input (Test files database json) = any_dash (map string_bytes files.items)
 reads_input (Diff old_path new_path devices json stat) = any_dash (string_bytes old_path ∷ string_bytes new_path ∷ map string_bytes devices.items)
 reads_input (Verify database) = names_input (option_map string_bytes database)
 reads_input (Dump database) = names_input (option_map string_bytes database)
 reads_input (Scan device count) = true
+reads_input (Device path strings json pattern all from) = names_input (option_map string_bytes from)
 reads_input _ = false
 
 -- the task is an update

@@ -7,7 +7,7 @@ use Rattle.std.specs.Option.{option_or, unwrap_or}
 use Rattle.std.specs.Prelude.{◌-◌, ◌==◌, ◌≡◌, ◌⊎◌, ◌||◌, ◌∷◌, ℕ, Bool, false, List, [], None, Option, Some, Result, Ok, Err, IfSome, codes, find, if◌then◌else◌, is_some, length, not, option_map, take, true, ◌&&◌}
 use Rattle.std.specs.Str.{bytes_eq}
 use Rattle.std.specs.Str.Parse.{digits_value, without_leading_plus}
-use Rattle.hwdb_spec_commands.specs.Checks.{format_of}
+use Rattle.hwdb_spec_commands.specs.Patches.{format_asked}
 use Rattle.hwdb_spec_commands.specs.CommandLine.{hwdb_app}
 use Rattle.hwdb_spec_commands.specs.DeviceAsked.{device_form}
 use Rattle.hwdb_spec_commands.specs.DeviceTree.{Sight, last_after}
@@ -40,6 +40,7 @@ use Rattle.hwdb_plan.specs.List.{list_plan}
 use Rattle.hwdb_plan.specs.Near.{near_request}
 use Rattle.hwdb_plan.specs.OverText.{if_fit, replaced_of, text_plan}
 use Rattle.hwdb_plan.specs.Plans.{Plan}
+use Rattle.hwdb_plan.specs.Report.{report_answer}
 use Rattle.hwdb_plan.specs.Putting.{OldOrPut}
 use Rattle.hwdb_plan.specs.Requests.{Around, Command, Request, Search, plan_of}
 use Rattle.hwdb_plan.specs.Requests.Command.{OfDevices, OfFiles}
@@ -93,12 +94,24 @@ device_of sight root rows =
     search_of sight asked_names root (device_form (has_flag (codes "strings") rows) (has_flag (codes "json") rows) (has_flag (codes "pattern") rows))
     (has_flag (codes "all") rows) (first_of (codes "DEVICE") rows)
 
+-- the same over an export of udev's database
+abbrev pub report_of : (root : List ℕ) → List Row → (from : Text) → Request
+report_of root rows from =
+    AtPath from
+    (report_answer asked_names root (device_form (has_flag (codes "strings") rows) (has_flag (codes "json") rows) (has_flag (codes "pattern") rows))
+    (has_flag (codes "all") rows) (first_of (codes "DEVICE") rows))
+
+-- of sysfs, or of an export if one is named
+abbrev pub device_command : Sight → (root : List ℕ) → List Row → (from : Option Text) → Command
+device_command sight root rows None = OfDevices (device_of sight root rows)
+device_command sight root rows (Some from) = OfFiles (report_of root rows from)
+
 -- `check`
 abbrev pub check_of : (root : List ℕ) (strict : Bool) → List Row → Request
 check_of root strict rows =
     let name = first_of (codes "name") rows in
     check_request (values_of (codes "FILE") rows) root name (first_of (codes "baseline") rows)
-    (said_of (format_of (has_flag (codes "json") rows) (first_of (codes "format") rows)) strict (values_of (codes "allow") rows) name)
+    (said_of (format_asked (has_flag (codes "diff") rows) (has_flag (codes "json") rows) (first_of (codes "format") rows)) strict (values_of (codes "allow") rows) name)
 
 -- `ask`
 abbrev pub ask_of : List Row → Request
@@ -126,7 +139,7 @@ commands sight root strict rows =
     ∷ (codes "ask", OfFiles (ask_of rows))
     ∷ (codes "list", OfFiles (Alone (list_plan root json device (first_of (codes "after") rows) (limit_of rows))))
     ∷ (codes "near", OfFiles (near_of root rows))
-    ∷ (codes "device", OfDevices (device_of sight root rows))
+    ∷ (codes "device", device_command sight root rows (first_of (codes "from") rows))
     ∷ (codes "check", OfFiles (check_of root strict rows))
     ∷ (codes "test", OfFiles (test_request (values_of (codes "FILE") rows) (first_of (codes "database") rows) root json))
     ∷ (codes "verify", OfFiles (OfBase (first_of (codes "DATABASE") rows) root summary))

@@ -20,7 +20,7 @@ use Rattle.hwdb_spec_commands.specs.declared.refusals.Refusal.{Refusal}
 -- the status of an error: 2 of `diff` and `check`, whose 1 says that something changed or was found; else 1
 abbrev pub refused_status : Task → ℕ
 refused_status (Diff old_path new_path devices json stat) = 2
-refused_status (Check files allowed json format name baseline) = 2
+refused_status (Check files allowed json format diff name baseline) = 2
 refused_status _ = 1
 
 -- what is said of an error: if standard output fails and the system tells why, that it can't be written

@@ -1,0 +1,267 @@
+//! Which mends of a file are sure: with them nothing new is found, and nothing that was mended.
+ghost use Rattle.std.specs.Prelude.{◌≡◌, IfErr, IfOk, List, ℕ, length, map, string_bytes};
+ghost use Rattle.hwdb_spec_commands.specs.AllowedKinds.{file_findings};
+ghost use Rattle.hwdb_spec_commands.specs.Baselines;
+ghost use Rattle.hwdb_spec_commands.specs.CheckErrors.{IsFileRefusal};
+ghost use Rattle.hwdb_spec_commands.specs.Patches;
+ghost use Rattle.hwdb_check.specs.Found.{finds, kept_of};
+ghost use Rattle.hwdb_check.specs.Patching.{IsMended, edits_of};
+ghost use Rattle.hwdb_check.specs.Places.{told_at};
+
+use crate::baselines::{mark_of, new_findings};
+use crate::edit_records::record_by_record;
+use crate::edits::{Change, Edit, first_mend, is_ended, line_by_line, text_of, unmended};
+use crate::files::look_over;
+use crate::findings::{Found, copy_of, push_count};
+use crate::kinds::Telling;
+use hwdb_text::ScanError;
+use std::alloc::{AllocError, Global};
+
+/// The lines of a file with its sure mends, and how much is found before and after them.
+#[derive(Drop)]
+pub struct Mended<'f> {
+    /// The lines.
+    pub edits: Vec<Edit<'f>>,
+    /// How many findings the file has.
+    pub before: usize,
+    /// How many it has with the mends.
+    pub left: usize,
+}
+
+/// A file, and how its findings are told.
+#[derive(Clone, Copy)]
+struct Place<'a> {
+    /// How they are told.
+    telling: &'a Telling<'a>,
+    /// The path that is printed for it.
+    path: &'a [u8],
+    /// Whether a newline ends its last line.
+    ended: bool,
+}
+
+/// What stands for a finding's line, so that findings of two texts can be compared. The only error, here and below, is `AllocError`.
+fn number_text(alloc: Global, found: &Found) -> Result<Vec<u8>, AllocError>
+    ensures { IfOk result
+        (λ text. text.items ≡ (Patches.at_number (kept_of found.now)).source) }
+{
+    let mut text = Vec::new(alloc);
+    push_count(&mut text, found.line)?;
+    text.push(b' ')?;
+    if found.fix.is_some() {
+        text.extend_from_slice(&found.source)?;
+    }
+    Ok(text)
+}
+
+/// A finding with its line's number in place of the line.
+fn at_number(alloc: Global, found: &Found) -> Result<Found, AllocError>
+    ensures { IfOk result (λ f. kept_of f ≡ Patches.at_number (kept_of found.now)) }
+{
+    Ok(Found {
+        path: Vec::from_slice(alloc, &found.path)?,
+        line: found.line,
+        place: found.place,
+        fault: found.fault,
+        kind: found.kind,
+        text: Vec::from_slice(alloc, &found.text)?,
+        hint: Vec::from_slice(alloc, &found.hint)?,
+        source: number_text(alloc, found)?,
+        fix: copy_of(alloc, &found.fix)?,
+    })
+}
+
+/// Some findings, each so.
+fn at_numbers(alloc: Global, found: &[Found]) -> Result<Vec<Found>, AllocError>
+    ensures { IfOk result (λ all. finds all.items ≡ map Patches.at_number (finds found.now)) }
+{
+    let mut all = Vec::new(alloc);
+    for one in found {
+        let so = at_number(alloc, one)?;
+        all.push(so).map_err(AllocError::from)?;
+    }
+    Ok(all)
+}
+
+/// What is compared of a finding.
+fn number_mark(alloc: Global, found: &Found) -> Result<Vec<u8>, AllocError>
+    ensures { IfOk result
+        (λ mark. mark.items ≡ Baselines.mark_of (Patches.at_number (kept_of found.now))) }
+{
+    let so = at_number(alloc, found)?;
+    mark_of(alloc, &so)
+}
+
+/// The same of some findings.
+fn number_marks(alloc: Global, found: &[Found]) -> Result<Vec<Vec<u8>>, AllocError>
+    ensures { IfOk result (λ all. map (λ t. t.items) all.items
+        ≡ map (λ f. Baselines.mark_of (Patches.at_number f)) (finds found.now)) }
+{
+    let mut all = Vec::new(alloc);
+    for one in found {
+        let mark = number_mark(alloc, one)?;
+        all.push(mark).map_err(AllocError::from)?;
+    }
+    Ok(all)
+}
+
+/// The findings of a patched text that aren't those of the old one.
+fn worse(alloc: Global, before: &[Found], now: &[Found]) -> Result<Vec<Found>, AllocError>
+    ensures { IfOk result
+        (λ new. finds new.items ≡ Patches.worse (finds before.now) (finds now.now)) }
+{
+    let known = number_marks(alloc, before)?;
+    let now = at_numbers(alloc, now)?;
+    new_findings(alloc, &known, now)
+}
+
+/// What is found in a file with some mends. Its text has as many lines as the file, so that only want of memory can stop this.
+fn found_with(
+    alloc: Global,
+    place: &Place<'_>,
+    edits: &[Edit<'_>],
+) -> Result<Vec<Found>, AllocError>
+    ensures { IfOk result (λ all. finds all.items
+        ≡ told_at place.now (Patches.text_of place.now.ended (edits_of edits.now))) }
+{
+    let text = text_of(alloc, place.ended, edits)?;
+    match look_over(alloc, place.telling, place.path, &text) {
+        Ok(seen) => Ok(seen.found),
+        Err(_) => Err(AllocError),
+    }
+}
+
+/// What is mended already, mended by what is found then.
+fn once_more<'f>(
+    alloc: Global,
+    place: &Place<'_>,
+    edits: &[Edit<'f>],
+) -> Result<Vec<Edit<'f>>, AllocError>
+    ensures { IfOk result (λ all. edits_of all.items ≡ Patches.once_more
+        (told_at place.now) place.now.ended (edits_of edits.now)) }
+{
+    let found = found_with(alloc, place, edits)?;
+    line_by_line(alloc, Change::MendAgain, &found, edits)
+}
+
+/// The lines in which nothing new is found; the others stay as they were.
+fn not_worse<'f>(
+    alloc: Global,
+    place: &Place<'_>,
+    before: &[Found],
+    edits: &[Edit<'f>],
+) -> Result<Vec<Edit<'f>>, AllocError>
+    ensures { IfOk result (λ all. edits_of all.items ≡ Patches.not_worse
+        (told_at place.now) place.now.ended (finds before.now) (edits_of edits.now)) }
+{
+    let now = found_with(alloc, place, edits)?;
+    let new = worse(alloc, before, &now)?;
+    line_by_line(alloc, Change::TakeBack, &new, edits)
+}
+
+/// The records in which nothing new is found; the others stay as they were.
+fn whole_records<'f>(
+    alloc: Global,
+    place: &Place<'_>,
+    before: &[Found],
+    edits: &[Edit<'f>],
+) -> Result<Vec<Edit<'f>>, AllocError>
+    ensures { IfOk result (λ all. edits_of all.items ≡ Patches.whole_records
+        (told_at place.now) place.now.ended (finds before.now) (edits_of edits.now)) }
+{
+    let now = found_with(alloc, place, edits)?;
+    let new = worse(alloc, before, &now)?;
+    record_by_record(alloc, &new, edits)
+}
+
+/// A file of which each line stays.
+fn nothing_mended<'f>(
+    alloc: Global,
+    bytes: &'f [u8],
+    before: &[Found],
+) -> Result<Mended<'f>, AllocError>
+    ensures { IfOk result (IsMended (Patches.none_mended bytes.now (finds before.now))) }
+{
+    Ok(Mended {
+        edits: unmended(alloc, bytes)?,
+        before: before.len(),
+        left: before.len(),
+    })
+}
+
+/// These mends if nothing new is found with them, else none.
+fn all_or_none<'f>(
+    alloc: Global,
+    place: &Place<'_>,
+    bytes: &'f [u8],
+    before: &[Found],
+    edits: Vec<Edit<'f>>,
+) -> Result<Mended<'f>, AllocError>
+    ensures { IfOk result (IsMended (Patches.all_or_none (told_at place.now) place.now.ended
+        bytes.now (finds before.now) (edits_of edits.entry.items))) }
+{
+    let left = found_with(alloc, place, &edits)?;
+    let new = worse(alloc, before, &left)?;
+    if new.is_empty() {
+        return Ok(Mended {
+            edits,
+            before: before.len(),
+            left: left.len(),
+        });
+    }
+    nothing_mended(alloc, bytes, before)
+}
+
+/// All mends that can be tried, each line up to three times.
+fn all_tried<'f>(
+    alloc: Global,
+    place: &Place<'_>,
+    bytes: &'f [u8],
+    before: &[Found],
+) -> Result<Vec<Edit<'f>>, AllocError>
+    ensures { IfOk result (λ all. edits_of all.items ≡ Patches.all_tried
+        (told_at place.now) place.now.ended bytes.now (finds before.now)) }
+{
+    let lines = unmended(alloc, bytes)?;
+    let first = line_by_line(alloc, Change::Mend, before, &lines)?;
+    let second = once_more(alloc, place, &first)?;
+    once_more(alloc, place, &second)
+}
+
+/// Those of them that are sure.
+fn tried<'f>(
+    alloc: Global,
+    place: &Place<'_>,
+    bytes: &'f [u8],
+    before: &[Found],
+) -> Result<Mended<'f>, AllocError>
+    ensures { IfOk result (IsMended (Patches.tried
+        (told_at place.now) place.now.ended bytes.now (finds before.now))) }
+{
+    if first_mend(before).is_none() {
+        return nothing_mended(alloc, bytes, before);
+    }
+    let all = all_tried(alloc, place, bytes, before)?;
+    let lines = not_worse(alloc, place, before, &all)?;
+    let edits = whole_records(alloc, place, before, &lines)?;
+    all_or_none(alloc, place, bytes, before, edits)
+}
+
+/// The lines of a file with its sure mends. `telling` has lines of JSON, which have mends.
+pub fn mend_file<'f>(
+    alloc: Global,
+    telling: &Telling<'_>,
+    path: &[u8],
+    bytes: &'f [u8],
+) -> Result<Mended<'f>, ScanError>
+    ensures mended { IfOk result (IsMended (Patches.mended (file_findings telling.now.format
+        (map string_bytes telling.now.allowed.now) path.now) bytes.now)) }
+    ensures errors { IfErr result (IsFileRefusal bytes.now) }
+{
+    let seen = look_over(alloc, telling, path, bytes)?;
+    let place = Place {
+        telling,
+        path,
+        ended: is_ended(bytes),
+    };
+    Ok(tried(alloc, &place, bytes, &seen.found)?)
+}
