@@ -46,7 +46,7 @@ fn is_one_of(text: &str, words: &[&str]) -> bool {
 fn for_update(rt: &HostRuntime, words: &[String], switch: Switch) -> Switch {
     match read_words(rt.alloc(), words) {
         Ok(job) => match job.task {
-            Task::Update { .. } => switch,
+            Task::Update(_) => switch,
             _ => Switch::Off,
         },
         Err(WordsFault::Memory) => Switch::Unknown,

@@ -32,7 +32,7 @@ impl Read for Input {
 /// The path of the device that a job reads, if it reads one.
 fn device_of(rt: &HostRuntime, job: &Job) -> Result<Option<String>, AllocError> {
     match &job.task {
-        Task::Scan { device, .. } => scanned_path(rt.alloc(), root_of(job), device.as_str()),
+        Task::Scan(args) => { scanned_path(rt.alloc(), root_of(job), args.device.as_str()) },
         _ => Ok(None),
     }
 }

@@ -1,6 +1,6 @@
 //! What the words ask for, by the exact matches that `clap` finds.
-ghost use Rattle.std.specs.Prelude.{◌≡◌, ◌≢◌, ◌⊎◌, IfOk, IfErr, true, false, map, string_bytes, option_map, codes, []};
-ghost use Rattle.std.specs.Option.{option_or};
+ghost use Rattle.std.specs.Prelude.{◌≡◌, ◌≢◌, ◌⊎◌, ◌&&◌, IfErr, IfOk, None, [], false, is_some, map, option_map, string_bytes, true};
+ghost use Rattle.std.specs.Option.{option_or, unwrap_or};
 ghost use Rattle.clap.specs.Walk.{first_of, rows_of};
 ghost use Rattle.clap.specs.Matches.{found_of};
 ghost use Rattle.clap.specs.Simple.{matches_of, subcommand_of};
@@ -8,7 +8,7 @@ ghost use Rattle.clap.specs.Takes.{takes};
 ghost use Rattle.clap.specs.Faults.{fault_of};
 ghost use Rattle.clap.specs.Values.{kind_of};
 ghost use Rattle.hwdb_spec_commands.specs.CommandLine.{hwdb_app};
-ghost use Rattle.hwdb_spec_commands.specs.Jobs.{IsCommand, IsJob, IsJobOf, IsTask, has_flag};
+ghost use Rattle.hwdb_spec_commands.specs.Jobs.{IsCommand, IsJob, IsJobOf, IsTask, has_flag, text_taker};
 ghost use Rattle.hwdb_spec_commands.specs.WordFaults.{IsToldOf, IsToldOfOne};
 ghost use Rattle.hwdb_spec_commands.specs.declared.job.WordsFault.TheVariants.{Memory};
 
@@ -49,6 +49,21 @@ fn task_of(alloc: Global, name: &str, inner: &ArgMatches<'_>) -> Result<Task, Al
     }
 }
 
+/// Whether the command takes `--text`: if so, what is said of its other words if they don't fit that.
+fn text_taker(name: &str, inner: &ArgMatches<'_>) -> Option<Option<&'static str>>
+    ensures { option_map (λ m. option_map (λ t. t.now) m) result
+        ≡ text_taker name.now (rows_of (found_of inner.now)) }
+{
+    match name {
+        "query" | "explain" | "list" => Some(None),
+        "near" => Some(near::misfit(inner)),
+        "device" => Some(device::misfit(inner)),
+        "test" => Some(test::misfit(inner)),
+        "verify" | "dump" => Some(verify::misfit(inner)),
+        _ => None,
+    }
+}
+
 /// A text that may be given before and after the command: the one after it counts first.
 fn shared_text(
     alloc: Global,
@@ -82,12 +97,15 @@ fn job_of(
     let color = shared_text(alloc, top, inner, "color")?;
     let usr = has_flag(inner, "usr") || has_flag(top, "usr");
     let strict = has_flag(inner, "strict") || has_flag(top, "strict");
-    let text = has_flag(inner, "text");
+    let taker = text_taker(name, inner);
+    let text = has_flag(inner, "text") && taker.is_some();
+    let misfit = taker.unwrap_or(None);
     let reload = has_flag(inner, "reload");
     Ok(Job {
         usr,
         strict,
         text,
+        misfit,
         reload,
         root,
         color,

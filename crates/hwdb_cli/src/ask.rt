@@ -9,7 +9,7 @@ ghost use Rattle.hwdb_spec_commands.specs.CommandLine.{ask_app};
 use crate::drafts::{Draft, device_argument, needed_word, shared, with_argument};
 use crate::matched::value_of;
 use clap::{ArgAction, ArgMatches};
-use hwdb_spec_commands::Task;
+use hwdb_spec_commands::{AskArgs, Task};
 use std::alloc::{AllocError, Global};
 
 /// What the short help says of it.
@@ -41,5 +41,5 @@ pub fn task(alloc: Global, inner: &ArgMatches<'_>) -> Result<Task, AllocError>
 {
     let file = value_of(alloc, inner, "FILE")?;
     let device = value_of(alloc, inner, "MODALIAS")?;
-    Ok(Task::Ask { file, device })
+    Ok(Task::Ask(AskArgs { file, device }))
 }

@@ -9,7 +9,7 @@ ghost use Rattle.hwdb_spec_commands.specs.CommandLine.{allow_rule, baseline_rule
 use crate::drafts::{Draft, flag, json_option, option, shared, with_argument, word};
 use crate::matched::{any_values_of, copied, has_flag, text_of};
 use clap::{Arg, ArgAction, ArgMatches};
-use hwdb_spec_commands::Task;
+use hwdb_spec_commands::{CheckArgs, Task};
 use std::alloc::{AllocError, Global};
 
 /// What the short help says of it.
@@ -91,7 +91,7 @@ pub fn task(alloc: Global, inner: &ArgMatches<'_>) -> Result<Task, AllocError>
     let format = copied(alloc, text_of(inner, "format"))?;
     let name = copied(alloc, text_of(inner, "name"))?;
     let baseline = copied(alloc, text_of(inner, "baseline"))?;
-    Ok(Task::Check {
+    Ok(Task::Check(CheckArgs {
         files,
         allowed,
         json,
@@ -99,5 +99,5 @@ pub fn task(alloc: Global, inner: &ArgMatches<'_>) -> Result<Task, AllocError>
         diff,
         name,
         baseline,
-    })
+    }))
 }

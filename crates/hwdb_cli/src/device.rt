@@ -1,15 +1,15 @@
 //! `device`: its words, and its task.
-ghost use Rattle.std.specs.Prelude.{IfOk, codes};
+ghost use Rattle.std.specs.Prelude.{◌≡◌, IfOk, codes, option_map};
 ghost use Rattle.clap.specs.Walk.{rows_of};
 ghost use Rattle.clap.specs.Matches.{found_of};
 ghost use Rattle.hwdb_cli.specs.Drafts.{IsArgument, IsDraft};
-ghost use Rattle.hwdb_spec_commands.specs.Jobs.{IsTask};
+ghost use Rattle.hwdb_spec_commands.specs.Jobs.{IsTask, list_misfit};
 ghost use Rattle.hwdb_spec_commands.specs.CommandLine.{device_app, from_rule};
 
 use crate::drafts::{Draft, flag, json_option, option, shared, text_option, with_argument, word};
 use crate::matched::{copied, has_flag, text_of};
 use clap::{Arg, ArgAction, ArgMatches};
-use hwdb_spec_commands::Task;
+use hwdb_spec_commands::{DeviceArgs, Task};
 use std::alloc::{AllocError, Global};
 
 /// What the short help says of it.
@@ -61,12 +61,22 @@ pub fn task(alloc: Global, inner: &ArgMatches<'_>) -> Result<Task, AllocError>
     let pattern = has_flag(inner, "pattern");
     let all = has_flag(inner, "all");
     let from = copied(alloc, text_of(inner, "from"))?;
-    Ok(Task::Device {
+    Ok(Task::Device(DeviceArgs {
         path,
         strings,
         json,
         pattern,
         all,
         from,
-    })
+    }))
+}
+
+/// What is said of a list of devices with `--text`.
+pub fn misfit(inner: &ArgMatches<'_>) -> Option<&'static str>
+    ensures { option_map (λ t. t.now) result ≡ list_misfit (rows_of (found_of inner.now)) }
+{
+    if text_of(inner, "DEVICE").is_some() || has_flag(inner, "all") {
+        return None;
+    }
+    Some("--text needs DEVICE or --all: a list of devices asks no database")
 }

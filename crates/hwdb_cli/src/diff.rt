@@ -9,7 +9,7 @@ ghost use Rattle.hwdb_spec_commands.specs.CommandLine.{devices_option_rule, diff
 use crate::drafts::{Draft, flag, json_option, needed_word, option, shared, with_argument};
 use crate::matched::{any_values_of, has_flag, value_of};
 use clap::{Arg, ArgAction, ArgMatches};
-use hwdb_spec_commands::Task;
+use hwdb_spec_commands::{DiffArgs, Task};
 use std::alloc::{AllocError, Global};
 
 /// What the short help says of it.
@@ -60,11 +60,11 @@ pub fn task(alloc: Global, inner: &ArgMatches<'_>) -> Result<Task, AllocError>
     let old = value_of(alloc, inner, "OLD")?;
     let new = value_of(alloc, inner, "NEW")?;
     let devices = any_values_of(alloc, inner, "devices")?;
-    Ok(Task::Diff {
+    Ok(Task::Diff(DiffArgs {
         old,
         new,
         devices,
         json: has_flag(inner, "json"),
         stat: has_flag(inner, "stat"),
-    })
+    }))
 }

@@ -9,7 +9,7 @@ ghost use Rattle.hwdb_spec_commands.specs.CommandLine.{dump_app};
 use crate::drafts::{Draft, database_argument, shared, text_option, with_argument};
 use crate::matched::{copied, text_of};
 use clap::ArgMatches;
-use hwdb_spec_commands::Task;
+use hwdb_spec_commands::{DumpArgs, Task};
 use std::alloc::{AllocError, Global};
 
 /// What the short help says of it.
@@ -35,5 +35,5 @@ pub fn task(alloc: Global, inner: &ArgMatches<'_>) -> Result<Task, AllocError>
     ensures { IfOk result (IsTask (codes "dump") (rows_of (found_of inner.now))) }
 {
     let database = copied(alloc, text_of(inner, "DATABASE"))?;
-    Ok(Task::Dump { database })
+    Ok(Task::Dump(DumpArgs { database }))
 }

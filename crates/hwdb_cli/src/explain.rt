@@ -9,7 +9,7 @@ ghost use Rattle.hwdb_spec_commands.specs.CommandLine.{explain_app};
 use crate::drafts::{Draft, json_option, needed_word, shared, text_option, with_argument};
 use crate::matched::{has_flag, value_of};
 use clap::{ArgAction, ArgMatches};
-use hwdb_spec_commands::Task;
+use hwdb_spec_commands::{ExplainArgs, Task};
 use std::alloc::{AllocError, Global};
 
 /// What the short help says of it.
@@ -43,5 +43,5 @@ pub fn task(alloc: Global, inner: &ArgMatches<'_>) -> Result<Task, AllocError>
 {
     let device = value_of(alloc, inner, "MODALIAS")?;
     let json = has_flag(inner, "json");
-    Ok(Task::Explain { device, json })
+    Ok(Task::Explain(ExplainArgs { device, json }))
 }

@@ -9,7 +9,7 @@ ghost use Rattle.hwdb_spec_commands.specs.CommandLine.{keys_app};
 use crate::drafts::{Draft, json_option, shared, with_argument, word};
 use crate::matched::{any_values_of, has_flag};
 use clap::{ArgAction, ArgMatches};
-use hwdb_spec_commands::Task;
+use hwdb_spec_commands::{KeysArgs, Task};
 use std::alloc::{AllocError, Global};
 
 /// What the short help says of it.
@@ -39,5 +39,5 @@ pub fn task(alloc: Global, inner: &ArgMatches<'_>) -> Result<Task, AllocError>
 {
     let words = any_values_of(alloc, inner, "WORD")?;
     let json = has_flag(inner, "json");
-    Ok(Task::Keys { words, json })
+    Ok(Task::Keys(KeysArgs { words, json }))
 }

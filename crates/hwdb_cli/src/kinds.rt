@@ -78,10 +78,10 @@ fn unknown_in<'w>(word: &'w str, kinds: &str) -> Option<&'w str> {
 ///
 /// The only error is want of memory.
 pub fn kind_fault(alloc: Global, task: &Task, kinds: &str) -> Result<Option<String>, AllocError> {
-    let Task::Check { allowed, .. } = task else {
+    let Task::Check(args) = task else {
         return Ok(None);
     };
-    for word in allowed {
+    for word in &args.allowed {
         if let Some(name) = unknown_in(word.as_str(), kinds) {
             return Ok(Some(fault_of(alloc, name, kinds)?));
         }
@@ -93,17 +93,10 @@ pub fn kind_fault(alloc: Global, task: &Task, kinds: &str) -> Result<Option<Stri
 ///
 /// The only error is want of memory.
 pub fn diff_fault(alloc: Global, task: &Task) -> Result<Option<String>, AllocError> {
-    let Task::Check {
-        diff: true,
-        json,
-        format,
-        baseline,
-        ..
-    } = task
-    else {
+    let Task::Check(args) = task else {
         return Ok(None);
     };
-    if !*json && format.is_none() && baseline.is_none() {
+    if !args.diff || (!args.json && args.format.is_none() && args.baseline.is_none()) {
         return Ok(None);
     }
     let mut text = String::new(alloc);
@@ -118,11 +111,10 @@ pub fn diff_fault(alloc: Global, task: &Task) -> Result<Option<String>, AllocErr
 ///
 /// The only error is want of memory.
 pub fn format_fault(alloc: Global, task: &Task) -> Result<Option<String>, AllocError> {
-    let Task::Check {
-        format: Some(name),
-        ..
-    } = task
-    else {
+    let Task::Check(args) = task else {
+        return Ok(None);
+    };
+    let Some(name) = &args.format else {
         return Ok(None);
     };
     if FORMATS.contains(&name.as_str()) {

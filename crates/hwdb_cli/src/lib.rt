@@ -31,5 +31,8 @@ mod verify;
 
 pub use args::read_words;
 pub use command::hwdb_command;
-pub use hwdb_spec_commands::{Job, Task, WordsFault};
+pub use hwdb_spec_commands::{
+    AskArgs, CheckArgs, DeviceArgs, DiffArgs, DumpArgs, ExplainArgs, Job, KeysArgs, ListArgs,
+    NearArgs, QueryArgs, ScanArgs, StatusArgs, Task, TestArgs, UpdateArgs, VerifyArgs, WordsFault,
+};
 pub use kinds::{diff_fault, format_fault, kind_fault};

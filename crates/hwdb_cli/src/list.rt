@@ -12,7 +12,7 @@ use crate::drafts::{
 use crate::matched::{copied, has_flag, text_of, value_of};
 use clap::builder::ValueParser;
 use clap::{Arg, ArgMatches};
-use hwdb_spec_commands::Task;
+use hwdb_spec_commands::{ListArgs, Task};
 use std::alloc::{AllocError, Global};
 
 /// What the short help says of it.
@@ -65,10 +65,10 @@ pub fn task(alloc: Global, inner: &ArgMatches<'_>) -> Result<Task, AllocError>
     let limit = limit_of(inner);
     let device = value_of(alloc, inner, "MODALIAS")?;
     let json = has_flag(inner, "json");
-    Ok(Task::List {
+    Ok(Task::List(ListArgs {
         after,
         limit,
         device,
         json,
-    })
+    }))
 }

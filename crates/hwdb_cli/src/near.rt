@@ -1,9 +1,9 @@
 //! `near`: its words, and its task.
-ghost use Rattle.std.specs.Prelude.{IfOk, IfSome, codes};
+ghost use Rattle.std.specs.Prelude.{◌≡◌, IfOk, IfSome, codes, option_map};
 ghost use Rattle.clap.specs.Walk.{one_of, rows_of};
 ghost use Rattle.clap.specs.Matches.{found_of};
 ghost use Rattle.hwdb_cli.specs.Drafts.{IsArgument, IsDraft};
-ghost use Rattle.hwdb_spec_commands.specs.Jobs.{HasValue, IsNumber, IsTask};
+ghost use Rattle.hwdb_spec_commands.specs.Jobs.{HasValue, IsNumber, IsTask, files_misfit};
 ghost use Rattle.hwdb_spec_commands.specs.CommandLine.{limit_rule, near_app};
 
 use crate::drafts::{Draft, json_option, needed_word, option, shared, text_option, with_argument};
@@ -11,7 +11,7 @@ use crate::list::limit_of;
 use crate::matched::{has_flag, values_of};
 use clap::builder::ValueParser;
 use clap::{Arg, ArgAction, ArgMatches};
-use hwdb_spec_commands::Task;
+use hwdb_spec_commands::{NearArgs, Task};
 use std::alloc::{AllocError, Global};
 
 /// What the short help says of it.
@@ -60,10 +60,22 @@ pub fn task(alloc: Global, inner: &ArgMatches<'_>) -> Result<Task, AllocError>
     let device = files.pop().unwrap();
     let limit = limit_of(inner);
     let json = has_flag(inner, "json");
-    Ok(Task::Near {
+    Ok(Task::Near(NearArgs {
         files,
         device,
         limit,
         json,
-    })
+    }))
+}
+
+/// What is said of files beside `--text`.
+pub fn misfit(inner: &ArgMatches<'_>) -> Option<&'static str>
+    ensures { option_map (λ t. t.now) result ≡ files_misfit (rows_of (found_of inner.now)) }
+{
+    match inner.get_strs("MODALIAS") {
+        Some(words) if words.len() > 1 => {
+            Some("--text and FILE are two sources: leave out one of them")
+        }
+        _ => None,
+    }
 }

@@ -9,7 +9,7 @@ ghost use Rattle.hwdb_spec_commands.specs.CommandLine.{query_app};
 use crate::drafts::{Draft, flag, json_option, needed_word, shared, text_option, with_argument};
 use crate::matched::{has_flag, values_of};
 use clap::{ArgAction, ArgMatches};
-use hwdb_spec_commands::Task;
+use hwdb_spec_commands::{QueryArgs, Task};
 use std::alloc::{AllocError, Global};
 
 /// What the short help says of it.
@@ -44,5 +44,5 @@ pub fn task(alloc: Global, inner: &ArgMatches<'_>) -> Result<Task, AllocError>
 {
     let devices = values_of(alloc, inner, "MODALIAS")?;
     let json = has_flag(inner, "json");
-    Ok(Task::Query { devices, json })
+    Ok(Task::Query(QueryArgs { devices, json }))
 }

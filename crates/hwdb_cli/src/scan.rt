@@ -10,7 +10,7 @@ use crate::drafts::{Draft, needed_word, option, shared, with_argument};
 use crate::matched::value_of;
 use clap::builder::ValueParser;
 use clap::{Arg, ArgAction, ArgMatches};
-use hwdb_spec_commands::Task;
+use hwdb_spec_commands::{ScanArgs, Task};
 use std::alloc::{AllocError, Global};
 
 /// What the short help says of it.
@@ -62,5 +62,5 @@ pub fn task(alloc: Global, inner: &ArgMatches<'_>) -> Result<Task, AllocError>
 {
     let count = count_of(inner);
     let device = value_of(alloc, inner, "DEVICE")?;
-    Ok(Task::Scan { device, count })
+    Ok(Task::Scan(ScanArgs { device, count }))
 }

@@ -1,5 +1,5 @@
 //! `status`: its words, and its task.
-ghost use Rattle.std.specs.Prelude.{IfOk, codes};
+ghost use Rattle.std.specs.Prelude.{codes};
 ghost use Rattle.clap.specs.Walk.{rows_of};
 ghost use Rattle.clap.specs.Matches.{found_of};
 ghost use Rattle.hwdb_cli.specs.Drafts.{IsDraft};
@@ -9,7 +9,7 @@ ghost use Rattle.hwdb_spec_commands.specs.CommandLine.{status_app};
 use crate::drafts::{Draft, json_option, shared, with_argument};
 use crate::matched::has_flag;
 use clap::ArgMatches;
-use hwdb_spec_commands::Task;
+use hwdb_spec_commands::{StatusArgs, Task};
 use std::alloc::{AllocError, Global};
 
 /// What the short help says of it.
@@ -35,5 +35,5 @@ pub fn task(inner: &ArgMatches<'_>) -> Task
     ensures { IsTask (codes "status") (rows_of (found_of inner.now)) result }
 {
     let json = has_flag(inner, "json");
-    Task::Status { json, quiet: false }
+    Task::Status(StatusArgs { json })
 }

@@ -1,15 +1,15 @@
 //! `test`: its words, and its task.
-ghost use Rattle.std.specs.Prelude.{IfOk, codes};
+ghost use Rattle.std.specs.Prelude.{◌≡◌, IfOk, codes, option_map};
 ghost use Rattle.clap.specs.Walk.{rows_of};
 ghost use Rattle.clap.specs.Matches.{found_of};
 ghost use Rattle.hwdb_cli.specs.Drafts.{IsArgument, IsDraft};
-ghost use Rattle.hwdb_spec_commands.specs.Jobs.{HasValue, IsTask};
+ghost use Rattle.hwdb_spec_commands.specs.Jobs.{HasValue, IsTask, option_misfit};
 ghost use Rattle.hwdb_spec_commands.specs.CommandLine.{database_option_rule, test_app};
 
 use crate::drafts::{Draft, json_option, needed_word, option, shared, text_option, with_argument};
 use crate::matched::{copied, has_flag, text_of, values_of};
 use clap::{Arg, ArgAction, ArgMatches};
-use hwdb_spec_commands::Task;
+use hwdb_spec_commands::{Task, TestArgs};
 use std::alloc::{AllocError, Global};
 
 /// What the short help says of it.
@@ -51,9 +51,19 @@ pub fn task(alloc: Global, inner: &ArgMatches<'_>) -> Result<Task, AllocError>
     let files = values_of(alloc, inner, "FILE")?;
     let database = copied(alloc, text_of(inner, "database"))?;
     let json = has_flag(inner, "json");
-    Ok(Task::Test {
+    Ok(Task::Test(TestArgs {
         files,
         database,
         json,
-    })
+    }))
+}
+
+/// What is said of a database beside `--text`.
+pub fn misfit(inner: &ArgMatches<'_>) -> Option<&'static str>
+    ensures { option_map (λ t. t.now) result ≡ option_misfit (rows_of (found_of inner.now)) }
+{
+    match text_of(inner, "database") {
+        Some(_) => Some("--text and --database are two sources: leave out one of them"),
+        None => None,
+    }
 }

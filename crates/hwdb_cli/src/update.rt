@@ -9,7 +9,7 @@ ghost use Rattle.hwdb_spec_commands.specs.CommandLine.{update_app};
 use crate::drafts::{Draft, flag, shared, with_argument};
 use crate::matched::has_flag;
 use clap::ArgMatches;
-use hwdb_spec_commands::Task;
+use hwdb_spec_commands::{Task, UpdateArgs};
 use std::alloc::Global;
 
 /// What the short help says of it.
@@ -41,13 +41,10 @@ pub fn task(inner: &ArgMatches<'_>) -> Task
     ensures { IsTask (codes "update") (rows_of (found_of inner.now)) result }
 {
     if has_flag(inner, "check") {
-        return Task::Status {
-            json: false,
-            quiet: true,
-        };
+        return Task::Fresh;
     }
-    Task::Update {
+    Task::Update(UpdateArgs {
         verbose: has_flag(inner, "verbose"),
         skip_unreadable: has_flag(inner, "skip-unreadable"),
-    }
+    })
 }

@@ -1,15 +1,15 @@
 //! `verify`: its words, and its task.
-ghost use Rattle.std.specs.Prelude.{IfOk, codes};
+ghost use Rattle.std.specs.Prelude.{◌≡◌, IfOk, codes, option_map};
 ghost use Rattle.clap.specs.Walk.{rows_of};
 ghost use Rattle.clap.specs.Matches.{found_of};
 ghost use Rattle.hwdb_cli.specs.Drafts.{IsDraft};
-ghost use Rattle.hwdb_spec_commands.specs.Jobs.{IsTask};
+ghost use Rattle.hwdb_spec_commands.specs.Jobs.{IsTask, word_misfit};
 ghost use Rattle.hwdb_spec_commands.specs.CommandLine.{verify_app};
 
 use crate::drafts::{Draft, database_argument, shared, text_option, with_argument};
 use crate::matched::{copied, text_of};
 use clap::ArgMatches;
-use hwdb_spec_commands::Task;
+use hwdb_spec_commands::{Task, VerifyArgs};
 use std::alloc::{AllocError, Global};
 
 /// What the short help says of it.
@@ -36,5 +36,15 @@ pub fn task(alloc: Global, inner: &ArgMatches<'_>) -> Result<Task, AllocError>
     ensures { IfOk result (IsTask (codes "verify") (rows_of (found_of inner.now))) }
 {
     let database = copied(alloc, text_of(inner, "DATABASE"))?;
-    Ok(Task::Verify { database })
+    Ok(Task::Verify(VerifyArgs { database }))
+}
+
+/// What is said of a database beside `--text`, also for `dump`.
+pub fn misfit(inner: &ArgMatches<'_>) -> Option<&'static str>
+    ensures { option_map (λ t. t.now) result ≡ word_misfit (rows_of (found_of inner.now)) }
+{
+    match text_of(inner, "DATABASE") {
+        Some(_) => Some("--text and DATABASE are two sources: leave out one of them"),
+        None => None,
+    }
 }

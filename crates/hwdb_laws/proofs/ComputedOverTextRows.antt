@@ -1,28 +1,48 @@
 -- The rows, computed.
-use Rattle.hwdb_laws.specs.OverTextRows.{DeviceRows, DumpRows, FineRows, ListRows, TakenRows, VerifyRows}
-use Rattle.hwdb_spec.specs.Lines.{pieces}
+use Rattle.hwdb_laws.specs.OverTextRows.{DeviceRows, DumpRows, NearRows, TakenRows, TestRows, VerifyRows}
+use Rattle.clap.specs.Faults.{defaults_fault, flags_fault, walk_fault}
+use Rattle.clap.specs.Walk.{bundle_met, walked}
+use Rattle.hex.specs.Hex.{encode_with}
+use Rattle.hwdb_spec.specs.Answers.{effective_of, last_of_each, last_value}
+use Rattle.hwdb_spec.specs.Assignment.{ascending, assignment_cmp, position_cmp, put, put_all}
+use Rattle.hwdb_spec.specs.Explanations.{explained}
+use Rattle.hwdb_spec.specs.Folders.{first_of}
+use Rattle.hwdb_spec.specs.Lines.{numbered, pieces, trimmed}
+use Rattle.hwdb_spec.specs.Patterns.{bracket_at, byte_then, classes, item_at, items_from, matches, piece_then, some_ending, token_at, tokens_from}
+use Rattle.hwdb_spec.specs.Records.{behind, first_section, sections_from}
+use Rattle.hwdb_spec.specs.Tree.{answers, some_up_to, values_below, values_under}
+use Rattle.hwdb_spec.specs.Visible.{visible_after}
+use Rattle.hwdb_spec_commands.specs.Json.{escaped_after, items_of, members_of}
+use Rattle.hwdb_spec_commands.specs.Near.{first_up_to, last_up_to}
+use Rattle.hwdb_spec_commands.specs.Once.{once}
+use Rattle.hwdb_spec_commands.specs.Summary.{depth, depth_of, nodes, nodes_of}
+use Rattle.hwdb_spec_commands.specs.Wanted.{records_from}
+use Rattle.json.specs.Print.{escape_byte, print_from}
+use Rattle.std.specs.Char.{encode_utf8}
+use Rattle.std.specs.Fmt.{digits}
+use Rattle.std.specs.Str.{chars, is_utf8}
 use Rattle.std.proofs.Common.{refl}
 
-pub verify_rows : VerifyRows
-unfolding pieces
-verify_rows = λ database. refl
+pub device_rows : DeviceRows
+unfolding pieces numbered trimmed first_section sections_from behind records_from tokens_from token_at item_at items_from bracket_at classes nodes nodes_of depth depth_of explained first_of once last_up_to first_up_to some_up_to values_under values_below ascending put put_all assignment_cmp position_cmp matches some_ending byte_then piece_then visible_after is_utf8 chars encode_utf8 digits encode_with items_of members_of escaped_after escape_byte print_from answers effective_of last_of_each last_value bundle_met walked flags_fault walk_fault defaults_fault
+device_rows = refl
 
 pub dump_rows : DumpRows
-unfolding pieces
-dump_rows = λ database. refl
+unfolding pieces numbered trimmed first_section sections_from behind records_from tokens_from token_at item_at items_from bracket_at classes nodes nodes_of depth depth_of explained first_of once last_up_to first_up_to some_up_to values_under values_below ascending put put_all assignment_cmp position_cmp matches some_ending byte_then piece_then visible_after is_utf8 chars encode_utf8 digits encode_with items_of members_of escaped_after escape_byte print_from answers effective_of last_of_each last_value bundle_met walked flags_fault walk_fault defaults_fault
+dump_rows = refl
 
-pub fine_rows : FineRows
-unfolding pieces
-fine_rows = refl
-
-pub list_rows : ListRows
-unfolding pieces
-list_rows = λ strings json pattern from. refl
-
-pub device_rows : DeviceRows
-unfolding pieces
-device_rows = λ path strings json pattern all from. refl
+pub near_rows : NearRows
+unfolding pieces numbered trimmed first_section sections_from behind records_from tokens_from token_at item_at items_from bracket_at classes nodes nodes_of depth depth_of explained first_of once last_up_to first_up_to some_up_to values_under values_below ascending put put_all assignment_cmp position_cmp matches some_ending byte_then piece_then visible_after is_utf8 chars encode_utf8 digits encode_with items_of members_of escaped_after escape_byte print_from answers effective_of last_of_each last_value bundle_met walked flags_fault walk_fault defaults_fault
+near_rows = refl
 
 pub taken_rows : TakenRows
-unfolding pieces
-taken_rows = λ json quiet verbose skip. refl
+unfolding pieces numbered trimmed first_section sections_from behind records_from tokens_from token_at item_at items_from bracket_at classes nodes nodes_of depth depth_of explained first_of once last_up_to first_up_to some_up_to values_under values_below ascending put put_all assignment_cmp position_cmp matches some_ending byte_then piece_then visible_after is_utf8 chars encode_utf8 digits encode_with items_of members_of escaped_after escape_byte print_from answers effective_of last_of_each last_value bundle_met walked flags_fault walk_fault defaults_fault
+taken_rows = refl
+
+pub test_rows : TestRows
+unfolding pieces numbered trimmed first_section sections_from behind records_from tokens_from token_at item_at items_from bracket_at classes nodes nodes_of depth depth_of explained first_of once last_up_to first_up_to some_up_to values_under values_below ascending put put_all assignment_cmp position_cmp matches some_ending byte_then piece_then visible_after is_utf8 chars encode_utf8 digits encode_with items_of members_of escaped_after escape_byte print_from answers effective_of last_of_each last_value bundle_met walked flags_fault walk_fault defaults_fault
+test_rows = refl
+
+pub verify_rows : VerifyRows
+unfolding pieces numbered trimmed first_section sections_from behind records_from tokens_from token_at item_at items_from bracket_at classes nodes nodes_of depth depth_of explained first_of once last_up_to first_up_to some_up_to values_under values_below ascending put put_all assignment_cmp position_cmp matches some_ending byte_then piece_then visible_after is_utf8 chars encode_utf8 digits encode_with items_of members_of escaped_after escape_byte print_from answers effective_of last_of_each last_value bundle_met walked flags_fault walk_fault defaults_fault
+verify_rows = refl

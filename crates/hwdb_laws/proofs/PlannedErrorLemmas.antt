@@ -2,8 +2,7 @@
 use Rattle.std.proofs.Common.{◌≡◌, ◌∙◌, ◌++◌, ◌⊎◌, ◌∷◌, ⊎_elim, inl, inr, ap, refl, subst, sym, length, Bool, IfSome, List, Option, None, Result, Some, Ok, Err, ℕ, [], true, false, ◌≤◌, ◌<◌}
 use Rattle.std.specs.Io.KnownBytes.{Appends}
 use Rattle.std.specs.Option.{option_map_or}
-use Rattle.std.specs.Prelude.{codes, find, if◌then◌else◌, nat_le, option_map}
-use Rattle.std.specs.Str.{bytes_eq}
+use Rattle.std.specs.Prelude.{codes, if◌then◌else◌, nat_le, option_map}
 use Rattle.clap.specs.Simple.{matches_of, subcommand_of}
 use Rattle.clap.specs.Walk.{Row, Text}
 use Rattle.hwdb_spec.specs.Folders.{Choice, Source, choice, max_files, names}
@@ -23,7 +22,7 @@ use Rattle.hwdb_spec_commands.specs.AnsweredLines.{answered_lines, line_error}
 use Rattle.hwdb_spec_commands.specs.CommandLine.{hwdb_app}
 use Rattle.hwdb_spec_commands.specs.DeviceAsked.{missing_text, no_sysfs_text, unread_text}
 use Rattle.hwdb_spec_commands.specs.DeviceTree.{Sight, unread_for}
-use Rattle.hwdb_spec_commands.specs.Jobs.{has_flag}
+use Rattle.hwdb_spec_commands.specs.Jobs.{has_flag, text_taker}
 use Rattle.hwdb_spec_commands.specs.Runs.{Told}
 use Rattle.hwdb_spec_commands.specs.Told.{Reads, Stop, Unlisted, stop_of, unlisted_stop, unread_stop}
 use Rattle.hwdb_spec_commands.specs.Told.Stop.{Over, Plain, Says}
@@ -39,7 +38,7 @@ use Rattle.hwdb_plan.specs.Plans.{AreMadeOf, End, Ends, Plan, over, reads_over}
 use Rattle.hwdb_plan.specs.Plans.End.{Answers, Lines, Replaces, Scans, Stops, Streams}
 use Rattle.hwdb_plan.specs.Plans.Plan.{Done}
 use Rattle.hwdb_spec_program.specs.DeviceErrors.{asked_names}
-use Rattle.hwdb_spec_program.specs.ProgramPlan.{ShowsPlan, Taker, as_given, command_of, files_plan, over_texts, program_plan, root_given, takers}
+use Rattle.hwdb_spec_program.specs.ProgramPlan.{ShowsPlan, as_given, command_of, files_plan, over_texts, program_plan, root_given, said_by}
 use Rattle.hwdb_plan.specs.Requests.{Around, Command, Search, found_plan, plan_of, told_plan}
 use Rattle.hwdb_plan.specs.Requests.Command.{OfDevices, OfFiles}
 use Rattle.hwdb_plan.specs.Requests.Search.{AtPlace, Below, Fitting, Found}
@@ -230,23 +229,26 @@ module _ (alike : PlansEndAlike) where
         (λ d. from_basis root p (basis (besides texts.0) d)) (λ d. from_basis root q (basis (besides texts.0) d)) texts.1 texts.2))
         (folders_both w e f root (λ texts. basis_of besides texts (from_basis root p)) (λ texts. basis_of besides texts (from_basis root q)) ends ends2)
 
-    fit_alike : (root : List ℕ) (misuse : Option Text) (besides : Texts → List ℕ) → Alike (if_fit misuse (text_plan root besides p)) (if_fit misuse (text_plan root besides q))
+    fit_alike : (root : List ℕ) (misfit : Option Text) (besides : Texts → List ℕ) → Alike (if_fit misfit (text_plan root besides p)) (if_fit misfit (text_plan root besides q))
     fit_alike root None besides = text_alike root besides
     fit_alike root (Some text) besides = same_alike (if_fit (Some text) (text_plan root besides p))
 
-    taker_alike : (root : List ℕ) (t : Option (Text × Taker)) → Alike (over_texts root t p) (over_texts root t q)
-    taker_alike root None = both
-    taker_alike root (Some t) = fit_alike root t.1.misuse t.1.besides
+    taker_alike : (root : List ℕ) (t : Option (Option Text)) (besides : Texts → List ℕ) → Alike (over_texts root t besides p) (over_texts root t besides q)
+    taker_alike root None besides = both
+    taker_alike root (Some misfit) besides = fit_alike root misfit besides
 
     given_alike : (top : List Row) (found : Option (Text × List Row)) → Alike (as_given top found p) (as_given top found q)
     given_alike top None = both
     given_alike top (Some found) = by (has_flag (codes "text") found.1)
       where
-        taken : Option (Text × Taker)
-        taken = find (λ t. bytes_eq t.0 found.0) (takers found.1)
+        taken : Option (Option Text)
+        taken = text_taker found.0 found.1
 
-        by : (b : Bool) → Alike (if b then over_texts (root_given top found.1) taken p else p) (if b then over_texts (root_given top found.1) taken q else q)
-        by true = taker_alike (root_given top found.1) taken
+        besides : Texts → List ℕ
+        besides = said_by found.0 found.1
+
+        by : (b : Bool) → Alike (if b then over_texts (root_given top found.1) taken besides p else p) (if b then over_texts (root_given top found.1) taken besides q else q)
+        by true = taker_alike (root_given top found.1) taken besides
         by false = both
 
   -- ---- the plans of words, with other words of a cause

@@ -15,7 +15,7 @@ use Rattle.hwdb_spec_commands.specs.Runs.{Files}
 use Rattle.hwdb_spec_commands.specs.SysfsAnswers.{nothing_there, seen}
 use Rattle.hwdb_spec_commands.specs.Told.Stop.{NoDatabase}
 use Rattle.hwdb_spec_commands.specs.declared.job.Task.{Task}
-use Rattle.hwdb_spec_commands.specs.declared.job.Task.TheVariants.{Status, Update}
+use Rattle.hwdb_spec_commands.specs.declared.job.Task.TheVariants.{Update}
 use Rattle.hwdb_spec_commands.specs.declared.unread.Unread.TheVariants as unread
 use Rattle.hwdb_plan.specs.Plans.{Plan}
 use Rattle.hwdb_plan.specs.Plans.End.{Stops}
@@ -141,8 +141,7 @@ module _ (words : List Text) (found : Text × List Row) (is : subcommand_of hwdb
 
   -- a task isn't that of `help`
   no_task : (task : Task) → IsTask (codes "help") found.1 task → ⊥
-  no_task (Update verbose skip) asked = other_word (codes "help") _ asked.0 refl
-  no_task (Status json true) asked = other_word (codes "help") _ asked.0 refl
+  no_task (Update u) asked = other_word (codes "help") _ asked.0 refl
   no_task task asked = other_word (codes "help") _ asked.0 refl
 
   either : (task : Task) → IsTask found.0 found.1 task → (named helps : Bool) → bytes_eq found.0 (codes "update") ≡ named → bytes_eq found.0 (codes "help") ≡ helps → Either

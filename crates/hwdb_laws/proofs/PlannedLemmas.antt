@@ -1,8 +1,7 @@
 -- Two runs with the same words are one.
 use Rattle.std.proofs.Common.{arith, ◌<◌, ◌≤◌, ◌≡◌, ◌≢◌, ◌∙◌, ◌++◌, ◌⊎◌, ◌∷◌, ⊎_elim, inl, inr, ap, refl, subst, sym, length, map, Bool, IfSome, List, Option, None, Result, Some, Ok, Err, ℕ, [], true, false}
 use Rattle.std.specs.Option.{option_map_or}
-use Rattle.std.specs.Prelude.{codes, find, if◌then◌else◌, nat_le, option_map}
-use Rattle.std.specs.Str.{bytes_eq}
+use Rattle.std.specs.Prelude.{codes, if◌then◌else◌, nat_le, option_map}
 use Rattle.clap.specs.Simple.{matches_of, subcommand_of}
 use Rattle.clap.specs.Walk.{Row, Text}
 use Rattle.hwdb_spec.specs.Folders.{Choice, Source, choice, max_files, names}
@@ -13,7 +12,7 @@ use Rattle.hwdb_spec_commands.specs.DeviceAsked.{missing_text, no_sysfs_text, un
 use Rattle.hwdb_spec_commands.specs.DeviceFound.{places_meant, several_text}
 use Rattle.hwdb_spec_commands.specs.DeviceTree.{Sight, unread_for}
 use Rattle.hwdb_spec_commands.specs.Given.{any_dash, is_dash}
-use Rattle.hwdb_spec_commands.specs.Jobs.{has_flag}
+use Rattle.hwdb_spec_commands.specs.Jobs.{has_flag, text_taker}
 use Rattle.hwdb_spec_commands.specs.Runs.{Told, World}
 use Rattle.hwdb_spec_commands.specs.Sides.{as_etc, names_text}
 use Rattle.hwdb_spec_commands.specs.Told.{Reads, Stop, Unlisted, stop_of, unread_stop}
@@ -43,7 +42,7 @@ use Rattle.hwdb_plan.specs.OverText.{Basis, basis, basis_of, from_basis, if_fit,
 use Rattle.hwdb_plan.specs.Plans.{End, Ends, Next, Plan, over, reads_over}
 use Rattle.hwdb_plan.specs.Plans.End.{Answers, Lines, Replaces, Scans, Stops, Streams}
 use Rattle.hwdb_plan.specs.Plans.Plan.{Done, Input}
-use Rattle.hwdb_spec_program.specs.ProgramPlan.{ShowsPlan, Taker, as_given, command_of, files_plan, over_texts, program_plan, root_given, takers}
+use Rattle.hwdb_spec_program.specs.ProgramPlan.{ShowsPlan, as_given, command_of, files_plan, over_texts, program_plan, root_given, said_by}
 use Rattle.hwdb_plan.specs.Requests.{Around, Command, Request, Search, found_plan, plan_of, told_plan}
 use Rattle.hwdb_plan.specs.Requests.Command.{OfDevices, OfFiles}
 use Rattle.hwdb_plan.specs.Requests.Request.{Alone, AtPath, Fit, Meant, OfBase, OfSide, Over, Texts as OfTexts}
@@ -361,23 +360,26 @@ module _ (laws : OverLaws) (w : Reads) (e : End) (Lost : Type 0) (p q : Plan) (s
       (λ texts. made_moves w e Lost (λ d. from_basis root p (basis (besides texts) d)) (λ d. from_basis root q (basis (besides texts) d)) (λ d. basis_moves root (basis (besides texts) d))
       (taken_from true texts.chosen texts.texts) (taken_from false texts.chosen texts.texts))
 
-  fit_moves : (root : List ℕ) (misuse : Option Text) (besides : Texts → List ℕ) → Moves w e Lost (if_fit misuse (text_plan root besides p)) (if_fit misuse (text_plan root besides q))
+  fit_moves : (root : List ℕ) (misfit : Option Text) (besides : Texts → List ℕ) → Moves w e Lost (if_fit misfit (text_plan root besides p)) (if_fit misfit (text_plan root besides q))
   fit_moves root None besides ends = text_plan_moves root besides ends
   fit_moves root (Some text) besides ends = inl ends
 
-  taker_moves : (root : List ℕ) (t : Option (Text × Taker)) → Moves w e Lost (over_texts root t p) (over_texts root t q)
-  taker_moves root None ends = step w e (λ s is. is) ends
-  taker_moves root (Some t) ends = fit_moves root t.1.misuse t.1.besides ends
+  taker_moves : (root : List ℕ) (t : Option (Option Text)) (besides : Texts → List ℕ) → Moves w e Lost (over_texts root t besides p) (over_texts root t besides q)
+  taker_moves root None besides ends = step w e (λ s is. is) ends
+  taker_moves root (Some misfit) besides ends = fit_moves root misfit besides ends
 
   given_words_move : (top : List Row) (found : Option (Text × List Row)) → Moves w e Lost (as_given top found p) (as_given top found q)
   given_words_move top None ends = step w e (λ s is. is) ends
   given_words_move top (Some found) ends = by (has_flag (codes "text") found.1) ends
     where
-      taken : Option (Text × Taker)
-      taken = find (λ t. bytes_eq t.0 found.0) (takers found.1)
+      taken : Option (Option Text)
+      taken = text_taker found.0 found.1
 
-      by : (b : Bool) → Moves w e Lost (if b then over_texts (root_given top found.1) taken p else p) (if b then over_texts (root_given top found.1) taken q else q)
-      by true ends = taker_moves (root_given top found.1) taken ends
+      besides : Texts → List ℕ
+      besides = said_by found.0 found.1
+
+      by : (b : Bool) → Moves w e Lost (if b then over_texts (root_given top found.1) taken besides p else p) (if b then over_texts (root_given top found.1) taken besides q else q)
+      by true ends = taker_moves (root_given top found.1) taken besides ends
       by false ends = step w e (λ s is. is) ends
 
 -- what a plan became

@@ -16,15 +16,62 @@ use Rattle.hwdb_spec_commands.specs.declared.job.Job.{Job}
 use Rattle.hwdb_spec_commands.specs.declared.job.Task.{Task}
 use Rattle.hwdb_spec_commands.specs.declared.job.Task.TheVariants.{Ask, Check, Device, Diff, Dump, Explain, Keys, List as ListHits, Near, Query, Scan, Status, Test, Update, Verify}
 
+-- ---- tasks, by what their words ask for
+
+abbrev pub update : (verbose skip : Bool) → Task
+update verbose skip = Update (record { verbose = verbose; skip_unreadable = skip })
+
+abbrev pub query : Vec (String Global) Global → (json : Bool) → Task
+query devices json = Query (record { devices = devices; json = json })
+
+abbrev pub explain : String Global → (json : Bool) → Task
+explain device json = Explain (record { device = device; json = json })
+
+abbrev pub ask : (file device : String Global) → Task
+ask file device = Ask (record { file = file; device = device })
+
+abbrev pub list_all : String Global → Task
+list_all device = ListHits (record { after = None; limit = None; device = device; json = false })
+
+abbrev pub check : (files allowed : Vec (String Global) Global) → Task
+check files allowed = Check (record { files = files; allowed = allowed; json = false; format = None; diff = false; name = None; baseline = None })
+
+abbrev pub near : Vec (String Global) Global → String Global → Task
+near files device = Near (record { files = files; device = device; limit = None; json = false })
+
+abbrev pub test : Vec (String Global) Global → Option (String Global) → Task
+test files database = Test (record { files = files; database = database; json = false })
+
+abbrev pub devices : Task
+devices = Device (record { path = None; strings = false; json = false; pattern = false; all = false; from = None })
+
+abbrev pub diff : (old new : String Global) → Vec (String Global) Global → Task
+diff old new given = Diff (record { old = old; new = new; devices = given; json = false; stat = false })
+
+abbrev pub verify : Option (String Global) → Task
+verify database = Verify (record { database = database })
+
+abbrev pub dump : Option (String Global) → Task
+dump database = Dump (record { database = database })
+
+abbrev pub status : Task
+status = Status (record { json = false })
+
+abbrev pub keys : Vec (String Global) Global → Task
+keys words = Keys (record { words = words; json = false })
+
+abbrev pub scan : String Global → Task
+scan device = Scan (record { device = device; count = None })
+
 -- ---- tasks that name no file
 
 abbrev pub PlainRows : Type 0
 PlainRows =
-    (map looks_below_root (Update true false ∷ Status false false ∷ Verify None ∷ Dump None ∷ Device None false false false false None ∷ []) ≡ true ∷ true ∷ true ∷ true ∷ true ∷ [])
-    × (map reads_input (Update true false ∷ Status false false ∷ Verify None ∷ Dump None ∷ Device None false false false false None ∷ []) ≡ false ∷ false ∷ false ∷ false ∷ false ∷ [])
-    × (map streams (Update true false ∷ Verify None ∷ []) ≡ false ∷ false ∷ [])
-    × (map skips (Update true true ∷ Update true false ∷ Verify None ∷ []) ≡ true ∷ false ∷ false ∷ [])
-    × (map refused_status (Update true true ∷ Verify None ∷ []) ≡ 1 ∷ 1 ∷ [])
+    (map looks_below_root (update true false ∷ status ∷ verify None ∷ dump None ∷ devices ∷ []) ≡ true ∷ true ∷ true ∷ true ∷ true ∷ [])
+    × (map reads_input (update true false ∷ status ∷ verify None ∷ dump None ∷ devices ∷ []) ≡ false ∷ false ∷ false ∷ false ∷ false ∷ [])
+    × (map streams (update true false ∷ verify None ∷ []) ≡ false ∷ false ∷ [])
+    × (map skips (update true true ∷ update true false ∷ verify None ∷ []) ≡ true ∷ false ∷ false ∷ [])
+    × (map refused_status (update true true ∷ verify None ∷ []) ≡ 1 ∷ 1 ∷ [])
 
 -- ---- tasks with a word
 
@@ -32,58 +79,58 @@ PlainRows =
 abbrev pub DashRows : Type 0
 DashRows =
     (word other : String Global) (words : Vec (String Global) Global) → string_bytes word ≡ codes "-" → string_bytes other ≡ codes "f" → map string_bytes words.items ≡ codes "-" ∷ []
-    → reads_input (Query words false) ∷ reads_input (Explain word false) ∷ reads_input (Ask word other) ∷ reads_input (Ask other word) ∷ reads_input (ListHits None None word false) ∷ reads_input (Check words words false None false None None)
-    ∷ reads_input (Near words other None false) ∷ reads_input (Test words None false) ∷ reads_input (Verify (Some word)) ∷ reads_input (Dump (Some word)) ∷ streams (Query words true) ∷ streams (Explain word true)
-    ∷ streams (Ask word other) ∷ []
+    → reads_input (query words false) ∷ reads_input (explain word false) ∷ reads_input (ask word other) ∷ reads_input (ask other word) ∷ reads_input (list_all word) ∷ reads_input (check words words)
+    ∷ reads_input (near words other) ∷ reads_input (test words None) ∷ reads_input (verify (Some word)) ∷ reads_input (dump (Some word)) ∷ streams (query words true) ∷ streams (explain word true)
+    ∷ streams (ask word other) ∷ []
     ≡ true ∷ true ∷ true ∷ false ∷ false ∷ true ∷ true ∷ true ∷ true ∷ true ∷ true ∷ true ∷ false ∷ []
 
 -- Of `scan` the device below the root is read in place of standard input. With `-` it is none below the root.
 abbrev pub ScanRows : Type 0
 ScanRows =
     (word other : String Global) → string_bytes word ≡ codes "-" → string_bytes other ≡ codes "f"
-    → looks_below_root (Scan word None) ∷ looks_below_root (Scan other None) ∷ reads_input (Scan word None) ∷ reads_input (Scan other None) ∷ streams (Scan word None) ∷ [] ≡ false ∷ true ∷ true ∷ true ∷ false ∷ []
+    → looks_below_root (scan word) ∷ looks_below_root (scan other) ∷ reads_input (scan word) ∷ reads_input (scan other) ∷ streams (scan word) ∷ [] ≡ false ∷ true ∷ true ∷ true ∷ false ∷ []
 
 -- It is another one.
 abbrev pub OtherRows : Type 0
 OtherRows =
     (word : String Global) (words : Vec (String Global) Global) → string_bytes word ≡ codes "f" → map string_bytes words.items ≡ codes "f" ∷ codes "g" ∷ []
-    → reads_input (Query words false) ∷ reads_input (Explain word false) ∷ reads_input (Ask word word) ∷ reads_input (Check words words false None false None None) ∷ reads_input (Near words word None false)
-    ∷ reads_input (Test words None false) ∷ reads_input (Diff word word words false false) ∷ reads_input (Verify (Some word)) ∷ reads_input (Dump (Some word)) ∷ streams (Query words true) ∷ streams (Explain word true) ∷ []
+    → reads_input (query words false) ∷ reads_input (explain word false) ∷ reads_input (ask word word) ∷ reads_input (check words words) ∷ reads_input (near words word)
+    ∷ reads_input (test words None) ∷ reads_input (diff word word words) ∷ reads_input (verify (Some word)) ∷ reads_input (dump (Some word)) ∷ streams (query words true) ∷ streams (explain word true) ∷ []
     ≡ false ∷ false ∷ false ∷ false ∷ false ∷ false ∷ false ∷ false ∷ false ∷ false ∷ false ∷ []
 
 -- Each of the three of `diff` may be it.
 abbrev pub DiffRows : Type 0
 DiffRows =
     (word other : String Global) (words others : Vec (String Global) Global) → string_bytes word ≡ codes "-" → string_bytes other ≡ codes "f" → map string_bytes words.items ≡ codes "g" ∷ codes "-" ∷ [] → map string_bytes others.items ≡ []
-    → reads_input (Diff word other others false false) ∷ reads_input (Diff other word others false false) ∷ reads_input (Diff other other words false false) ∷ reads_input (Diff other other others false false) ∷ []
+    → reads_input (diff word other others) ∷ reads_input (diff other word others) ∷ reads_input (diff other other words) ∷ reads_input (diff other other others) ∷ []
     ≡ true ∷ true ∷ true ∷ false ∷ []
 
 -- Files and databases that are named are no files below the root, and `keys` reads none. Of `diff` an error has status 2.
 abbrev pub NamedRows : Type 0
 NamedRows =
     (word : String Global) (words none : Vec (String Global) Global) → length words.items ≡ 1 → length none.items ≡ 0
-    → (looks_below_root (Check words words false None false None None) ∷ looks_below_root (Check none words false None false None None) ∷ looks_below_root (Near words word None false) ∷ looks_below_root (Near none word None false)
-    ∷ looks_below_root (Test words (Some word) false) ∷ looks_below_root (Test words None false) ∷ looks_below_root (Verify (Some word)) ∷ looks_below_root (Dump (Some word)) ∷ looks_below_root (Ask word word)
-    ∷ looks_below_root (Diff word word words false false) ∷ looks_below_root (Keys words false) ∷ looks_below_root (Query words false) ∷ [])
+    → (looks_below_root (check words words) ∷ looks_below_root (check none words) ∷ looks_below_root (near words word) ∷ looks_below_root (near none word)
+    ∷ looks_below_root (test words (Some word)) ∷ looks_below_root (test words None) ∷ looks_below_root (verify (Some word)) ∷ looks_below_root (dump (Some word)) ∷ looks_below_root (ask word word)
+    ∷ looks_below_root (diff word word words) ∷ looks_below_root (keys words) ∷ looks_below_root (query words false) ∷ [])
     ≡ false ∷ true ∷ false ∷ true ∷ false ∷ true ∷ false ∷ false ∷ false ∷ false ∷ false ∷ true ∷ []
 
 abbrev pub StatusRows : Type 0
 StatusRows =
     (word : String Global) (words : Vec (String Global) Global)
-    → refused_status (Diff word word words false false) ∷ refused_status (Check words words false None false None None) ∷ refused_status (Query words false) ∷ [] ≡ 2 ∷ 2 ∷ 1 ∷ []
+    → refused_status (diff word word words) ∷ refused_status (check words words) ∷ refused_status (query words false) ∷ [] ≡ 2 ∷ 2 ∷ 1 ∷ []
 
 -- ---- jobs
 
 -- what words ask for: a task, with `--text` or without, below a root or not
 abbrev pub job_of : (text : Bool) → Option (String Global) → Task → Job
-job_of text root task = record { usr = false; strict = false; text = text; reload = false; root = root; color = None; task = task }
+job_of text root task = record { usr = false; strict = false; text = text; misfit = None; reload = false; root = root; color = None; task = task }
 
--- `--text` counts at a task that takes it. Without a root nothing is in front of a path.
+-- `--text` counts, but at an update. Without a root nothing is in front of a path.
 abbrev pub JobRows : Type 0
 JobRows =
     (root : String Global) → string_bytes root ≡ codes "/r"
-    → (asks_text (job_of true None (Verify None)) ∷ asks_text (job_of false None (Verify None)) ∷ asks_text (job_of true None (Status false false)) ∷ [] ≡ true ∷ false ∷ false ∷ [])
-    × (root_of (job_of false (Some root) (Verify None)) ∷ root_of (job_of false None (Verify None)) ∷ [] ≡ codes "/r" ∷ [] ∷ [])
+    → (asks_text (job_of true None (verify None)) ∷ asks_text (job_of false None (verify None)) ∷ asks_text (job_of true None (update false false)) ∷ [] ≡ true ∷ false ∷ false ∷ [])
+    × (root_of (job_of false (Some root) (verify None)) ∷ root_of (job_of false None (verify None)) ∷ [] ≡ codes "/r" ∷ [] ∷ [])
 
 -- ---- explain --text
 
@@ -121,7 +168,7 @@ ReadRows =
 abbrev pub BesidesRows : Type 0
 BesidesRows =
     (device dash : String Global) → string_bytes device ≡ codes "a" → string_bytes dash ≡ codes "-"
-    → text_besides (Explain device false) [] of_usr ∷ text_besides (Explain dash false) of_etc of_usr ∷ text_besides (Verify None) of_etc of_usr ∷ text_besides (Explain device true) of_etc of_usr ∷ []
+    → text_besides (explain device false) [] of_usr ∷ text_besides (explain dash false) of_etc of_usr ∷ text_besides (verify None) of_etc of_usr ∷ text_besides (explain device true) of_etc of_usr ∷ []
     ≡ [] ∷ [] ∷ [] ∷ replacements_form true (codes "a") of_etc of_usr ∷ []
 
 -- ---- what a run sees

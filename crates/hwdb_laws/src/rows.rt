@@ -151,12 +151,12 @@ pub fn status_rows()
     ensures loss { StatusRows.LossRows }
 {}
 
-/// Which words don't fit `--text`.
+/// Which commands take `--text`, and which of their words don't fit it.
 pub fn over_text_rows()
     ensures verify { OverTextRows.VerifyRows }
     ensures dump { OverTextRows.DumpRows }
-    ensures fine { OverTextRows.FineRows }
-    ensures list { OverTextRows.ListRows }
+    ensures test { OverTextRows.TestRows }
+    ensures near { OverTextRows.NearRows }
     ensures device { OverTextRows.DeviceRows }
     ensures taken { OverTextRows.TakenRows }
 {}

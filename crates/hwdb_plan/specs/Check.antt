@@ -2,7 +2,7 @@
 use Rattle.std.specs.Prelude.{◌∷◌, ℕ, Bool, List, [], Option, Result, map}
 use Rattle.hwdb_spec.specs.Folders.{Choice, Source, path_of}
 use Rattle.hwdb_spec_commands.specs.Checks.{named, names_nothing, nothing_named}
-use Rattle.hwdb_spec_commands.specs.OverText.{text_if}
+use Rattle.hwdb_spec_commands.specs.Jobs.{text_if}
 use Rattle.hwdb_spec_commands.specs.Patches.{said_err, said_out, said_status}
 use Rattle.hwdb_spec_commands.specs.declared.formats.Format.{Format}
 use Rattle.hwdb_spec_commands.specs.declared.unread.Unread.{Unread}

@@ -1,5 +1,5 @@
 -- What the matches of a command line ask for.
-use Rattle.std.specs.Prelude.{Bool, List, codes, false, Some, ◌≡◌, None, Option, Ok, ℕ, option_map, string_bytes, map, ◌||◌, is_some, true, ◌<◌, ◌^◌, IfSome, ◌⊎◌, unwrap_or, [], ◌∷◌, ◌++◌}
+use Rattle.std.specs.Prelude.{◌&&◌, find, length, nat_lt, not, Bool, List, codes, false, Some, ◌≡◌, None, Option, Ok, ℕ, option_map, string_bytes, map, ◌||◌, is_some, true, ◌<◌, ◌^◌, IfSome, ◌⊎◌, unwrap_or, [], ◌∷◌, ◌++◌}
 use Rattle.std.specs.Str.{bytes_eq}
 use Rattle.std.specs.Option.{option_map_or, option_or}
 use Rattle.std.specs.declared.num.ParseIntError.{ParseIntError}
@@ -9,7 +9,7 @@ use Rattle.clap.specs.Walk.{Row, Rule, Text, all_of, first_of, one_of}
 use Rattle.clap.specs.declared.builder.value_parser.ValueParser.{ValueParser}
 use Rattle.clap.specs.declared.builder.value_parser.ValueParser.TheVariants as vp
 use Rattle.hwdb_spec_commands.specs.CommandLine.{hwdb_app}
-use Rattle.hwdb_spec_commands.specs.declared.job.Task.TheVariants.{Ask, Check, Device, Diff, Dump, Explain, Keys, List as ListHits, Near, Query, Scan, Status, Test, Update, Verify}
+use Rattle.hwdb_spec_commands.specs.declared.job.Task.TheVariants.{Ask, Check, Device, Diff, Dump, Explain, Fresh, Keys, List as ListHits, Near, Query, Scan, Status, Test, Update, Verify}
 use Rattle.hwdb_spec_commands.specs.declared.job.Task.{Task}
 use Rattle.hwdb_spec_commands.specs.declared.job.Job.{Job}
 
@@ -37,30 +37,68 @@ IsLimit (Some text) (Some n) = ParsesUnsigned {E = ParseIntError} 64 10 text (Ok
 
 -- the task that a command's name and its matches ask for
 abbrev pub IsTask : Text → List Row → Task → Type 0
-IsTask name inner (Update verbose skip) = (name ≡ codes "update") × (has_flag (codes "check") inner ≡ false) × (verbose ≡ has_flag (codes "verbose") inner) × (skip ≡ has_flag (codes "skip-unreadable") inner)
-IsTask name inner (Query devices json) = (name ≡ codes "query") × (json ≡ has_flag (codes "json") inner) × AreValues (codes "MODALIAS") inner (map string_bytes devices.items)
-IsTask name inner (Explain device json) = (name ≡ codes "explain") × (json ≡ has_flag (codes "json") inner) × IsValue (codes "MODALIAS") inner (string_bytes device)
-IsTask name inner (Ask file device) = (name ≡ codes "ask") × IsValue (codes "FILE") inner (string_bytes file) × IsValue (codes "MODALIAS") inner (string_bytes device)
-IsTask name inner (ListHits after limit device json) = (name ≡ codes "list") × (json ≡ has_flag (codes "json") inner) × (option_map string_bytes after ≡ first_of (codes "after") inner)
-    × IsLimit (one_of (codes "limit") inner) limit × IsValue (codes "MODALIAS") inner (string_bytes device)
-IsTask name inner (Near files device limit json) = (name ≡ codes "near") × (json ≡ has_flag (codes "json") inner) × AreValues (codes "MODALIAS") inner (map string_bytes files.items ++ string_bytes device ∷ [])
-    × IsLimit (one_of (codes "limit") inner) limit
-IsTask name inner (Device path strings json pattern all from) = (name ≡ codes "device") × (option_map string_bytes path ≡ first_of (codes "DEVICE") inner) × (strings ≡ has_flag (codes "strings") inner)
-    × (json ≡ has_flag (codes "json") inner) × (pattern ≡ has_flag (codes "pattern") inner) × (all ≡ has_flag (codes "all") inner) × (option_map string_bytes from ≡ first_of (codes "from") inner)
-IsTask name inner (Check files allowed json format diff input_name baseline) = (name ≡ codes "check") × AreAnyValues (codes "FILE") inner (map string_bytes files.items)
-    × AreAnyValues (codes "allow") inner (map string_bytes allowed.items) × (json ≡ has_flag (codes "json") inner)
-    × (option_map string_bytes format ≡ first_of (codes "format") inner) × (option_map string_bytes input_name ≡ first_of (codes "name") inner)
-    × (option_map string_bytes baseline ≡ first_of (codes "baseline") inner) × (diff ≡ has_flag (codes "diff") inner)
-IsTask name inner (Test files database json) = (name ≡ codes "test") × (json ≡ has_flag (codes "json") inner) × (option_map string_bytes database ≡ first_of (codes "database") inner)
-    × AreValues (codes "FILE") inner (map string_bytes files.items)
-IsTask name inner (Diff old new devices json stat) = (name ≡ codes "diff") × (json ≡ has_flag (codes "json") inner) × (stat ≡ has_flag (codes "stat") inner) × AreAnyValues (codes "devices") inner (map string_bytes devices.items)
-    × IsValue (codes "OLD") inner (string_bytes old) × IsValue (codes "NEW") inner (string_bytes new)
-IsTask name inner (Verify database) = (name ≡ codes "verify") × (option_map string_bytes database ≡ first_of (codes "DATABASE") inner)
-IsTask name inner (Dump database) = (name ≡ codes "dump") × (option_map string_bytes database ≡ first_of (codes "DATABASE") inner)
-IsTask name inner (Status json false) = (name ≡ codes "status") × (json ≡ has_flag (codes "json") inner)
-IsTask name inner (Status json true) = (name ≡ codes "update") × (has_flag (codes "check") inner ≡ true) × (json ≡ false)
-IsTask name inner (Keys words json) = (name ≡ codes "keys") × (json ≡ has_flag (codes "json") inner) × AreAnyValues (codes "WORD") inner (map string_bytes words.items)
-IsTask name inner (Scan device count) = (name ≡ codes "scan") × IsValue (codes "DEVICE") inner (string_bytes device) × IsLimit (one_of (codes "count") inner) count
+IsTask name inner (Update u) = (name ≡ codes "update") × (has_flag (codes "check") inner ≡ false) × (u.verbose ≡ has_flag (codes "verbose") inner) × (u.skip_unreadable ≡ has_flag (codes "skip-unreadable") inner)
+IsTask name inner (Query q) = (name ≡ codes "query") × (q.json ≡ has_flag (codes "json") inner) × AreValues (codes "MODALIAS") inner (map string_bytes q.devices.items)
+IsTask name inner (Explain e) = (name ≡ codes "explain") × (e.json ≡ has_flag (codes "json") inner) × IsValue (codes "MODALIAS") inner (string_bytes e.device)
+IsTask name inner (Ask a) = (name ≡ codes "ask") × IsValue (codes "FILE") inner (string_bytes a.file) × IsValue (codes "MODALIAS") inner (string_bytes a.device)
+IsTask name inner (ListHits l) = (name ≡ codes "list") × (l.json ≡ has_flag (codes "json") inner) × (option_map string_bytes l.after ≡ first_of (codes "after") inner)
+    × IsLimit (one_of (codes "limit") inner) l.limit × IsValue (codes "MODALIAS") inner (string_bytes l.device)
+IsTask name inner (Near n) = (name ≡ codes "near") × (n.json ≡ has_flag (codes "json") inner) × AreValues (codes "MODALIAS") inner (map string_bytes n.files.items ++ string_bytes n.device ∷ [])
+    × IsLimit (one_of (codes "limit") inner) n.limit
+IsTask name inner (Device d) = (name ≡ codes "device") × (option_map string_bytes d.path ≡ first_of (codes "DEVICE") inner) × (d.strings ≡ has_flag (codes "strings") inner)
+    × (d.json ≡ has_flag (codes "json") inner) × (d.pattern ≡ has_flag (codes "pattern") inner) × (d.all ≡ has_flag (codes "all") inner) × (option_map string_bytes d.from ≡ first_of (codes "from") inner)
+IsTask name inner (Check c) = (name ≡ codes "check") × AreAnyValues (codes "FILE") inner (map string_bytes c.files.items)
+    × AreAnyValues (codes "allow") inner (map string_bytes c.allowed.items) × (c.json ≡ has_flag (codes "json") inner)
+    × (option_map string_bytes c.format ≡ first_of (codes "format") inner) × (option_map string_bytes c.name ≡ first_of (codes "name") inner)
+    × (option_map string_bytes c.baseline ≡ first_of (codes "baseline") inner) × (c.diff ≡ has_flag (codes "diff") inner)
+IsTask name inner (Test t) = (name ≡ codes "test") × (t.json ≡ has_flag (codes "json") inner) × (option_map string_bytes t.database ≡ first_of (codes "database") inner)
+    × AreValues (codes "FILE") inner (map string_bytes t.files.items)
+IsTask name inner (Diff d) = (name ≡ codes "diff") × (d.json ≡ has_flag (codes "json") inner) × (d.stat ≡ has_flag (codes "stat") inner) × AreAnyValues (codes "devices") inner (map string_bytes d.devices.items)
+    × IsValue (codes "OLD") inner (string_bytes d.old) × IsValue (codes "NEW") inner (string_bytes d.new)
+IsTask name inner (Verify v) = (name ≡ codes "verify") × (option_map string_bytes v.database ≡ first_of (codes "DATABASE") inner)
+IsTask name inner (Dump d) = (name ≡ codes "dump") × (option_map string_bytes d.database ≡ first_of (codes "DATABASE") inner)
+IsTask name inner (Status s) = (name ≡ codes "status") × (s.json ≡ has_flag (codes "json") inner)
+IsTask name inner Fresh = (name ≡ codes "update") × (has_flag (codes "check") inner ≡ true)
+IsTask name inner (Keys k) = (name ≡ codes "keys") × (k.json ≡ has_flag (codes "json") inner) × AreAnyValues (codes "WORD") inner (map string_bytes k.words.items)
+IsTask name inner (Scan s) = (name ≡ codes "scan") × IsValue (codes "DEVICE") inner (string_bytes s.device) × IsLimit (one_of (codes "count") inner) s.count
+
+-- ---- `--text`
+-- a text if that is so
+abbrev pub text_if : Bool → Text → Option Text
+text_if true text = Some text
+text_if false text = None
+
+-- what is said of files beside `--text`: there are more words than the device
+abbrev pub files_misfit : List Row → Option Text
+files_misfit inner = text_if (nat_lt 1 (length (unwrap_or (all_of (codes "MODALIAS") inner) []))) (codes "--text and FILE are two sources: leave out one of them")
+
+-- what is said of a list of devices
+abbrev pub list_misfit : List Row → Option Text
+list_misfit inner = text_if (not (is_some (first_of (codes "DEVICE") inner) || has_flag (codes "all") inner)) (codes "--text needs DEVICE or --all: a list of devices asks no database")
+
+-- what is said of a database, an option or a word
+abbrev pub option_misfit : List Row → Option Text
+option_misfit inner = text_if (is_some (first_of (codes "database") inner)) (codes "--text and --database are two sources: leave out one of them")
+
+abbrev pub word_misfit : List Row → Option Text
+word_misfit inner = text_if (is_some (first_of (codes "DATABASE") inner)) (codes "--text and DATABASE are two sources: leave out one of them")
+
+-- Each command that takes `--text`, since it asks a database, by its name. If its other words don't fit that, with what is said of them.
+abbrev pub text_takers : List Row → List (Text × Option Text)
+text_takers inner =
+    (codes "query", None)
+    ∷ (codes "explain", None)
+    ∷ (codes "list", None)
+    ∷ (codes "near", files_misfit inner)
+    ∷ (codes "device", list_misfit inner)
+    ∷ (codes "test", option_misfit inner)
+    ∷ (codes "verify", word_misfit inner)
+    ∷ (codes "dump", word_misfit inner)
+    ∷ []
+
+-- that of the command with this name
+abbrev pub text_taker : (name : Text) → List Row → Option (Option Text)
+text_taker name inner = option_map (λ taker. taker.1) (find (λ taker. bytes_eq taker.0 name) (text_takers inner))
 
 -- the job of both sides' options and of the command
 pub record IsJob (top : List Row) (name : Text) (inner : List Row) (job : Job) : Type 0 where
@@ -68,7 +106,8 @@ pub record IsJob (top : List Row) (name : Text) (inner : List Row) (job : Job) :
   pub strict : job.strict ≡ (has_flag (codes "strict") inner || has_flag (codes "strict") top)
   pub root : option_map string_bytes job.root ≡ option_or (first_of (codes "root") inner) (first_of (codes "root") top)
   pub color : option_map string_bytes job.color ≡ option_or (first_of (codes "color") inner) (first_of (codes "color") top)
-  pub text : job.text ≡ has_flag (codes "text") inner
+  pub text : job.text ≡ (has_flag (codes "text") inner && is_some (text_taker name inner))
+  pub misfit : option_map (λ t. t.now) job.misfit ≡ unwrap_or (text_taker name inner) None
   pub reload : job.reload ≡ has_flag (codes "reload") inner
   pub task : IsTask name inner job.task
 

@@ -95,6 +95,7 @@
 //! The types below are those that the definitions name.
 #![tactic(auto)]
 
+mod args;
 mod attributes;
 mod colours;
 mod devices;
@@ -108,6 +109,10 @@ mod refusals;
 mod unread;
 mod vocabulary;
 
+pub use args::{
+    AskArgs, CheckArgs, DeviceArgs, DiffArgs, DumpArgs, ExplainArgs, KeysArgs, ListArgs, NearArgs,
+    QueryArgs, ScanArgs, StatusArgs, TestArgs, UpdateArgs, VerifyArgs,
+};
 pub use attributes::ATTRIBUTES;
 pub use colours::{LinePart, Style, TextKind};
 pub use devices::DeviceForm;

@@ -4,7 +4,7 @@ use Rattle.clap.specs.Faults.{fault_of}
 use Rattle.clap.specs.Simple.{matches_of, subcommand_of}
 use Rattle.clap.specs.Walk.{Row, Text, all_of, first_of, one_of}
 use Rattle.std.specs.Option.{option_or, unwrap_or}
-use Rattle.std.specs.Prelude.{◌-◌, ◌==◌, ◌≡◌, ◌⊎◌, ◌||◌, ◌∷◌, ℕ, Bool, false, List, [], None, Option, Some, Result, Ok, Err, IfSome, codes, find, if◌then◌else◌, is_some, length, not, option_map, take, true, ◌&&◌}
+use Rattle.std.specs.Prelude.{◌-◌, ◌≡◌, ◌⊎◌, ◌||◌, ◌∷◌, ℕ, Bool, false, List, [], None, Option, Some, Result, Ok, Err, IfSome, codes, find, if◌then◌else◌, length, not, option_map, take, true, ◌&&◌}
 use Rattle.std.specs.Str.{bytes_eq}
 use Rattle.std.specs.Str.Parse.{digits_value, without_leading_plus}
 use Rattle.hwdb_spec_commands.specs.Patches.{format_asked}
@@ -12,16 +12,15 @@ use Rattle.hwdb_spec_commands.specs.CommandLine.{hwdb_app}
 use Rattle.hwdb_spec_commands.specs.DeviceAsked.{device_form}
 use Rattle.hwdb_spec_commands.specs.DeviceTree.{Sight, last_after}
 use Rattle.hwdb_spec_commands.specs.Given.{is_dash}
-use Rattle.hwdb_spec_commands.specs.Jobs.{has_flag}
+use Rattle.hwdb_spec_commands.specs.Jobs.{has_flag, text_if, text_taker}
 use Rattle.hwdb_spec_commands.specs.NearAsked.{near_form, near_limit}
-use Rattle.hwdb_spec_commands.specs.OverText.{said_besides, text_if}
+use Rattle.hwdb_spec_commands.specs.OverText.{said_besides}
 use Rattle.hwdb_spec.specs.Store.{Contents, Outcomes}
 use Rattle.hwdb_spec.specs.declared.errors.ToolError.TheVariants.{Memory, Write}
 use Rattle.hwdb_spec_commands.specs.Runs.{AreKept, Files, Told, World}
 use Rattle.hwdb_spec_commands.specs.Told.{Reads}
 use Rattle.hwdb_spec_commands.specs.declared.refusals.Refusal.{Refusal}
 use Rattle.hwdb_spec_commands.specs.declared.refusals.Refusal.TheVariants.{Plain}
-use Rattle.hwdb_spec_commands.specs.declared.unread.Unread.{Unread}
 use Rattle.hwdb_spec_program.specs.DeviceErrors.{asked_names}
 use Rattle.hwdb_spec_program.specs.GivenDatabases.{names_twice, twice_text}
 use Rattle.hwdb_spec_program.specs.HidingPlan.{UpdatesTelling}
@@ -169,45 +168,22 @@ abbrev pub files_plan : Around → (words : List Text) → Option Plan
 files_plan a words = option_map (plan_of asked_names a) (command_of a.sight words)
 
 -- ---- `--text`
--- A command that takes `--text`. Its other words may not fit that, since they name what is asked, or no database is: then this is said of
--- them. And what it says besides, by the text files.
-pub record Taker : Type 0 where
-  pub misuse : Option Text
-  pub besides : Texts → List ℕ
-
--- one that says this of such words, and nothing besides
-abbrev pub taker : (misuse : Option Text) → Taker
-taker misuse = record { misuse = misuse; besides = λ texts. [] }
-
--- `explain`: it says what the text files have and the database has not, unless standard input names devices
-abbrev pub explain_taker : List Row → Taker
-explain_taker rows =
+-- what a command says besides, by the text files: `explain` says what they have and the database has not, unless standard input names devices
+abbrev pub said_by : (word : Text) → List Row → Texts → List ℕ
+said_by word rows texts =
     let device = value_of (codes "MODALIAS") rows in
-    record { misuse = None; besides = λ texts. said_besides (is_dash device) (replaced_of (has_flag (codes "json") rows) device texts) }
+    if bytes_eq word (codes "explain") then said_besides (is_dash device) (replaced_of (has_flag (codes "json") rows) device texts) else []
 
--- each command that takes `--text`, by its word
-abbrev pub takers : List Row → List (Text × Taker)
-takers rows =
-    (codes "query", taker None)
-    ∷ (codes "explain", explain_taker rows)
-    ∷ (codes "list", taker None)
-    ∷ (codes "near", taker (text_if (not (length (before_last (values_of (codes "MODALIAS") rows)) == 0)) (codes "--text and FILE are two sources: leave out one of them")))
-    ∷ (codes "device", taker (text_if (not (is_some (first_of (codes "DEVICE") rows) || has_flag (codes "all") rows)) (codes "--text needs DEVICE or --all: a list of devices asks no database")))
-    ∷ (codes "test", taker (text_if (is_some (first_of (codes "database") rows)) (codes "--text and --database are two sources: leave out one of them")))
-    ∷ (codes "verify", taker (text_if (is_some (first_of (codes "DATABASE") rows)) (codes "--text and DATABASE are two sources: leave out one of them")))
-    ∷ (codes "dump", taker (text_if (is_some (first_of (codes "DATABASE") rows)) (codes "--text and DATABASE are two sources: leave out one of them")))
-    ∷ []
-
--- the plan of a command over the text files, if it takes `--text`
-abbrev pub over_texts : (root : List ℕ) → Option (Text × Taker) → Plan → Plan
-over_texts root None p = p
-over_texts root (Some t) p = if_fit t.1.misuse (text_plan root t.1.besides p)
+-- The plan of a command over the text files, if it takes `--text`. If its other words don't fit that, this is said of them.
+abbrev pub over_texts : (root : List ℕ) → (taker : Option (Option Text)) → (besides : Texts → List ℕ) → Plan → Plan
+over_texts root None besides p = p
+over_texts root (Some misfit) besides p = if_fit misfit (text_plan root besides p)
 
 -- the same if `--text` is given
 abbrev pub as_given : (top : List Row) → Option (Text × List Row) → Plan → Plan
 as_given top None p = p
 as_given top (Some found) p =
-    if has_flag (codes "text") found.1 then over_texts (root_given top found.1) (find (λ t. bytes_eq t.0 found.0) (takers found.1)) p else p
+    if has_flag (codes "text") found.1 then over_texts (root_given top found.1) (text_taker found.0 found.1) (said_by found.0 found.1) p else p
 
 -- the plan of a run with these words
 abbrev pub program_plan : Around → (words : List Text) → Option Plan

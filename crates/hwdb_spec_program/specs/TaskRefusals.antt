@@ -1,6 +1,6 @@
 -- Which errors end a task, and when each comes. What it leaves: the files, standard output, and what standard error had taken
 -- before the error's line. Our choice.
-use Rattle.std.specs.Prelude.{◌≡◌, ◌≢◌, ◌⊎◌, ◌==◌, ℕ, Bool, true, false, not, length, List, [], ◌∷◌, Option, None, Some, map, option_map, string_bytes, codes}
+use Rattle.std.specs.Prelude.{◌≡◌, ◌≢◌, ◌⊎◌, ℕ, true, List, [], Some, option_map, string_bytes, codes}
 use Rattle.clap.specs.Faults.{fault_of}
 use Rattle.hwdb_spec_commands.specs.CommandLine.{hwdb_app}
 use Rattle.hwdb_spec_program.specs.Words.{AskFor, AskForText, AreToldBy}
@@ -19,8 +19,8 @@ use Rattle.hwdb_spec_commands.specs.declared.refusals.Refusal.{Refusal}
 
 -- the status of an error: 2 of `diff` and `check`, whose 1 says that something changed or was found; else 1
 abbrev pub refused_status : Task → ℕ
-refused_status (Diff old_path new_path devices json stat) = 2
-refused_status (Check files allowed json format diff name baseline) = 2
+refused_status (Diff d) = 2
+refused_status (Check c) = 2
 refused_status _ = 1
 
 -- what is said of an error: if standard output fails and the system tells why, that it can't be written

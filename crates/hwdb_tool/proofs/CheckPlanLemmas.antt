@@ -16,8 +16,8 @@ use Rattle.hwdb_spec_commands.specs.Baselines.{marks_in, wrong_text}
 use Rattle.hwdb_spec_commands.specs.CheckErrors.{HasLongFile, IsCheckRefusal}
 use Rattle.hwdb_spec_commands.specs.CheckedFiles.{IsChecked}
 use Rattle.hwdb_spec_commands.specs.Checks.{named, names_nothing, nothing_named}
+use Rattle.hwdb_spec_commands.specs.Jobs.{text_if}
 use Rattle.hwdb_spec_commands.specs.Patches.{said_err, said_out, said_status}
-use Rattle.hwdb_spec_commands.specs.OverText.{text_if}
 use Rattle.hwdb_spec_commands.specs.Refusals.{IsInWords}
 use Rattle.hwdb_spec_commands.specs.Told.{IsUnreadAs, Reads, Stop, stop_of}
 use Rattle.hwdb_spec_commands.specs.Told.Stop.{Says}

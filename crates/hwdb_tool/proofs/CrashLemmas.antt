@@ -9,7 +9,7 @@ use Rattle.hwdb_spec_commands.specs.Jobs.{IsJobOf, IsTask, has_flag}
 use Rattle.hwdb_spec_commands.specs.CommandLine.{hwdb_app}
 use Rattle.hwdb_spec_commands.specs.declared.job.Job.{Job}
 use Rattle.hwdb_spec_commands.specs.declared.job.Task.{Task}
-use Rattle.hwdb_spec_commands.specs.declared.job.Task.TheVariants.{Status, Update}
+use Rattle.hwdb_spec_commands.specs.declared.job.Task.TheVariants.{Fresh, Update}
 use Rattle.hwdb_query.specs.Laws.{AllCompiledAnswersAreLast, LastAssignmentsAreLast}
 use Rattle.hwdb_spec.specs.Answers.{effective_of, last_assignments}
 use Rattle.hwdb_spec.specs.Assignment.{Assignment}
@@ -35,9 +35,8 @@ abbrev by_name : Text → List Row → Bool
 by_name name inner = if bytes_eq name (codes "update") then by_flags (has_flag (codes "check") inner) inner else false
 
 skips_by_name : (name : Text) (inner : List Row) (t : Task) → IsTask name inner t → skips t ≡ by_name name inner
-skips_by_name name inner (Update verbose skip) t = t.3 ∙ ap (λ (b : Bool). by_flags b inner) (sym t.1) ∙ ap (λ (n : Text). by_name n inner) (sym t.0)
-skips_by_name name inner (Status json true) t = ap (λ (b : Bool). by_flags b inner) (sym t.1) ∙ ap (λ (n : Text). by_name n inner) (sym t.0)
-skips_by_name name inner (Status json false) t = ap (λ (n : Text). by_name n inner) (sym t.0)
+skips_by_name name inner (Update u) t = t.3 ∙ ap (λ (b : Bool). by_flags b inner) (sym t.1) ∙ ap (λ (n : Text). by_name n inner) (sym t.0)
+skips_by_name name inner Fresh t = ap (λ (b : Bool). by_flags b inner) (sym t.1) ∙ ap (λ (n : Text). by_name n inner) (sym t.0)
 skips_by_name name inner task t = ap (λ (n : Text). by_name n inner) (sym t.0)
 
 -- words ask for one root and one folder, and one thing about what can't be read

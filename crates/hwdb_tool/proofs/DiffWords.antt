@@ -1,11 +1,12 @@
 -- What the words of `diff` ask for is what its function follows.
-use Rattle.std.proofs.Common.{◌≡◌, ◌∙◌, refl, subst, map, string_bytes, Bool, Global, List, MatchResult, Result, String, Vec, Err, ℕ, []}
+use Rattle.std.proofs.Common.{◌≡◌, ◌∙◌, refl, subst, map, string_bytes, Bool, List, Result, ℕ, []}
 use Rattle.std.specs.Prelude.{codes}
 use Rattle.clap.specs.Walk.{Row, Text}
 use Rattle.hwdb_spec_commands.specs.DeviceTree.{Sight}
-use Rattle.hwdb_spec_commands.specs.Jobs.{IsTask, has_flag}
+use Rattle.hwdb_spec_commands.specs.Jobs.{IsTask, has_flag, text_if}
 use Rattle.hwdb_spec_commands.specs.Runs.{Told}
 use Rattle.hwdb_spec_commands.specs.Told.{Reads}
+use Rattle.hwdb_spec_commands.specs.declared.args.DiffArgs.{DiffArgs}
 use Rattle.hwdb_spec_commands.specs.declared.job.Task.TheVariants.{Diff}
 use Rattle.hwdb_spec_commands.specs.declared.refusals.Refusal.{Refusal}
 use Rattle.hwdb_spec_commands.specs.declared.unread.Unread.{Unread}
@@ -13,42 +14,38 @@ use Rattle.hwdb_spec_program.specs.GivenDatabases.{names_twice, twice_text}
 use Rattle.hwdb_spec_program.specs.ProgramPlan.{value_of, values_of}
 use Rattle.hwdb_plan.specs.Diff.{change_of, diff_plan}
 use Rattle.hwdb_plan.specs.OverText.{if_fit}
-use Rattle.hwdb_spec_commands.specs.OverText.{text_if}
-use Rattle.hwdb_plan.specs.Ended.{Outs, Prints, ShowsEnd}
 use Rattle.hwdb_plan.specs.Files.{OfInput}
 use Rattle.hwdb_plan.specs.Plans.{Follows, Plan}
 use Rattle.hwdb_tool.specs.Views.{end_of}
 use Rattle.hwdb_tool.specs.declared.answer.Answer.{Answer}
-use Rattle.hwdb_tool.proofs.ProgramPlanLemmas.{At, answered, around, at_word, some_value}
+use Rattle.hwdb_tool.proofs.ProgramPlanLemmas.{At, around, at_word, some_value}
 
 -- ---- the plan of `diff`
 abbrev diff_once : (told : Result (List ℕ) Unread) (given : List Text) (old new : Text) (stat json : Bool) → Plan
 diff_once told given old new stat json = if_fit (text_if (names_twice given old new) twice_text) (diff_plan told given old new (change_of stat json))
 
-module _ (w : Reads) (sight : Sight) (input_before input_now : Told) (before now : Outs) (result : Result ℕ Refusal) (root : List ℕ) (strict : Bool) (word : Text) (rows : List Row) where
-  abbrev Shows : Plan → Type 0
-  Shows p = ShowsEnd w p input_before input_now before now result
+module _ (w : Reads) (sight : Sight) (input_before input_now : Told) (root : List ℕ) (strict : Bool) (word : Text) (rows : List Row) (answer : Result Answer Refusal) where
+  abbrev Answers : Plan → Type 0
+  Answers p = Follows end_of w p answer
 
-  module _ (answer : Result Answer Refusal)
-      (prints : MatchResult answer (λ a. Prints a.status a.err.items a.out.items before now result) (λ r. (result ≡ Err r) × (now ≡ before))) where
-    pub diff_planned : (old new : String Global) (devices : Vec (String Global) Global) (json stat : Bool) → IsTask word rows (Diff old new devices json stat)
-        → (given : List Text) (o n : Text) → given ≡ map string_bytes devices.items → o ≡ string_bytes old → n ≡ string_bytes new
-        → OfInput input_before.bytes input_before.failures input_now.failures (λ told. Follows end_of w (diff_once told given o n stat json) answer) → At w sight input_before input_now before now result root strict word rows
-    diff_planned old new devices json stat is given o n of_given of_old of_new (told, so, follows) =
-        let old_is : o ≡ value_of (codes "OLD") rows = of_old ∙ some_value (codes "OLD") rows (string_bytes old) is.4 in
-        let new_is : n ≡ value_of (codes "NEW") rows = of_new ∙ some_value (codes "NEW") rows (string_bytes new) is.5 in
-        let o2 = value_of (codes "OLD") rows in
-        let n2 = value_of (codes "NEW") rows in (
-          told,
-          so,
-          (
-            [],
-            refl,
-            at_word w sight input_before input_now before now result root strict word rows (around sight told []) (codes "diff") is.0
-                (subst (λ (j : Bool). Shows (diff_once told (values_of (codes "devices") rows) o2 n2 (has_flag (codes "stat") rows) j)) is.1
-                (subst (λ (s : Bool). Shows (diff_once told (values_of (codes "devices") rows) o2 n2 s json)) is.2
-                (subst (λ (ds : List Text). Shows (diff_once told ds o2 n2 stat json)) (of_given ∙ is.3)
-                (subst (λ (x : Text). Shows (diff_once told given x n2 stat json)) old_is
-                (subst (λ (x : Text). Shows (diff_once told given o x stat json)) new_is (answered w sight input_before input_now before now result answer prints (diff_once told given o n stat json) follows)))))),
-          ),
-        )
+  pub diff_planned : (args : DiffArgs) → IsTask word rows (Diff args)
+      → (given : List Text) (o n : Text) → given ≡ map string_bytes args.devices.items → o ≡ string_bytes args.old → n ≡ string_bytes args.new
+      → OfInput input_before.bytes input_before.failures input_now.failures (λ told. Follows end_of w (diff_once told given o n args.stat args.json) answer) → At sight input_before input_now Answers root strict word rows
+  diff_planned args is given o n of_given of_old of_new (told, so, follows) =
+      let old_is : o ≡ value_of (codes "OLD") rows = of_old ∙ some_value (codes "OLD") rows (string_bytes args.old) is.4 in
+      let new_is : n ≡ value_of (codes "NEW") rows = of_new ∙ some_value (codes "NEW") rows (string_bytes args.new) is.5 in
+      let o2 = value_of (codes "OLD") rows in
+      let n2 = value_of (codes "NEW") rows in (
+        told,
+        so,
+        (
+          [],
+          refl,
+          at_word sight input_before input_now Answers root strict word rows (around sight told []) (codes "diff") is.0
+              (subst (λ (j : Bool). Answers (diff_once told (values_of (codes "devices") rows) o2 n2 (has_flag (codes "stat") rows) j)) is.1
+              (subst (λ (s : Bool). Answers (diff_once told (values_of (codes "devices") rows) o2 n2 s args.json)) is.2
+              (subst (λ (ds : List Text). Answers (diff_once told ds o2 n2 args.stat args.json)) (of_given ∙ is.3)
+              (subst (λ (x : Text). Answers (diff_once told given x n2 args.stat args.json)) old_is
+              (subst (λ (x : Text). Answers (diff_once told given o x args.stat args.json)) new_is follows))))),
+        ),
+      )

@@ -1,11 +1,12 @@
 -- What the words of `explain` ask for is what its function follows.
-use Rattle.std.proofs.Common.{subst, string_bytes, Bool, Global, List, Result, String, ℕ}
+use Rattle.std.proofs.Common.{subst, string_bytes, Bool, List, Result, ℕ}
 use Rattle.std.specs.Prelude.{codes}
 use Rattle.clap.specs.Walk.{Row, Text}
 use Rattle.hwdb_spec_commands.specs.DeviceTree.{Sight}
 use Rattle.hwdb_spec_commands.specs.Jobs.{IsTask}
 use Rattle.hwdb_spec_commands.specs.Runs.{Told}
 use Rattle.hwdb_spec_commands.specs.Told.{Reads}
+use Rattle.hwdb_spec_commands.specs.declared.args.ExplainArgs.{ExplainArgs}
 use Rattle.hwdb_spec_commands.specs.declared.job.Task.TheVariants.{Explain}
 use Rattle.hwdb_spec_commands.specs.declared.refusals.Refusal.{Refusal}
 use Rattle.hwdb_spec_program.specs.ProgramPlan.{value_of}
@@ -18,8 +19,8 @@ module _ (w : Reads) (sight : Sight) (input_before input_now : Told) (before now
   abbrev Shows : Plan → Type 0
   Shows p = ShowsEnd w p input_before input_now before now result
 
-  pub explain_planned : (device : String Global) (json : Bool) → IsTask word rows (Explain device json) → Shows (explain_plan root json (string_bytes device)) → At w sight input_before input_now before now result root strict word rows
-  explain_planned device json is shows =
-      alone w sight input_before input_now before now result root strict word rows (codes "explain") is.0
+  pub explain_planned : (args : ExplainArgs) → IsTask word rows (Explain args) → Shows (explain_plan root args.json (string_bytes args.device)) → At sight input_before input_now Shows root strict word rows
+  explain_planned args is shows =
+      alone sight input_before input_now Shows root strict word rows (codes "explain") is.0
       (subst (λ (j : Bool). Shows (explain_plan root j (value_of (codes "MODALIAS") rows))) is.1
-      (subst (λ (d : Text). Shows (explain_plan root json d)) (some_value (codes "MODALIAS") rows _ is.2) shows))
+      (subst (λ (d : Text). Shows (explain_plan root args.json d)) (some_value (codes "MODALIAS") rows _ is.2) shows))

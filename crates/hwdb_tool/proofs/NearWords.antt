@@ -1,5 +1,5 @@
 -- What the words of `near` ask for is what its function follows.
-use Rattle.std.proofs.Common.{◌≡◌, ◌∙◌, ◌+◌, ◌-◌, ◌∷◌, ◌++◌, arith, ap, refl, subst, sym, map, string_bytes, Bool, Global, List, MatchResult, Option, Result, String, Vec, Err, ℕ, [], length, take}
+use Rattle.std.proofs.Common.{◌≡◌, ◌∙◌, ◌+◌, ◌-◌, ◌∷◌, ◌++◌, arith, ap, refl, subst, sym, map, string_bytes, Bool, List, Option, Result, ℕ, [], length, take}
 use Rattle.std.specs.Prelude.{codes}
 use Rattle.clap.specs.Walk.{Row, Text}
 use Rattle.hwdb_spec_commands.specs.DeviceTree.{Sight, last_after}
@@ -7,16 +7,16 @@ use Rattle.hwdb_spec_commands.specs.Jobs.{IsTask}
 use Rattle.hwdb_spec_commands.specs.NearAsked.{near_form, near_limit}
 use Rattle.hwdb_spec_commands.specs.Runs.{Told}
 use Rattle.hwdb_spec_commands.specs.Told.{Reads}
+use Rattle.hwdb_spec_commands.specs.declared.args.NearArgs.{NearArgs}
 use Rattle.hwdb_spec_commands.specs.declared.job.Task.TheVariants.{Near}
 use Rattle.hwdb_spec_commands.specs.declared.refusals.Refusal.{Refusal}
 use Rattle.hwdb_spec_program.specs.ProgramPlan.{before_last, limit_of, values_of}
-use Rattle.hwdb_plan.specs.Ended.{Outs, Prints, ShowsEnd}
 use Rattle.hwdb_plan.specs.Files.{OfInput}
 use Rattle.hwdb_plan.specs.Near.{near_plan}
 use Rattle.hwdb_plan.specs.Plans.{Follows, Plan}
 use Rattle.hwdb_tool.specs.Views.{end_of}
 use Rattle.hwdb_tool.specs.declared.answer.Answer.{Answer}
-use Rattle.hwdb_tool.proofs.ProgramPlanLemmas.{At, answered, around, at_word, limit_is, some_values}
+use Rattle.hwdb_tool.proofs.ProgramPlanLemmas.{At, around, at_word, limit_is, some_values}
 
 -- texts before a last one
 last_is : (first : Text) (files : List Text) (device : Text) → last_after first (files ++ device ∷ []) ≡ device
@@ -38,31 +38,29 @@ before_is files device =
     let short : length (files ++ device ∷ []) - 1 ≡ length files = omega (arith, long) in
     ap (λ (n : ℕ). take n (files ++ device ∷ [])) short ∙ taken files device
 
-module _ (w : Reads) (sight : Sight) (input_before input_now : Told) (before now : Outs) (result : Result ℕ Refusal) (root : List ℕ) (strict : Bool) (word : Text) (rows : List Row) where
-  abbrev Shows : Plan → Type 0
-  Shows p = ShowsEnd w p input_before input_now before now result
+module _ (w : Reads) (sight : Sight) (input_before input_now : Told) (root : List ℕ) (strict : Bool) (word : Text) (rows : List Row) (answer : Result Answer Refusal) where
+  abbrev Answers : Plan → Type 0
+  Answers p = Follows end_of w p answer
 
-  module _ (answer : Result Answer Refusal)
-      (prints : MatchResult answer (λ a. Prints a.status a.err.items a.out.items before now result) (λ r. (result ≡ Err r) × (now ≡ before))) where
-    pub near_planned : (files : Vec (String Global) Global) (device : String Global) (limit : Option ℕ) (json : Bool) → IsTask word rows (Near files device limit json)
-        → OfInput input_before.bytes input_before.failures input_now.failures (λ told. Follows end_of w (near_plan told (map string_bytes files.items) root (near_form json (string_bytes device) (near_limit limit))) answer) → At w sight input_before input_now before now result root strict word rows
-    near_planned files device limit json is (told, so, follows) =
-        let fs = map string_bytes files.items in
-        let d = string_bytes device in
-        let words = values_of (codes "MODALIAS") rows in
-        let are : fs ++ d ∷ [] ≡ words = some_values (codes "MODALIAS") rows (fs ++ d ∷ []) is.2 in
-        let of_files : fs ≡ before_last words = sym (before_is fs d) ∙ ap before_last are in
-        let of_device : d ≡ last_after [] words = sym (last_is [] fs d) ∙ ap (λ (ws : List Text). last_after [] ws) are in (
-          told,
-          so,
-          (
-            [],
-            refl,
-            at_word w sight input_before input_now before now result root strict word rows (around sight told []) (codes "near") is.0
-                (subst (λ (j : Bool). Shows (near_plan told (before_last words) root (near_form j (last_after [] words) (near_limit (limit_of rows))))) is.1
-                (subst (λ (x : Text). Shows (near_plan told (before_last words) root (near_form json x (near_limit (limit_of rows))))) of_device
-                (subst (λ (xs : List Text). Shows (near_plan told xs root (near_form json d (near_limit (limit_of rows))))) of_files
-                (subst (λ (l : Option ℕ). Shows (near_plan told fs root (near_form json d (near_limit l)))) (limit_is rows limit is.3)
-                (answered w sight input_before input_now before now result answer prints (near_plan told fs root (near_form json d (near_limit limit))) follows))))),
-          ),
-        )
+  pub near_planned : (args : NearArgs) → IsTask word rows (Near args)
+      → OfInput input_before.bytes input_before.failures input_now.failures (λ told. Follows end_of w (near_plan told (map string_bytes args.files.items) root (near_form args.json (string_bytes args.device) (near_limit args.limit))) answer) → At sight input_before input_now Answers root strict word rows
+  near_planned args is (told, so, follows) =
+      let fs = map string_bytes args.files.items in
+      let d = string_bytes args.device in
+      let words = values_of (codes "MODALIAS") rows in
+      let are : fs ++ d ∷ [] ≡ words = some_values (codes "MODALIAS") rows (fs ++ d ∷ []) is.2 in
+      let of_files : fs ≡ before_last words = sym (before_is fs d) ∙ ap before_last are in
+      let of_device : d ≡ last_after [] words = sym (last_is [] fs d) ∙ ap (λ (ws : List Text). last_after [] ws) are in (
+        told,
+        so,
+        (
+          [],
+          refl,
+          at_word sight input_before input_now Answers root strict word rows (around sight told []) (codes "near") is.0
+              (subst (λ (j : Bool). Answers (near_plan told (before_last words) root (near_form j (last_after [] words) (near_limit (limit_of rows))))) is.1
+              (subst (λ (x : Text). Answers (near_plan told (before_last words) root (near_form args.json x (near_limit (limit_of rows))))) of_device
+              (subst (λ (xs : List Text). Answers (near_plan told xs root (near_form args.json d (near_limit (limit_of rows))))) of_files
+              (subst (λ (l : Option ℕ). Answers (near_plan told fs root (near_form args.json d (near_limit l)))) (limit_is rows args.limit is.3)
+              follows)))),
+        ),
+      )

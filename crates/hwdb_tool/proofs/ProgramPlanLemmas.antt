@@ -17,7 +17,7 @@ use Rattle.hwdb_spec_commands.specs.declared.unread.Unread.{Unread}
 use Rattle.hwdb_spec_commands.specs.declared.unread.Unread.TheVariants as unread
 use Rattle.hwdb_spec_program.specs.DeviceErrors.{asked_names}
 use Rattle.hwdb_spec_program.specs.Program.{root_of}
-use Rattle.hwdb_spec_program.specs.ProgramPlan.{ShowsPlan, command, files_plan, found_command, limit_of, root_given, strict_given, value_of, values_of}
+use Rattle.hwdb_spec_program.specs.ProgramPlan.{OfAround, command, files_plan, found_command, limit_of, root_given, strict_given, value_of, values_of}
 use Rattle.hwdb_plan.specs.Requests.{Around, plan_of}
 use Rattle.hwdb_spec_program.specs.Words.{AskFor}
 use Rattle.hwdb_plan.specs.Asking.{if_read, named}
@@ -29,6 +29,7 @@ use Rattle.hwdb_plan.specs.Lemmas.Ends.{answer_shows}
 use Rattle.hwdb_plan.specs.Plans.{End, Ends, Follows, Next, Plan}
 use Rattle.hwdb_plan.specs.Plans.End.{Stops}
 use Rattle.hwdb_plan.specs.Plans.Plan.{Input}
+use Rattle.hwdb_tool.specs.Verbs.{AnswersAsked, ShowsAsked}
 use Rattle.hwdb_tool.specs.Views.{end_of}
 use Rattle.hwdb_tool.specs.declared.answer.Answer.{Answer}
 use Rattle.hwdb_tool.proofs.JobLemmas.{one_root}
@@ -106,12 +107,9 @@ around sight told cause = record { input = told; sight = sight; cause = cause }
 abbrev pub command_plan : Around → (root : List ℕ) (strict : Bool) (word : Text) → List Row → Option Plan
 command_plan a root strict word rows = option_map (plan_of asked_names a) (command a.sight root strict word rows)
 
-module _ (w : Reads) (sight : Sight) (input_before input_now : Told) (before now : Outs) (result : Result ℕ Refusal) where
-  abbrev Shows : Plan → Type 0
-  Shows p = ShowsEnd w p input_before input_now before now result
-
+module _ (sight : Sight) (input_before input_now : Told) (Is : Plan → Type 0) where
   abbrev Planned : (plan : Around → Option Plan) → Type 0
-  Planned plan = ShowsPlan plan w sight input_before input_now before now result
+  Planned plan = OfAround sight input_before.bytes input_before.failures input_now.failures (λ a. IfSome (plan a) Is)
 
   -- the words ask for a job, whose command has a plan by its word
   pub of_words : (words : List Text) (job : Job) → AskFor words job → ((word : Text) (rows : List Row) → IsTask word rows job.task → Planned (λ a. command_plan a (root_of job) job.strict word rows))
@@ -125,17 +123,32 @@ module _ (w : Reads) (sight : Sight) (input_before input_now : Told) (before now
           (subst (λ (s : Bool). Planned (λ a. command_plan a (root_of job) s p.0 p.1)) is.strict (each p.0 p.1 is.task))
 
   module _ (root : List ℕ) (strict : Bool) (word : Text) (rows : List Row) where
-    pub at_word : (a : Around) (known : Text) → word ≡ known → IfSome (command_plan a root strict known rows) Shows → IfSome (command_plan a root strict word rows) Shows
-    at_word a known is shows = subst (λ (n : Text). IfSome (command_plan a root strict n rows) Shows) (sym is) shows
+    pub at_word : (a : Around) (known : Text) → word ≡ known → IfSome (command_plan a root strict known rows) Is → IfSome (command_plan a root strict word rows) Is
+    at_word a known is shows = subst (λ (n : Text). IfSome (command_plan a root strict n rows) Is) (sym is) shows
 
     abbrev pub At : Type 0
     At = Planned (λ a. command_plan a root strict word rows)
 
     -- a command that asks nothing of standard input
-    pub alone : (known : Text) → word ≡ known → IfSome (command_plan (around sight (Err unread.Memory) []) root strict known rows) Shows → At
+    pub alone : (known : Text) → word ≡ known → IfSome (command_plan (around sight (Err unread.Memory) []) root strict known rows) Is → At
     alone known is shows = (Err unread.Memory, tt, ([], refl, at_word (around sight (Err unread.Memory) []) known is shows))
 
-  -- an answer that is printed shows its plan
-  pub answered : (answer : Result Answer Refusal) → MatchResult answer (λ a. Prints a.status a.err.items a.out.items before now result) (λ r. (result ≡ Err r) × (now ≡ before))
-      → (p : Plan) → Follows end_of w p answer → Shows p
-  answered answer prints p follows = answer_shows (λ (a : Answer). a.status) (λ a. a.err.items) (λ a. a.out.items) answer result w p input_before input_now before now follows prints
+some_shows : (P Q : Plan → Type 0) (o : Option Plan) → ((p : Plan) → P p → Q p) → IfSome o P → IfSome o Q
+some_shows P Q None step holds = tt
+some_shows P Q (Some p) step holds = step p holds
+
+-- an answer that is printed shows its plan
+pub printed_shows : (w : Reads) (sight : Sight) (input_before input_now : Told) (before now : Outs) (result : Result ℕ Refusal) (job : Job) (answer : Result Answer Refusal)
+    → AnswersAsked job w sight input_before input_now answer → MatchResult answer (λ a. Prints a.status a.err.items a.out.items before now result) (λ r. (result ≡ Err r) × (now ≡ before))
+    → ShowsAsked job w sight input_before input_now before now result
+printed_shows w sight input_before input_now before now result job answer answers prints words asked =
+    let (told, so, (cause, one_line, follows)) = answers words asked in (
+      told,
+      so,
+      (
+        cause,
+        one_line,
+        some_shows (λ p. Follows end_of w p answer) (λ p. ShowsEnd w p input_before input_now before now result) (files_plan (around sight told cause) words)
+            (λ p follow. answer_shows (λ (a : Answer). a.status) (λ a. a.err.items) (λ a. a.out.items) answer result w p input_before input_now before now follow prints) follows,
+      ),
+    )

@@ -1,11 +1,12 @@
 -- What the words of `query` ask for is what its function follows.
-use Rattle.std.proofs.Common.{subst, map, string_bytes, Bool, Global, List, Result, String, Vec, ℕ}
+use Rattle.std.proofs.Common.{subst, map, string_bytes, Bool, List, Result, ℕ}
 use Rattle.std.specs.Prelude.{codes}
 use Rattle.clap.specs.Walk.{Row, Text}
 use Rattle.hwdb_spec_commands.specs.DeviceTree.{Sight}
 use Rattle.hwdb_spec_commands.specs.Jobs.{IsTask}
 use Rattle.hwdb_spec_commands.specs.Runs.{Told}
 use Rattle.hwdb_spec_commands.specs.Told.{Reads}
+use Rattle.hwdb_spec_commands.specs.declared.args.QueryArgs.{QueryArgs}
 use Rattle.hwdb_spec_commands.specs.declared.job.Task.TheVariants.{Query}
 use Rattle.hwdb_spec_commands.specs.declared.refusals.Refusal.{Refusal}
 use Rattle.hwdb_spec_program.specs.ProgramPlan.{values_of}
@@ -18,8 +19,8 @@ module _ (w : Reads) (sight : Sight) (input_before input_now : Told) (before now
   abbrev Shows : Plan → Type 0
   Shows p = ShowsEnd w p input_before input_now before now result
 
-  pub query_planned : (devices : Vec (String Global) Global) (json : Bool) → IsTask word rows (Query devices json) → Shows (query_plan root json (map string_bytes devices.items)) → At w sight input_before input_now before now result root strict word rows
-  query_planned devices json is shows =
-      alone w sight input_before input_now before now result root strict word rows (codes "query") is.0
+  pub query_planned : (args : QueryArgs) → IsTask word rows (Query args) → Shows (query_plan root args.json (map string_bytes args.devices.items)) → At sight input_before input_now Shows root strict word rows
+  query_planned args is shows =
+      alone sight input_before input_now Shows root strict word rows (codes "query") is.0
       (subst (λ (j : Bool). Shows (query_plan root j (values_of (codes "MODALIAS") rows))) is.1
-      (subst (λ (ds : List Text). Shows (query_plan root json ds)) (some_values (codes "MODALIAS") rows _ is.2) shows))
+      (subst (λ (ds : List Text). Shows (query_plan root args.json ds)) (some_values (codes "MODALIAS") rows _ is.2) shows))

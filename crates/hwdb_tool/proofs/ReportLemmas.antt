@@ -1,5 +1,5 @@
 -- What the program reports after a command.
-use Rattle.std.proofs.Common.{◌≡◌, ◌∙◌, ◌<◌, ◌⊎◌, ⊎_elim, inl, inr, ap, subst, sym, List, Option, None, Some, Err, ℕ, [], true, false}
+use Rattle.std.proofs.Common.{◌≡◌, ◌∙◌, ◌<◌, ◌⊎◌, ⊎_elim, inl, inr, ap, subst, sym, List, Option, None, Some, Err, ℕ, []}
 use Rattle.std.specs.Prelude.{◌||◌, codes, if◌then◌else◌}
 use Rattle.std.specs.Str.{bytes_eq}
 use Rattle.clap.specs.Faults.{fault_of}
@@ -10,7 +10,7 @@ use Rattle.hwdb_spec_commands.specs.Jobs.{IsJobOf, IsTask}
 use Rattle.hwdb_spec_commands.specs.Runs.{Told}
 use Rattle.hwdb_spec_commands.specs.declared.job.Job.{Job}
 use Rattle.hwdb_spec_commands.specs.declared.job.Task.{Task}
-use Rattle.hwdb_spec_commands.specs.declared.job.Task.TheVariants.{Status}
+use Rattle.hwdb_spec_commands.specs.declared.job.Task.TheVariants.{Update}
 use Rattle.hwdb_spec_commands.specs.declared.job.WordsFault.TheVariants.{Help, Usage}
 use Rattle.hwdb_spec_commands.specs.WordFaults.{IsToldOfOne}
 use Rattle.hwdb_spec_commands.specs.declared.refusals.Refusal.{Refusal}
@@ -25,8 +25,7 @@ abbrev of_word : Text → ℕ
 of_word word = if bytes_eq word (codes "diff") || bytes_eq word (codes "check") then 2 else 1
 
 by_task : (word : Text) (rows : List Row) (task : Task) → IsTask word rows task → refused_status task ≡ of_word word
-by_task word rows (Status json false) is = ap of_word (sym is.0)
-by_task word rows (Status json true) is = ap of_word (sym is.0)
+by_task word rows (Update u) is = ap of_word (sym is.0)
 by_task word rows task is = ap of_word (sym is.0)
 
 pub status_is : (words : List Text) (job : Job) → AskFor words job → refused_status job.task ≡ error_status (subcommand_of hwdb_app words)

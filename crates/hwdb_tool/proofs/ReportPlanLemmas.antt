@@ -15,14 +15,14 @@ use Rattle.hwdb_spec_commands.specs.Exports.{export_sight, is_export, no_export_
 use Rattle.hwdb_spec_commands.specs.Given.{is_dash}
 use Rattle.hwdb_spec_commands.specs.Refusals.{IsInWords}
 use Rattle.hwdb_spec_commands.specs.Sysfs.{Device}
-use Rattle.hwdb_spec_commands.specs.Told.{IsReadTo, IsStop, IsUnreadAs, Reads, stop_of, unread_stop}
+use Rattle.hwdb_spec_commands.specs.Told.{IsStop, IsUnreadAs, Reads, stop_of}
 use Rattle.hwdb_spec_commands.specs.Told.Stop.{Says}
 use Rattle.hwdb_spec_commands.specs.declared.devices.DeviceForm.{DeviceForm}
 use Rattle.hwdb_spec_commands.specs.declared.refusals.Refusal.{Refusal}
 use Rattle.hwdb_spec_commands.specs.declared.refusals.Refusal.TheVariants as refusal
 use Rattle.hwdb_spec_commands.specs.declared.unread.Unread.{Unread}
 use Rattle.hwdb_spec_commands.specs.declared.unread.Unread.TheVariants as unread
-use Rattle.hwdb_spec_program.specs.DeviceErrors.{SaysSeveral, asked_names}
+use Rattle.hwdb_spec_program.specs.DeviceErrors.{asked_names}
 use Rattle.hwdb_plan.specs.Asking.{asked, if_read}
 use Rattle.hwdb_plan.specs.Device.{all_misuse}
 use Rattle.hwdb_plan.specs.Dump.{database_stop}
@@ -33,7 +33,7 @@ use Rattle.hwdb_plan.specs.Lemmas.Steps.{plainly}
 use Rattle.hwdb_plan.specs.OverText.{if_fit}
 use Rattle.hwdb_plan.specs.Plans.{End, Ends, Follows, Next, Plan}
 use Rattle.hwdb_plan.specs.Plans.End.{Answers, Stops}
-use Rattle.hwdb_plan.specs.Plans.Plan.{Done, Input}
+use Rattle.hwdb_plan.specs.Plans.Plan.{Input}
 use Rattle.hwdb_plan.specs.Report.{Report, found_answer, found_asked, found_device, found_devices, found_strings, none_found, report_answer, sys}
 use Rattle.hwdb_plan.specs.Sysfs.{one_of, says}
 use Rattle.hwdb_tool.specs.Reported.{IsUnfoundIn}

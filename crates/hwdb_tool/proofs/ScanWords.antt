@@ -1,11 +1,12 @@
 -- What the words of `scan` ask for is what its function follows.
-use Rattle.std.proofs.Common.{subst, string_bytes, Bool, Global, List, Option, Result, String, ℕ}
+use Rattle.std.proofs.Common.{subst, string_bytes, Bool, List, Option, Result, ℕ}
 use Rattle.std.specs.Prelude.{codes}
 use Rattle.clap.specs.Walk.{Row, Text, one_of}
 use Rattle.hwdb_spec_commands.specs.DeviceTree.{Sight}
 use Rattle.hwdb_spec_commands.specs.Jobs.{IsTask}
 use Rattle.hwdb_spec_commands.specs.Runs.{Told}
 use Rattle.hwdb_spec_commands.specs.Told.{Reads}
+use Rattle.hwdb_spec_commands.specs.declared.args.ScanArgs.{ScanArgs}
 use Rattle.hwdb_spec_commands.specs.declared.job.Task.TheVariants.{Scan}
 use Rattle.hwdb_spec_commands.specs.declared.refusals.Refusal.{Refusal}
 use Rattle.hwdb_spec_program.specs.ProgramPlan.{count_of}
@@ -18,8 +19,8 @@ module _ (w : Reads) (sight : Sight) (input_before input_now : Told) (before now
   abbrev Shows : Plan → Type 0
   Shows p = ShowsEnd w p input_before input_now before now result
 
-  pub scan_planned : (device : String Global) (count : Option ℕ) → IsTask word rows (Scan device count) → Shows (scan_plan root (string_bytes device) count) → At w sight input_before input_now before now result root strict word rows
-  scan_planned device count is shows =
-      alone w sight input_before input_now before now result root strict word rows (codes "scan") is.0
+  pub scan_planned : (args : ScanArgs) → IsTask word rows (Scan args) → Shows (scan_plan root (string_bytes args.device) args.count) → At sight input_before input_now Shows root strict word rows
+  scan_planned args is shows =
+      alone sight input_before input_now Shows root strict word rows (codes "scan") is.0
       (subst (λ (d : Text). Shows (scan_plan root d (count_of rows))) (some_value (codes "DEVICE") rows _ is.1)
-      (subst (λ (n : Option ℕ). Shows (scan_plan root (string_bytes device) n)) (number_is (one_of (codes "count") rows) count is.2) shows))
+      (subst (λ (n : Option ℕ). Shows (scan_plan root (string_bytes args.device) n)) (number_is (one_of (codes "count") rows) args.count is.2) shows))

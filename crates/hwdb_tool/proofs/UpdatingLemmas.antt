@@ -1,5 +1,5 @@
 -- Words that ask for an update, by the job that they ask for; and what a run of them does.
-use Rattle.std.proofs.Common.{◌≡◌, ◌∙◌, ◌⊎◌, ⊎_elim, inl, inr, ap, refl, subst, sym, Bool, List, Option, None, Some, Result, ℕ, [], true, false}
+use Rattle.std.proofs.Common.{◌≡◌, ◌∙◌, ◌⊎◌, ⊎_elim, inl, inr, ap, refl, subst, sym, true≢false, Bool, List, Option, None, Some, Result, ℕ, [], true, false}
 use Rattle.std.specs.Prelude.{◌&&◌, ◌||◌, codes, if◌then◌else◌, not}
 use Rattle.std.specs.Str.{bytes_eq}
 use Rattle.clap.specs.Simple.{matches_of, subcommand_of}
@@ -7,18 +7,19 @@ use Rattle.clap.specs.Walk.{Row, Text}
 use Rattle.hwdb_spec.specs.Store.{Contents, LeavesOnly, Outcomes, Stored}
 use Rattle.hwdb_spec_commands.specs.CommandLine.{hwdb_app}
 use Rattle.hwdb_spec_commands.specs.Done.{IsLeftByUpdateLess, OldOrUpdatedLess}
-use Rattle.hwdb_spec_commands.specs.Jobs.{IsJob, IsJobOf, IsTask, has_flag}
+use Rattle.hwdb_spec_commands.specs.Jobs.{IsJob, IsJobOf, IsTask, has_flag, text_taker}
 use Rattle.hwdb_spec_commands.specs.Runs.{AreKept, Files, Told}
 use Rattle.hwdb_spec_commands.specs.Told.{Reads}
 use Rattle.hwdb_spec_commands.specs.declared.job.Job.{Job}
 use Rattle.hwdb_spec_commands.specs.declared.job.Task.{Task}
-use Rattle.hwdb_spec_commands.specs.declared.job.Task.TheVariants.{Status, Update}
+use Rattle.hwdb_spec_commands.specs.declared.args.UpdateArgs.{UpdateArgs}
+use Rattle.hwdb_spec_commands.specs.declared.job.Task.TheVariants.{Fresh, Update}
 use Rattle.hwdb_spec_commands.specs.declared.refusals.Refusal.{Refusal}
 use Rattle.hwdb_plan.specs.Ended.{Outs}
 use Rattle.hwdb_plan.specs.Putting.{OldOrPut}
 use Rattle.hwdb_plan.specs.Update.{update_plan}
 use Rattle.hwdb_spec_program.specs.HidingPlan.{UpdatesTelling}
-use Rattle.hwdb_spec_program.specs.Program.{IsUpdate, OldOrDone, root_of, skips}
+use Rattle.hwdb_spec_program.specs.Program.{IsUpdate, OldOrDone, is_update, root_of, skips}
 use Rattle.hwdb_spec_program.specs.ProgramPlan.{AskedUpdate, OldOrAsked, UpdatesIfAsked, asked_update, found_update, strict_given, update_of}
 use Rattle.hwdb_spec_program.specs.Words.{AskFor}
 use Rattle.hwdb_tool.proofs.MomentLemmas.{leaves_more, leaves_old}
@@ -27,47 +28,49 @@ use Rattle.hwdb_tool.specs.Updating.{UpdatesAsAsked}
 
 -- ---- a job that is an update
 -- it is one update
-of_task : (job : Job) (Is : (root : List ℕ) (verbose skip : Bool) → Type 0) (root : List ℕ) (verbose skip : Bool) → root ≡ root_of job → job.task ≡ Update verbose skip → Is root verbose skip
-    → (v s : Bool) → job.task ≡ Update v s → Is (root_of job) v s
-of_task job Is root verbose skip at is holds v s also =
-    let same : Update verbose skip ≡ Update v s = sym is ∙ also in
-    let one : verbose ≡ v = cc in
-    let two : skip ≡ s = cc in
-    subst (λ (b : Bool). Is (root_of job) b s) one (subst (λ (b : Bool). Is (root_of job) verbose b) two (subst (λ (r : List ℕ). Is r verbose skip) at holds))
+of_task : (job : Job) (Is : (root : List ℕ) → UpdateArgs → Type 0) (root : List ℕ) (u : UpdateArgs) → root ≡ root_of job → job.task ≡ Update u → Is root u → (v : UpdateArgs) → job.task ≡ Update v → Is (root_of job) v
+of_task job Is root u at is holds v also =
+    let same : Update u ≡ Update v = sym is ∙ also in
+    let one : u ≡ v = cc in
+    subst (λ (x : UpdateArgs). Is (root_of job) x) one (subst (λ (r : List ℕ). Is r u) at holds)
 
 -- what is left of one
-pub task_updates : (w : Reads) (before now : Files) (err_before err_now : Told) (result : Result ℕ Refusal) (job : Job) (root : List ℕ) (verbose skip : Bool) → root ≡ root_of job → job.task ≡ Update verbose skip
-    → UpdatesTelling w root job.usr job.strict verbose skip before now err_before err_now result → UpdatesAsAsked job w before now err_before err_now result
-task_updates w before now eb en result job root verbose skip at is =
-    of_task job (λ r v s. UpdatesTelling w r job.usr job.strict v s before now eb en result) root verbose skip at is
+pub task_updates : (w : Reads) (before now : Files) (err_before err_now : Told) (result : Result ℕ Refusal) (job : Job) (root : List ℕ) (u : UpdateArgs) → root ≡ root_of job → job.task ≡ Update u
+    → UpdatesTelling w root job.usr job.strict u.verbose u.skip_unreadable before now err_before err_now result → UpdatesAsAsked job w before now err_before err_now result
+task_updates w before now eb en result job root u at is = of_task job (λ r x. UpdatesTelling w r job.usr job.strict x.verbose x.skip_unreadable before now eb en result) root u at is
 
-module _ {D : Type 0} (moment : D → ℕ) (left_since : D → ℕ → Outcomes) (old new : D) (seen : Contents) (left : Outcomes) (job : Job) (root : List ℕ) (verbose skip : Bool) (at : root ≡ root_of job)
-    (is : job.task ≡ Update verbose skip) where
+module _ {D : Type 0} (moment : D → ℕ) (left_since : D → ℕ → Outcomes) (old new : D) (seen : Contents) (left : Outcomes) (job : Job) (root : List ℕ) (u : UpdateArgs) (at : root ≡ root_of job)
+    (is : job.task ≡ Update u) where
   -- what a crash leaves during it
-  pub task_crash : (w : Reads) → (causes : List (List ℕ)) × LeavesOnly moment left_since old new (OldOrPut w (update_plan root job.usr job.strict verbose skip causes) seen left)
-      → (v s : Bool) → job.task ≡ Update v s → (causes : List (List ℕ)) × LeavesOnly moment left_since old new (OldOrPut w (update_plan (root_of job) job.usr job.strict v s causes) seen left)
+  pub task_crash : (w : Reads) → (causes : List (List ℕ)) × LeavesOnly moment left_since old new (OldOrPut w (update_plan root job.usr job.strict u.verbose u.skip_unreadable causes) seen left)
+      → (v : UpdateArgs) → job.task ≡ Update v → (causes : List (List ℕ)) × LeavesOnly moment left_since old new (OldOrPut w (update_plan (root_of job) job.usr job.strict v.verbose v.skip_unreadable causes) seen left)
   task_crash w =
-      of_task job (λ r v s. (causes : List (List ℕ)) × LeavesOnly moment left_since old new (OldOrPut w (update_plan r job.usr job.strict v s causes) seen left)) root verbose skip at is
+      of_task job (λ r x. (causes : List (List ℕ)) × LeavesOnly moment left_since old new (OldOrPut w (update_plan r job.usr job.strict x.verbose x.skip_unreadable causes) seen left)) root u at is
 
   -- the same, in the words of the older clause
-  pub task_moment : (MayFail : List ℕ → Type 0) → LeavesOnly moment left_since old new (OldOrUpdatedLess MayFail root job.usr skip seen left) → LeavesOnly moment left_since old new (OldOrDone MayFail job seen left)
+  pub task_moment : (MayFail : List ℕ → Type 0) → LeavesOnly moment left_since old new (OldOrUpdatedLess MayFail root job.usr u.skip_unreadable seen left) → LeavesOnly moment left_since old new (OldOrDone MayFail job seen left)
   task_moment MayFail leaves =
-      leaves_more moment left_since old new (OldOrUpdatedLess MayFail root job.usr skip seen left) (OldOrDone MayFail job seen left)
+      leaves_more moment left_since old new (OldOrUpdatedLess MayFail root job.usr u.skip_unreadable seen left) (OldOrDone MayFail job seen left)
       (λ p v now. ⊎_elim (λ was. inl was) (λ l. inr (
-        (verbose, skip, is),
-        subst (λ b. IsLeftByUpdateLess MayFail (root_of job) job.usr b seen p v) (sym (ap skips is)) (subst (λ r. IsLeftByUpdateLess MayFail r job.usr skip seen p v) at l),
+        (u, is),
+        subst (λ b. IsLeftByUpdateLess MayFail (root_of job) job.usr b seen p v) (sym (ap skips is)) (subst (λ r. IsLeftByUpdateLess MayFail r job.usr u.skip_unreadable seen p v) at l),
       )) now)
       leaves
 
 -- an update, or not
 by_task : (task : Task) → IsUpdate task ⊎ (IsUpdate task → ⊥)
-by_task (Update verbose skip) = inl (verbose, skip, refl)
-by_task task = inr (λ (v, s, is). cc)
+by_task (Update u) = inl (u, refl)
+by_task task = inr (λ (v, is). cc)
+
+-- its words don't take `--text`
+pub update_takes_none : (task : Task) (word : Text) (rows : List Row) → IsTask word rows task → is_update task ≡ true → text_taker word rows ≡ None
+update_takes_none (Update u) word rows is yes = subst (λ (n : Text). text_taker n rows ≡ None) (sym is.0) refl
+update_takes_none task word rows is no_one = absurd (true≢false (sym no_one))
 
 -- ---- by words
 -- what an update of this job is asked for
-abbrev asked_of : Job → (verbose skip : Bool) → AskedUpdate
-asked_of job verbose skip = record { root = root_of job; usr = job.usr; strict = job.strict; verbose = verbose; skip = skip }
+abbrev asked_of : Job → UpdateArgs → AskedUpdate
+asked_of job u = record { root = root_of job; usr = job.usr; strict = job.strict; verbose = u.verbose; skip = u.skip_unreadable }
 
 module _ (top : List Row) (found : Text × List Row) where
   abbrev found_by : (word : Text) (check : Bool) → Option AskedUpdate
@@ -81,24 +84,23 @@ module _ (top : List Row) (found : Text × List Row) where
 
   -- the words of another task
   unasked : (task : Task) → IsTask found.0 found.1 task → (IsUpdate task → ⊥) → found_update top (Some found) ≡ None
-  unasked (Update verbose skip) is none = absurd (none (verbose, skip, refl))
-  unasked (Status json false) is none = named_so _ is.0 (λ b. refl)
-  unasked (Status json true) is none =
+  unasked (Update u) is none = absurd (none (u, refl))
+  unasked Fresh is none =
       subst (λ (n : Text). found_by n check_of ≡ None) (sym is.0) (subst (λ (b : Bool). found_by (codes "update") b ≡ None) (sym is.1) refl)
   unasked task is none = named_so _ is.0 (λ b. refl)
 
   -- those of an update
-  asked_so : (job : Job) → IsJob top found.0 found.1 job → (verbose skip : Bool) → job.task ≡ Update verbose skip → found_update top (Some found) ≡ Some (asked_of job verbose skip)
-  asked_so job is verbose skip task =
+  asked_so : (job : Job) → IsJob top found.0 found.1 job → (u : UpdateArgs) → job.task ≡ Update u → found_update top (Some found) ≡ Some (asked_of job u)
+  asked_so job is u task =
       let of = subst (λ (t : Task). IsTask found.0 found.1 t) task is.task in
       let here : found_update top (Some found) ≡ Some (asked_update top found.1) =
       subst (λ (n : Text). found_by n check_of ≡ Some (asked_update top found.1)) (sym of.0) (subst (λ (b : Bool). found_by (codes "update") b ≡ Some (asked_update top found.1)) (sym of.1) refl) in
       let root = root_is top found.0 found.1 job is in
       let has : (usr strict verbose skip : Bool) (root : List ℕ) → Option AskedUpdate = λ usr strict verbose skip root. Some (record { root = root; usr = usr; strict = strict; verbose = verbose; skip = skip }) in
       here
-      ∙ sym (ap (λ (b : Bool). has b job.strict verbose skip (root_of job)) is.usr
-      ∙ ap (λ (b : Bool). has (has_flag (codes "usr") found.1 || has_flag (codes "usr") top) b verbose skip (root_of job)) is.strict
-      ∙ ap (λ (b : Bool). has (has_flag (codes "usr") found.1 || has_flag (codes "usr") top) (strict_given top found.1) b skip (root_of job)) of.2
+      ∙ sym (ap (λ (b : Bool). has b job.strict u.verbose u.skip_unreadable (root_of job)) is.usr
+      ∙ ap (λ (b : Bool). has (has_flag (codes "usr") found.1 || has_flag (codes "usr") top) b u.verbose u.skip_unreadable (root_of job)) is.strict
+      ∙ ap (λ (b : Bool). has (has_flag (codes "usr") found.1 || has_flag (codes "usr") top) (strict_given top found.1) b u.skip_unreadable (root_of job)) of.2
       ∙ ap (λ (b : Bool). has (has_flag (codes "usr") found.1 || has_flag (codes "usr") top) (strict_given top found.1) (has_flag (codes "verbose") found.1) b (root_of job)) of.3
       ∙ ap (λ (r : List ℕ). has (has_flag (codes "usr") found.1 || has_flag (codes "usr") top) (strict_given top found.1) (has_flag (codes "verbose") found.1) (has_flag (codes "skip-unreadable") found.1) r) root)
 
@@ -110,12 +112,12 @@ module _ (words : List Text) (job : Job) (asked : AskFor words job) where
       by top None is = absurd is
       by top (Some p) is = unasked top p job.task is.task none
 
-  words_asked : (verbose skip : Bool) → job.task ≡ Update verbose skip → update_of words ≡ Some (asked_of job verbose skip)
-  words_asked verbose skip task = by (matches_of hwdb_app words) (subcommand_of hwdb_app words) asked
+  words_asked : (u : UpdateArgs) → job.task ≡ Update u → update_of words ≡ Some (asked_of job u)
+  words_asked u task = by (matches_of hwdb_app words) (subcommand_of hwdb_app words) asked
     where
-      by : (top : List Row) (found : Option (Text × List Row)) → IsJobOf top found job → found_update top found ≡ Some (asked_of job verbose skip)
+      by : (top : List Row) (found : Option (Text × List Row)) → IsJobOf top found job → found_update top found ≡ Some (asked_of job u)
       by top None is = absurd is
-      by top (Some p) is = asked_so top p job is verbose skip task
+      by top (Some p) is = asked_so top p job is u task
 
   -- ---- runs
   -- what is left
@@ -124,8 +126,7 @@ module _ (words : List Text) (job : Job) (asked : AskFor words job) where
   updates_asked w before now ob on result updates quiet kept = by (by_task job.task)
     where
       by : IsUpdate job.task ⊎ (IsUpdate job.task → ⊥) → UpdatesIfAsked (update_of words) w before now ob on result
-      by (inl (verbose, skip, is)) =
-          subst (λ (o : Option AskedUpdate). UpdatesIfAsked o w before now ob on result) (sym (words_asked verbose skip is)) (updates verbose skip is, quiet (verbose, skip, is))
+      by (inl (u, is)) = subst (λ (o : Option AskedUpdate). UpdatesIfAsked o w before now ob on result) (sym (words_asked u is)) (updates u is, quiet (u, is))
       by (inr none) = subst (λ (o : Option AskedUpdate). UpdatesIfAsked o w before now ob on result) (sym (words_unasked none)) (kept none)
 
   -- what a crash leaves
@@ -133,14 +134,14 @@ module _ (words : List Text) (job : Job) (asked : AskFor words job) where
     abbrev Leaves : Outcomes → Type 0
     Leaves outcomes = LeavesOnly moment left_since old new outcomes
 
-    pub crash_asked : ((verbose skip : Bool) → job.task ≡ Update verbose skip → (causes : List (List ℕ)) × Leaves (OldOrPut w (update_plan (root_of job) job.usr job.strict verbose skip causes) seen left))
+    pub crash_asked : ((u : UpdateArgs) → job.task ≡ Update u → (causes : List (List ℕ)) × Leaves (OldOrPut w (update_plan (root_of job) job.usr job.strict u.verbose u.skip_unreadable causes) seen left))
         → ((IsUpdate job.task → ⊥) → Leaves left) → (causes : List (List ℕ)) × Leaves (OldOrAsked (update_of words) w causes seen left)
     crash_asked updates kept = by (by_task job.task)
       where
         by : IsUpdate job.task ⊎ (IsUpdate job.task → ⊥) → (causes : List (List ℕ)) × Leaves (OldOrAsked (update_of words) w causes seen left)
-        by (inl (verbose, skip, is)) =
-            let leaves = updates verbose skip is in
-            (leaves.0, subst (λ (o : Option AskedUpdate). Leaves (OldOrAsked o w leaves.0 seen left)) (sym (words_asked verbose skip is)) leaves.1)
+        by (inl (u, is)) =
+            let leaves = updates u is in
+            (leaves.0, subst (λ (o : Option AskedUpdate). Leaves (OldOrAsked o w leaves.0 seen left)) (sym (words_asked u is)) leaves.1)
         by (inr none) = ([], subst (λ (o : Option AskedUpdate). Leaves (OldOrAsked o w [] seen left)) (sym (words_unasked none)) (kept none))
 
 -- nothing was done

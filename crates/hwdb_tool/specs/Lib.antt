@@ -1,5 +1,6 @@
 pub mod Scanned
 pub mod Views
+pub mod Verbs
 pub mod Laws
 pub mod Internal
 pub mod Statuses

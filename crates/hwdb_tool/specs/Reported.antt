@@ -1,5 +1,5 @@
 -- `device --from`: an export of udev's database in place of sysfs.
-use Rattle.std.specs.Prelude.{◌≡◌, ◌⊎◌, Bool, List, [], None, Option, Some, Result, codes, option_map, false, ℕ}
+use Rattle.std.specs.Prelude.{◌≡◌, ◌⊎◌, Bool, List, [], None, Option, Some, Result, option_map, false, ℕ}
 use Rattle.hwdb_exports.specs.Reports.{bytes_of}
 use Rattle.hwdb_plan.specs.Files.{OfInput}
 use Rattle.hwdb_plan.specs.Device.{device_asked}

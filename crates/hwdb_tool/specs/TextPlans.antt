@@ -20,7 +20,7 @@ use Rattle.hwdb_system.specs.Reads.{with_read}
 
 -- what a task says besides, by the text files as they are read
 abbrev pub besides_for : Task → Texts → List ℕ
-besides_for (Explain device json) texts = said_besides (is_dash (string_bytes device)) (replaced_of json (string_bytes device) texts)
+besides_for (Explain e) texts = let device = string_bytes e.device in said_besides (is_dash device) (replaced_of e.json device texts)
 besides_for task texts = []
 
 -- the plan of words over the files as they are, but that the database of /etc below a root has these bytes

@@ -10,15 +10,18 @@ ghost use Rattle.hwdb_plan.specs.Input.{OverGiven};
 ghost use Rattle.hwdb_plan.specs.List.{list_plan};
 ghost use Rattle.hwdb_plan.specs.Plans.{Follows};
 ghost use Rattle.hwdb_tool.specs.Views.{end_of};
+ghost use Rattle.hwdb_spec_commands.specs.declared.job.Task.TheVariants.{Ask, Explain, List as ListHits};
 
 use crate::answer::Answer;
 use crate::databases::{asked, refused_database};
 use crate::given::{is_dash, read};
 use crate::input_devices::answer_input;
 use crate::printing::printed;
+use crate::verb::{StreamVerb, Verb, root_of, text_of};
 use hwdb_answers::{Form, answer, ask_texts, print_list};
+use hwdb_cli::{AskArgs, ExplainArgs, Job, ListArgs};
 use hwdb_io::{Sink, Source};
-use hwdb_system::{Refusal, System};
+use hwdb_system::{Machine, Refusal, System};
 use hwdb_writer::law_one_written_form;
 use std::alloc::Global;
 
@@ -133,4 +136,54 @@ pub fn ask_file<D: System, I: Source>(
         out: texts.properties,
         status: 0,
     })
+}
+
+impl<D: Machine, I: Source> Verb<D, I> for AskArgs {
+    ghost task = { λ args. Ask args };
+
+    fn answer(
+        &self,
+        alloc: Global,
+        _job: &Job,
+        system: &D,
+        input: &mut I,
+    ) -> Result<Answer, Refusal> {
+        let (file, device) = (self.file.as_str(), self.device.as_bytes());
+        ask_file(alloc, file, device, system, input)
+    }
+}
+
+impl<D: Machine, I: Source, O: Sink, E: Sink> StreamVerb<D, I, O, E> for ExplainArgs {
+    ghost task = { λ args. Explain args };
+
+    fn run(
+        &self,
+        alloc: Global,
+        job: &Job,
+        system: &D,
+        input: &mut I,
+        out: &mut O,
+        err: &mut E,
+    ) -> Result<u8, Refusal> {
+        let (root, device) = (root_of(job), self.device.as_str());
+        explain(alloc, root, device, self.json, system, input, out, err)
+    }
+}
+
+impl<D: Machine, I: Source, O: Sink, E: Sink> StreamVerb<D, I, O, E> for ListArgs {
+    ghost task = { λ args. ListHits args };
+
+    fn run(
+        &self,
+        alloc: Global,
+        job: &Job,
+        system: &D,
+        _input: &mut I,
+        out: &mut O,
+        _err: &mut E,
+    ) -> Result<u8, Refusal> {
+        let (device, after) = (self.device.as_bytes(), text_of(&self.after));
+        let (root, limit) = (root_of(job), self.limit);
+        list(alloc, root, device, after, limit, self.json, system, out)
+    }
 }

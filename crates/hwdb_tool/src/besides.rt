@@ -50,11 +50,11 @@ pub(crate) fn text_besides(
     ensures memory { IfErr result (λ r. r ≡ Plain Memory) }
 {
     match task {
-        Task::Explain { device, json } => {
-            if is_dash(device.as_str()) {
+        Task::Explain(args) => {
+            if is_dash(args.device.as_str()) {
                 return Ok(Vec::new(alloc));
             }
-            said_of(alloc, files, listed, device.as_bytes(), *json)
+            said_of(alloc, files, listed, args.device.as_bytes(), args.json)
         }
         _ => Ok(Vec::new(alloc)),
     }

@@ -18,15 +18,18 @@ ghost use Rattle.hwdb_spec_commands.specs.Given.{any_dash};
 ghost use Rattle.hwdb_spec.specs.Texts.{max_file};
 ghost use Rattle.hwdb_spec_commands.specs.Undone.{AreNotChecked};
 ghost use Rattle.hwdb_tool.specs.Views.{end_of, texts_in};
+ghost use Rattle.hwdb_spec_commands.specs.declared.job.Task.TheVariants.{Check};
 
 use crate::answer::Answer;
 use crate::given::{any_dash, bytes_given, input_text};
 use crate::given_folders::named_files;
+use crate::verb::{Verb, root_of, text_of};
 use hwdb_answers::ToolError;
-use hwdb_check::{BaselineFault, Telling, TextFile, marks_in, say_files, wrong_text};
+use hwdb_check::{BaselineFault, Telling, TextFile, format_asked, marks_in, say_files, wrong_text};
+use hwdb_cli::{CheckArgs, Job};
 use hwdb_io::Source;
 use hwdb_spec_commands::Format;
-use hwdb_system::{Refusal, System, selected};
+use hwdb_system::{Machine, Refusal, System, selected};
 use hwdb_text::Chosen;
 use std::alloc::{AllocError, Global};
 
@@ -365,4 +368,24 @@ pub fn with_paths<'a>(
         })?;
     }
     Ok(files)
+}
+
+impl<D: Machine, I: Source> Verb<D, I> for CheckArgs {
+    ghost task = { λ args. Check args };
+
+    fn answer(
+        &self,
+        alloc: Global,
+        job: &Job,
+        system: &D,
+        input: &mut I,
+    ) -> Result<Answer, Refusal> {
+        let form = format_asked(self.diff, self.json, &self.format);
+        let (name, known) = (text_of(&self.name), text_of(&self.baseline));
+        let (files, allowed) = (&self.files, &self.allowed);
+        let (root, strict) = (root_of(job), job.strict);
+        check_as_asked(
+            alloc, root, files, name, known, form, allowed, strict, system, input,
+        )
+    }
 }

@@ -170,23 +170,16 @@ impl<W: Outlet> Outlet for Coloured<W> {
 /// What kind of text a task prints. JSON, and what has no parts to tell apart, is `Plain`.
 pub fn kind_of(task: &Task) -> TextKind {
     match task {
-        Task::Query { json: false, .. } | Task::Ask { .. } => TextKind::Properties,
-        Task::Explain { json: false, .. } => TextKind::Origins,
-        Task::List { json: false, .. } => TextKind::Hits,
-        Task::Check {
-            json: false,
-            diff: false,
-            ..
-        } => TextKind::Reports,
-        Task::Near { json: false, .. } | Task::Test { json: false, .. } => TextKind::Reports,
-        Task::Diff {
-            devices,
-            json: false,
-            stat: false,
-            ..
-        } => changes_kind(devices),
-        Task::Verify { .. } => TextKind::Counts,
-        Task::Dump { .. } => TextKind::Records,
+        Task::Query(args) if !args.json => TextKind::Properties,
+        Task::Ask(_) => TextKind::Properties,
+        Task::Explain(args) if !args.json => TextKind::Origins,
+        Task::List(args) if !args.json => TextKind::Hits,
+        Task::Check(args) if !args.json && !args.diff => TextKind::Reports,
+        Task::Near(args) if !args.json => TextKind::Reports,
+        Task::Test(args) if !args.json => TextKind::Reports,
+        Task::Diff(args) if !args.json && !args.stat => changes_kind(&args.devices),
+        Task::Verify(_) => TextKind::Counts,
+        Task::Dump(_) => TextKind::Records,
         _ => TextKind::Plain,
     }
 }

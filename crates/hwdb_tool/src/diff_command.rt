@@ -19,17 +19,20 @@ ghost use Rattle.hwdb_plan.specs.Files.{OfInput};
 ghost use Rattle.hwdb_plan.specs.Plans.{Follows};
 ghost use Rattle.hwdb_tool.specs.SideSteps.{IsOneDash};
 ghost use Rattle.hwdb_tool.specs.Views.{end_of};
+ghost use Rattle.hwdb_spec_commands.specs.declared.job.Task.TheVariants.{Diff};
 
 use crate::answer::Answer;
 use crate::check_command::{given_texts, with_paths};
 use crate::given::{INPUT, any_dash, is_dash};
 use crate::sides::side;
+use crate::verb::Verb;
 use hwdb_answers::ToolError;
 use hwdb_check::TextFile;
+use hwdb_cli::{DiffArgs, Job};
 use hwdb_databases::{Changes, DiffError, diff_devices, stat, stat_devices};
 use hwdb_io::Source;
 use hwdb_reader::law_one_tree;
-use hwdb_system::{Refusal, TextsBelow};
+use hwdb_system::{Machine, Refusal, TextsBelow};
 use hwdb_text::Lines;
 use std::alloc::{AllocError, Global};
 
@@ -249,5 +252,29 @@ fn refusal_of(alloc: Global, error: DiffError, old_path: &str, new_path: &str) -
             )
         }
         DiffError::Memory => Refusal::from(ToolError::Memory),
+    }
+}
+
+impl<D: Machine, I: Source> Verb<D, I> for DiffArgs {
+    ghost task = { λ args. Diff args };
+
+    fn answer(
+        &self,
+        alloc: Global,
+        _job: &Job,
+        system: &D,
+        input: &mut I,
+    ) -> Result<Answer, Refusal> {
+        let (old, new) = (self.old.as_str(), self.new.as_str());
+        diff(
+            alloc,
+            old,
+            new,
+            &self.devices,
+            self.stat,
+            self.json,
+            system,
+            input,
+        )
     }
 }

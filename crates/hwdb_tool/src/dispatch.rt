@@ -1,5 +1,5 @@
 //! The program: its words, its files, its status and its error lines.
-ghost use Rattle.std.specs.Prelude.{◌≡◌, ◌<◌, ◌≤◌, ◌⊎◌, Bool, false, map, option_map, string_bytes, IfOk, IfErr, List, OnOk, ℕ};
+ghost use Rattle.std.specs.Prelude.{◌≡◌, ◌<◌, ◌≤◌, ◌⊎◌, false, map, string_bytes, IfOk, IfErr, List, OnOk, ℕ};
 ghost use Rattle.hwdb_plan.specs.Ended.{outs};
 ghost use Rattle.hwdb_plan.specs.Putting.{OldOrPut};
 ghost use Rattle.hwdb_plan.specs.Update.{update_plan};
@@ -10,33 +10,22 @@ ghost use Rattle.hwdb_spec_commands.specs.Runs.{files_by, told_by, world_by};
 ghost use Rattle.hwdb_spec_commands.specs.WordFaults.{AreWrong};
 ghost use Rattle.hwdb_spec_program.specs.Words.{AskFor};
 ghost use Rattle.hwdb_spec_commands.specs.declared.job.Job.{Job};
+ghost use Rattle.hwdb_spec_commands.specs.declared.args.UpdateArgs.{UpdateArgs};
 ghost use Rattle.hwdb_spec_commands.specs.declared.job.Task.TheVariants.{Update};
 ghost use Rattle.hwdb_spec_program.specs.Program.{IsUpdate, OldOrAskedFor, OldOrDone, looks_below_root, reads_input, root_of};
-ghost use Rattle.hwdb_spec_program.specs.ProgramPlan.{OldOrAsked, RunsPlan, ShowsPlan, files_plan, program_plan, update_of};
+ghost use Rattle.hwdb_spec_program.specs.ProgramPlan.{OldOrAsked, RunsPlan, ShowsPlan, program_plan, update_of};
 ghost use Rattle.hwdb_spec_program.specs.TaskRefusals.{AreFaulty, AreRefused, AreTold, IsRootUnread, IsSaid, refused_status};
 ghost use Rattle.hwdb_spec_commands.specs.Refusals.{HasReason};
 ghost use Rattle.hwdb_spec_commands.specs.declared.refusals.Refusal.TheVariants.{Plain};
 ghost use Rattle.hwdb_tool.specs.Updating.{UpdatesAsAsked};
+ghost use Rattle.hwdb_tool.specs.Verbs.{ShowsAsked};
 
-use crate::answers::{ask_file, explain, list};
-use crate::check_command::check_as_asked;
-use crate::device_command::device_form;
-use crate::diff_command::diff;
-use crate::dump_command::dump;
-use crate::hiding::update_telling;
-use crate::keys_command::keys;
-use crate::near_command::near;
+use crate::hiding::update_asked;
 use crate::outlet::Outlet;
 use crate::over_text::{asks_text, run_over_text};
-use crate::printing::printed;
-use crate::query_command::query;
-use crate::reported::{Wanted, devices_from};
-use crate::scan_command::scan;
-use crate::status_command::status;
-use crate::test_command::test;
-use crate::verify_command::verify;
+use crate::status_command::Fresh;
+use crate::verb::{StreamVerb, print_answer};
 use hwdb_answers::ToolError;
-use hwdb_check::format_asked;
 use hwdb_cli::{Job, Task, WordsFault, read_words};
 use hwdb_io::{Sink, Source, write_text};
 use hwdb_system::{Machine, Refusal, Rooted, refuse_for, refuse_memory};
@@ -137,11 +126,13 @@ fn looks_below_root(task: &Task) -> bool
     ensures { result ≡ looks_below_root task.now }
 {
     match task {
-        Task::Ask { .. } | Task::Diff { .. } | Task::Keys { .. } => false,
-        Task::Scan { device, .. } => device.as_str() != "-",
-        Task::Check { files, .. } | Task::Near { files, .. } => files.is_empty(),
-        Task::Verify { database } | Task::Dump { database } => database.is_none(),
-        Task::Test { database, .. } => database.is_none(),
+        Task::Ask(_) | Task::Diff(_) | Task::Keys(_) => false,
+        Task::Scan(args) => args.device.as_str() != "-",
+        Task::Check(args) => args.files.is_empty(),
+        Task::Near(args) => args.files.is_empty(),
+        Task::Verify(args) => args.database.is_none(),
+        Task::Dump(args) => args.database.is_none(),
+        Task::Test(args) => args.database.is_none(),
         _ => true,
     }
 }
@@ -186,7 +177,7 @@ fn refused_status(task: &Task) -> u8
     ensures some { 0 < result }
 {
     match task {
-        Task::Diff { .. } | Task::Check { .. } => 2,
+        Task::Diff(_) | Task::Check(_) => 2,
         _ => 1,
     }
 }
@@ -211,11 +202,11 @@ fn run_job<D: Machine, I: Source, O: Sink, E: Sink>(
         D.Store.failures in D.Store.tells → UpdatesAsAsked job.now (D.System.reads system.old)
         (files system.old) (files system.new) (told_by E.taken E.failures err.old)
         (told_by E.taken E.failures err.new) result }
-    ensures any_crash { D.Store.tells → (verbose skip : Bool)
-        → job.now.task ≡ Update verbose skip → (causes : List (List ℕ))
+    ensures any_crash { D.Store.tells → (u : UpdateArgs) → job.now.task ≡ Update u
+        → (causes : List (List ℕ))
         × spec.LeavesOnly D.Store.moment D.Store.left_since system.old system.new
-        (OldOrPut (D.System.reads system.old)
-        (update_plan (root_of job.now) job.now.usr job.now.strict verbose skip causes)
+        (OldOrPut (D.System.reads system.old) (update_plan (root_of job.now) job.now.usr
+        job.now.strict u.verbose u.skip_unreadable causes)
         (D.Store.seen system.old) (D.Store.may_leave system.old)) }
     ensures any_moment { D.Store.tells
         → spec.LeavesOnly D.Store.moment D.Store.left_since system.old system.new
@@ -246,8 +237,7 @@ pub fn run<D: Machine, I: Source, O: Sink, E: Sink>(
     err: &mut E,
 ) -> Result<u8, Refusal>
     ensures status { IfOk result (λ status. status ≤ 1) }
-    ensures follows { D.Store.tells → (words : List (List ℕ)) → AskFor words job.now
-        → ShowsPlan (λ a. files_plan a words) (D.System.reads system.old)
+    ensures follows { D.Store.tells → ShowsAsked job.now (D.System.reads system.old)
         (sight_by D.answers system.old)
         (told_by I.left I.failures input.old) (told_by I.left I.failures input.new)
         (outs (told_by E.taken E.failures err.old) (told_by O.taken O.failures out.old))
@@ -256,11 +246,11 @@ pub fn run<D: Machine, I: Source, O: Sink, E: Sink>(
         D.Store.failures in D.Store.tells → UpdatesAsAsked job.now (D.System.reads system.old)
         (files system.old) (files system.new) (told_by E.taken E.failures err.old)
         (told_by E.taken E.failures err.new) result }
-    ensures any_crash { D.Store.tells → (verbose skip : Bool)
-        → job.now.task ≡ Update verbose skip → (causes : List (List ℕ))
+    ensures any_crash { D.Store.tells → (u : UpdateArgs) → job.now.task ≡ Update u
+        → (causes : List (List ℕ))
         × spec.LeavesOnly D.Store.moment D.Store.left_since system.old system.new
-        (OldOrPut (D.System.reads system.old)
-        (update_plan (root_of job.now) job.now.usr job.now.strict verbose skip causes)
+        (OldOrPut (D.System.reads system.old) (update_plan (root_of job.now) job.now.usr
+        job.now.strict u.verbose u.skip_unreadable causes)
         (D.Store.seen system.old) (D.Store.may_leave system.old)) }
     ensures any_moment { D.Store.tells
         → spec.LeavesOnly D.Store.moment D.Store.left_since system.old system.new
@@ -275,147 +265,22 @@ pub fn run<D: Machine, I: Source, O: Sink, E: Sink>(
     ensures err_hands_on { HandsOn (E.is_flushed err.old) (E.is_flushed err.new)
         (E.failures err.old) (E.failures err.new) }
 {
-    let root = root_of(job);
     match &job.task {
-        Task::Update {
-            verbose,
-            skip_unreadable,
-        } => {
-            update_telling(
-                alloc,
-                root,
-                job.usr,
-                job.strict,
-                *verbose,
-                *skip_unreadable,
-                system,
-                err,
-            )
-        }
-        Task::Query { devices, json } => {
-            query(
-                alloc, root, devices, *json, job.reload, system, input, out, err,
-            )
-        }
-        Task::Explain { device, json } => {
-            explain(alloc, root, device.as_str(), *json, system, input, out, err)
-        }
-        Task::List {
-            after,
-            limit,
-            device,
-            json,
-        } => {
-            let after = text_of(after);
-            let device = device.as_bytes();
-            list(alloc, root, device, after, *limit, *json, system, out)
-        }
-        Task::Ask { file, device } => {
-            let answer = ask_file(alloc, file.as_str(), device.as_bytes(), system, input);
-            printed(answer, out, err)
-        }
-        Task::Check {
-            files,
-            allowed,
-            json,
-            format,
-            diff,
-            name,
-            baseline,
-        } => {
-            let form = format_asked(*diff, *json, format);
-            let name = text_of(name);
-            let known = text_of(baseline);
-            let strict = job.strict;
-            let answer = check_as_asked(
-                alloc, root, files, name, known, form, allowed, strict, system, input,
-            );
-            printed(answer, out, err)
-        }
-        Task::Near {
-            files,
-            device,
-            limit,
-            json,
-        } => {
-            let device = device.as_bytes();
-            let answer = near(alloc, root, files, device, *limit, *json, system, input);
-            printed(answer, out, err)
-        }
-        Task::Test {
-            files,
-            database,
-            json,
-        } => {
-            let database = text_of(database);
-            let answer = test(alloc, root, files, database, *json, system, input);
-            printed(answer, out, err)
-        }
-        Task::Device {
-            path,
-            strings,
-            json,
-            pattern,
-            all,
-            from,
-        } => {
-            let form = device_form(*strings, *json, *pattern);
-            let given = text_of(path);
-            let wanted = Wanted {
-                root,
-                given,
-                form,
-                all: *all,
-            };
-            let named = text_of(from);
-            let answer = devices_from(alloc, named, wanted, system, input);
-            printed(answer, out, err)
-        }
-        Task::Diff {
-            old,
-            new,
-            devices,
-            json,
-            stat,
-        } => {
-            let (old, new) = (old.as_str(), new.as_str());
-            let answer = diff(alloc, old, new, devices, *stat, *json, system, input);
-            printed(answer, out, err)
-        }
-        Task::Status { json, quiet } => {
-            printed(status(alloc, root, *json, *quiet, system), out, err)
-        }
-        Task::Keys { words, json } => printed(keys(alloc, words, *json), out, err),
-        Task::Scan { device, count } => scan(alloc, root, device.as_str(), *count, input, out),
-        Task::Verify { database } => {
-            let given = text_of(database);
-            let answer = verify(alloc, root, given, system, input);
-            printed(answer, out, err)
-        }
-        Task::Dump { database } => {
-            let given = text_of(database);
-            let answer = dump(alloc, root, given, system, input);
-            printed(answer, out, err)
-        }
-    }
-}
-
-/// What is in front of the paths of folders and databases.
-pub fn root_of(job: &Job) -> &str
-    ensures { result.now ≡ root_of job.now }
-{
-    match &job.root {
-        Some(root) => root.as_str(),
-        None => "",
-    }
-}
-
-/// The text of an option, if it was given.
-fn text_of(option: &Option<String>) -> Option<&str>
-    ensures { option_map (λ t. t.now) result ≡ option_map string_bytes option.now }
-{
-    match option {
-        Some(text) => Some(text.as_str()),
-        None => None,
+        Task::Update(args) => update_asked(alloc, job, args, system, err),
+        Task::Query(args) => args.run(alloc, job, system, input, out, err),
+        Task::Explain(args) => args.run(alloc, job, system, input, out, err),
+        Task::List(args) => args.run(alloc, job, system, input, out, err),
+        Task::Scan(args) => args.run(alloc, job, system, input, out, err),
+        Task::Ask(args) => print_answer(alloc, job, args, system, input, out, err),
+        Task::Check(args) => print_answer(alloc, job, args, system, input, out, err),
+        Task::Near(args) => print_answer(alloc, job, args, system, input, out, err),
+        Task::Test(args) => print_answer(alloc, job, args, system, input, out, err),
+        Task::Device(args) => print_answer(alloc, job, args, system, input, out, err),
+        Task::Diff(args) => print_answer(alloc, job, args, system, input, out, err),
+        Task::Status(args) => print_answer(alloc, job, args, system, input, out, err),
+        Task::Fresh => print_answer(alloc, job, &Fresh, system, input, out, err),
+        Task::Keys(args) => print_answer(alloc, job, args, system, input, out, err),
+        Task::Verify(args) => print_answer(alloc, job, args, system, input, out, err),
+        Task::Dump(args) => print_answer(alloc, job, args, system, input, out, err),
     }
 }

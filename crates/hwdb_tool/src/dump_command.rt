@@ -11,17 +11,20 @@ ghost use Rattle.hwdb_plan.specs.Input.{OverInput, OverNamed};
 ghost use Rattle.hwdb_plan.specs.Plans.{Follows};
 ghost use Rattle.hwdb_spec_commands.specs.Asked.{unsayable_text};
 ghost use Rattle.hwdb_spec.specs.declared.errors.DumpError.{DumpError};
+ghost use Rattle.hwdb_spec_commands.specs.declared.job.Task.TheVariants.{Dump};
 
 use crate::answer::Answer;
 use crate::databases::named;
 use crate::given::{INPUT, names_input, read_input};
+use crate::verb::{Verb, root_of, text_of};
 use hwdb_answers::ToolError;
 use hwdb_check::push_shown;
+use hwdb_cli::{DumpArgs, Job};
 use hwdb_databases::DumpError;
 use hwdb_io::Source;
 use hwdb_reader::law_one_tree;
 use hwdb_show::push_name;
-use hwdb_system::{Refusal, System};
+use hwdb_system::{Machine, Refusal, System};
 use std::alloc::{AllocError, Global};
 
 /// The database at the path, or if none is given the one that is asked, as a text file. `-` is what `input` has left. Errors are bytes
@@ -121,4 +124,18 @@ fn unsayable(alloc: Global, path: &[u8], pattern: &[u8]) -> Result<Vec<u8>, Allo
     text.extend_from_slice(b": no text file can say an assignment of the pattern ")?;
     push_shown(&mut text, pattern)?;
     Ok(text)
+}
+
+impl<D: Machine, I: Source> Verb<D, I> for DumpArgs {
+    ghost task = { λ args. Dump args };
+
+    fn answer(
+        &self,
+        alloc: Global,
+        job: &Job,
+        system: &D,
+        input: &mut I,
+    ) -> Result<Answer, Refusal> {
+        dump(alloc, root_of(job), text_of(&self.database), system, input)
+    }
 }

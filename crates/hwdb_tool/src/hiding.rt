@@ -1,7 +1,7 @@
 //! What `update --usr --verbose` says before it updates, if /etc's database, which is asked first, hides the new one.
 ghost use Rattle.std.specs.Prelude.{◌≡◌, ◌≤◌, ◌++◌, [], ℕ, List, IfOk, OnOk, string_bytes};
 ghost use Rattle.hwdb_spec.specs.Flushing.{HandsOn};
-ghost use Rattle.hwdb_spec_commands.specs.Runs.{files_by, told_by};
+ghost use Rattle.hwdb_spec_commands.specs.Runs.{Told, files_by, told_by};
 ghost use Rattle.hwdb_spec_program.specs.Hiding.{hiding_line, hiding_text};
 ghost use Rattle.hwdb_spec.specs.Store as spec;
 ghost use Rattle.hwdb_spec_program.specs.HidingPlan.{UpdatesTelling, hiding_plan};
@@ -13,14 +13,23 @@ ghost use Rattle.hwdb_tool.specs.Emptying.{SaysOnly};
 ghost use Rattle.hwdb_spec_commands.specs.Done.{OldOrUpdatedLess};
 ghost use Rattle.hwdb_spec_commands.specs.Asked.{database_path};
 ghost use Rattle.hwdb_spec.specs.Visible.{shown_name};
+ghost use Rattle.hwdb_plan.specs.Ended.{outs};
+ghost use Rattle.hwdb_spec_commands.specs.SysfsAnswers.{sight_by};
+ghost use Rattle.hwdb_spec_commands.specs.declared.args.UpdateArgs.{UpdateArgs};
+ghost use Rattle.hwdb_spec_commands.specs.declared.job.Task.TheVariants.{Update};
+ghost use Rattle.hwdb_spec_program.specs.Program.{OldOrDone, root_of};
+ghost use Rattle.hwdb_tool.specs.Updating.{UpdatesAsAsked};
+ghost use Rattle.hwdb_tool.specs.Verbs.{ShowsAsked};
 
 use crate::databases::database_folder;
 use crate::printing::say;
 use crate::update_command::update;
+use crate::verb::root_of;
+use hwdb_cli::{Job, UpdateArgs};
 use hwdb_io::Sink;
 use hwdb_replace::DATABASE;
 use hwdb_show::push_name;
-use hwdb_system::{Refusal, System, path_in};
+use hwdb_system::{Machine, Refusal, System, path_in};
 use std::alloc::{AllocError, Global};
 
 /// The path of the database of a folder below the root.
@@ -127,4 +136,48 @@ pub fn update_telling<D: System, E: Sink>(
 {
     tell_hiding(alloc, root, usr, verbose, system, err)?;
     update(alloc, root, usr, strict, verbose, skip, system, err)
+}
+
+/// `update`, as its words ask for it: says what hides the new database, and then updates. It has no plan that ends in what it shows.
+pub(crate) fn update_asked<D: Machine, E: Sink>(
+    alloc: Global,
+    job: &Job,
+    args: &UpdateArgs,
+    system: &mut D,
+    err: &mut E,
+) -> Result<u8, Refusal>
+    requires { job.now.task ≡ Update args.now }
+    ensures status { IfOk result (λ status. status ≤ 1) }
+    ensures follows { D.Store.tells → (input out : Told) → ShowsAsked job.now
+        (D.System.reads system.old) (sight_by D.answers system.old) input input
+        (outs (told_by E.taken E.failures err.old) out)
+        (outs (told_by E.taken E.failures err.new) out) result }
+    ensures updates { let files = files_by D.Store.seen D.System.may_fail D.Store.may_leave
+        D.Store.failures in D.Store.tells → UpdatesAsAsked job.now (D.System.reads system.old)
+        (files system.old) (files system.new) (told_by E.taken E.failures err.old)
+        (told_by E.taken E.failures err.new) result }
+    ensures any_crash { D.Store.tells → (u : UpdateArgs) → job.now.task ≡ Update u
+        → (causes : List (List ℕ))
+        × spec.LeavesOnly D.Store.moment D.Store.left_since system.old system.new
+        (OldOrPut (D.System.reads system.old) (update_plan (root_of job.now) job.now.usr
+        job.now.strict u.verbose u.skip_unreadable causes)
+        (D.Store.seen system.old) (D.Store.may_leave system.old)) }
+    ensures any_moment { D.Store.tells
+        → spec.LeavesOnly D.Store.moment D.Store.left_since system.old system.new
+        (OldOrDone (D.System.may_fail system.old) job.now
+        (D.Store.seen system.old) (D.Store.may_leave system.old)) }
+    ensures hands_on { HandsOn (E.is_flushed err.old) (E.is_flushed err.new)
+        (E.failures err.old) (E.failures err.new) }
+{
+    let (root, skip) = (root_of(job), args.skip_unreadable);
+    update_telling(
+        alloc,
+        root,
+        job.usr,
+        job.strict,
+        args.verbose,
+        skip,
+        system,
+        err,
+    )
 }

@@ -3,7 +3,7 @@
 //! | Module | What it does |
 //! |---|---|
 //! | `dispatch` | the program: which task its words ask for, its status and its error lines |
-//! | `answer` | what a command prints, and its status |
+//! | `verb` | what each command does by the words after its name; `answer`: what it prints, and its status |
 //! | `printing` | the one place where that is printed |
 //! | `outlet` | where standard output goes to: a sink whose reader may go away |
 //! | `coloured` | one that shows what it takes in colour, and as a terminal is shown it |
@@ -72,6 +72,7 @@ mod sides;
 mod status_command;
 mod test_command;
 mod update_command;
+mod verb;
 mod verdicts;
 mod verify_command;
 
@@ -82,7 +83,7 @@ pub use coloured::{Coloured, kind_of, terminals_get_no_control, write_shown};
 pub use crash::{crash_then_query, kill_then_query};
 pub use device_command::{device, device_form};
 pub use diff_command::diff;
-pub use dispatch::{program, root_of};
+pub use dispatch::program;
 pub use dump_command::dump;
 pub use every_device::devices;
 pub use failures::{counts_tell_failures, faultless_words_begin, faulty_update_leaves_all};
@@ -103,4 +104,5 @@ pub use over_text::text_shows_over;
 pub use query_command::query;
 pub use status_command::status;
 pub use test_command::test;
+pub use verb::root_of;
 pub use verify_command::verify;

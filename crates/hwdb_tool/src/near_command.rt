@@ -13,14 +13,17 @@ ghost use Rattle.hwdb_plan.specs.Plans.{Follows};
 ghost use Rattle.hwdb_plan.specs.Plans.End.{Answers};
 ghost use Rattle.hwdb_plan.specs.Plans.Plan.{Done};
 ghost use Rattle.hwdb_tool.specs.Views.{end_of};
+ghost use Rattle.hwdb_spec_commands.specs.declared.job.Task.TheVariants.{Near};
 
 use crate::answer::Answer;
 use crate::check_command::{given_texts, with_paths};
 use crate::databases::{asked, refused_database};
+use crate::verb::{Verb, root_of};
 use hwdb_answers::ToolError;
+use hwdb_cli::{Job, NearArgs};
 use hwdb_io::Source;
 use hwdb_near::{NearError, PatternFile, near_in_database, near_in_files};
-use hwdb_system::{Refusal, System};
+use hwdb_system::{Machine, Refusal, System};
 use std::alloc::{AllocError, Global};
 
 /// How many of the nearest patterns are told, unless a number is given.
@@ -137,4 +140,29 @@ fn compared<'a>(
         })?;
     }
     Ok(list)
+}
+
+impl<D: Machine, I: Source> Verb<D, I> for NearArgs {
+    ghost task = { λ args. Near args };
+
+    fn answer(
+        &self,
+        alloc: Global,
+        job: &Job,
+        system: &D,
+        input: &mut I,
+    ) -> Result<Answer, Refusal> {
+        let device = self.device.as_bytes();
+        let (root, limit) = (root_of(job), self.limit);
+        near(
+            alloc,
+            root,
+            &self.files,
+            device,
+            limit,
+            self.json,
+            system,
+            input,
+        )
+    }
 }

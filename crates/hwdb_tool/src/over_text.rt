@@ -1,11 +1,11 @@
 //! `--text`: a task over the text files of both folders, as an update would compile them now. Nothing is written.
-ghost use Rattle.std.specs.Prelude.{◌≡◌, ◌≤◌, ℕ, List, false, length, option_map, true, IfOk, OnOk};
+ghost use Rattle.std.specs.Prelude.{◌≡◌, ◌≤◌, ℕ, List, false, length, true, IfOk, OnOk};
 ghost use Rattle.hwdb_plan.specs.Ended.{outs};
 ghost use Rattle.hwdb_plan.specs.OverText.{basis, basis_now};
 ghost use Rattle.hwdb_plan.specs.Plans.{ReachesValue};
 ghost use Rattle.hwdb_spec.specs.Flushing.{HandsOn};
 ghost use Rattle.hwdb_spec.specs.Folders.{Source};
-ghost use Rattle.hwdb_spec_commands.specs.OverText.{misuse_text, takes_text, text_besides};
+ghost use Rattle.hwdb_spec_commands.specs.OverText.{text_besides};
 ghost use Rattle.hwdb_spec.specs.Texts.{max_file};
 ghost use Rattle.hwdb_spec_program.specs.Program.{asks_text, reads_input, root_of};
 ghost use Rattle.hwdb_spec_program.specs.ProgramPlan.{ShowsPlan, program_plan};
@@ -17,64 +17,24 @@ ghost use Rattle.hwdb_spec_program.specs.Words.{AskFor};
 ghost use Rattle.hwdb_tool.specs.TextPlans.{TextShowsOver, besides_for, plan_over};
 
 use crate::besides::text_besides;
-use crate::dispatch::{root_of, run};
+use crate::dispatch::run;
 use crate::printing::say;
 use crate::status_command::compiled;
+use crate::verb::root_of;
 use hwdb_cli::{Job, Task};
 use hwdb_io::{Sink, Source};
 use hwdb_plan::{only_asked_matters, over_is_no_more, over_is_over};
 use hwdb_system::{Machine, Overlay, Refusal, System, selected, with_texts};
 use std::alloc::Global;
 
-/// Whether the task's command takes `--text`: whether it asks a database.
-fn takes_text(task: &Task) -> bool
-    ensures { result ≡ takes_text task.now }
-{
-    matches!(
-        task,
-        Task::Query { .. }
-            | Task::Explain { .. }
-            | Task::List { .. }
-            | Task::Near { .. }
-            | Task::Device { .. }
-            | Task::Test { .. }
-            | Task::Verify { .. }
-            | Task::Dump { .. }
-    )
-}
-
-/// Whether the job answers from the text files.
+/// Whether the job answers from the text files: an update never does.
 pub fn asks_text(job: &Job) -> bool
     ensures { result ≡ asks_text job.now }
 {
-    job.text && takes_text(&job.task)
+    job.text && !matches!(job.task, Task::Update(_))
 }
 
-/// What is said of other words that don't fit `--text`: they name what is asked, or no database is.
-fn misuse_text(task: &Task) -> Option<&'static str>
-    ensures { option_map (λ t. t.now) result ≡ misuse_text task.now }
-{
-    match task {
-        Task::Near { files, .. } if !files.is_empty() => {
-            Some("--text and FILE are two sources: leave out one of them")
-        }
-        Task::Device {
-            path: None,
-            all: false,
-            ..
-        } => Some("--text needs DEVICE or --all: a list of devices asks no database"),
-        Task::Test {
-            database: Some(_),
-            ..
-        } => Some("--text and --database are two sources: leave out one of them"),
-        Task::Verify { database: Some(_) } | Task::Dump { database: Some(_) } => {
-            Some("--text and DATABASE are two sources: leave out one of them")
-        }
-        _ => None,
-    }
-}
-
-/// The error of such words.
+/// The error of words that don't fit `--text`, of which this is said.
 pub(crate) fn misused(alloc: Global, text: &str) -> Refusal
     ensures { IsInWords text.now result }
 {
@@ -179,7 +139,7 @@ pub fn run_over_text<D: Machine, I: Source, O: Sink, E: Sink>(
         (E.failures err.old) (E.failures err.new) }
 {
     over_is_no_more();
-    if let Some(text) = misuse_text(&job.task) {
+    if let Some(text) = job.misfit {
         return Err(misused(alloc, text));
     }
     let root = root_of(job);

@@ -7,15 +7,18 @@ ghost use Rattle.hwdb_plan.specs.Answers.{answer_plan, query_plan};
 ghost use Rattle.hwdb_plan.specs.Ended.{ShowsEnd, outs};
 ghost use Rattle.hwdb_plan.specs.Plans.{Follows};
 ghost use Rattle.hwdb_tool.specs.Views.{end_of};
+ghost use Rattle.hwdb_spec_commands.specs.declared.job.Task.TheVariants.{Query};
 
 use crate::answer::Answer;
 use crate::databases::{asked, refused_database};
 use crate::in_parts::answer_in_parts;
 use crate::input_devices::answer_input;
 use crate::printing::printed;
+use crate::verb::{StreamVerb, root_of};
 use hwdb_answers::{Form, answers};
+use hwdb_cli::{Job, QueryArgs};
 use hwdb_io::{Sink, Source};
-use hwdb_system::{Refusal, System};
+use hwdb_system::{Machine, Refusal, System};
 use std::alloc::Global;
 
 /// Prints the properties that the database below the root gives each device. If the only device is `-`, `input` names the
@@ -104,5 +107,24 @@ fn query_whole<D: System>(
     match answers(alloc, &found.bytes, devices, Form::Query { json }) {
         Ok(text) => Ok(Answer::new(alloc, text, 0)),
         Err(error) => Err(refused_database(alloc, error, found.path.as_bytes())),
+    }
+}
+
+impl<D: Machine, I: Source, O: Sink, E: Sink> StreamVerb<D, I, O, E> for QueryArgs {
+    ghost task = { λ args. Query args };
+
+    fn run(
+        &self,
+        alloc: Global,
+        job: &Job,
+        system: &D,
+        input: &mut I,
+        out: &mut O,
+        err: &mut E,
+    ) -> Result<u8, Refusal> {
+        let (root, devices, json) = (root_of(job), &self.devices, self.json);
+        query(
+            alloc, root, devices, json, job.reload, system, input, out, err,
+        )
     }
 }

@@ -1,5 +1,5 @@
 //! `device --from`: an export of udev's database in place of sysfs. Nothing is written.
-ghost use Rattle.std.specs.Prelude.{◌≡◌, ◌++◌, [], List, Some, ℕ, codes, false, if◌then◌else◌, map, option_map, IfErr, IfOk};
+ghost use Rattle.std.specs.Prelude.{◌≡◌, ◌++◌, [], List, Some, ℕ, codes, false, if◌then◌else◌, option_map, IfErr, IfOk};
 ghost use Rattle.hwdb_plan.specs.Asking.{asked};
 ghost use Rattle.hwdb_plan.specs.Device.{all_misuse};
 ghost use Rattle.hwdb_plan.specs.Files.{OfInput};
@@ -20,14 +20,17 @@ ghost use Rattle.hwdb_sysfs.specs.Finding.{IsUnfound};
 ghost use Rattle.hwdb_exports.specs.Reports.{bytes_of};
 ghost use Rattle.hwdb_tool.specs.Reported.{FollowsFrom, IsUnfoundIn, given_in, report_of};
 ghost use Rattle.hwdb_tool.specs.Views.{end_of};
+ghost use Rattle.hwdb_spec_commands.specs.declared.job.Task.TheVariants.{Device};
 
 use crate::answer::Answer;
 use crate::databases::{asked, refused_database};
-use crate::device_command::{list_text, text_over};
+use crate::device_command::{device_form, list_text, text_over};
 use crate::every_device::{all_misuse, devices, strings_over};
 use crate::given::{INPUT, is_dash, read};
 use crate::missing::{no_device, places_else, several};
 use crate::over_text::misused;
+use crate::verb::{Verb, root_of, text_of};
+use hwdb_cli::{DeviceArgs, Job};
 use hwdb_device::{DeviceForm, unread_lines};
 use hwdb_exports::{Export, is_export};
 use hwdb_io::Source;
@@ -340,4 +343,24 @@ fn told_besides(alloc: Global, report: &Report<'_>) -> Result<Vec<u8>, AllocErro
     let unread = unread_lines(alloc, &report.export, SYS)?;
     told.extend_from_slice(&unread)?;
     Ok(told)
+}
+
+impl<D: Machine, I: Source> Verb<D, I> for DeviceArgs {
+    ghost task = { λ args. Device args };
+
+    fn answer(
+        &self,
+        alloc: Global,
+        job: &Job,
+        system: &D,
+        input: &mut I,
+    ) -> Result<Answer, Refusal> {
+        let wanted = Wanted {
+            root: root_of(job),
+            given: text_of(&self.path),
+            form: device_form(self.strings, self.json, self.pattern),
+            all: self.all,
+        };
+        devices_from(alloc, text_of(&self.from), wanted, system, input)
+    }
 }

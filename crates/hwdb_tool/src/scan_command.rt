@@ -7,11 +7,14 @@ ghost use Rattle.hwdb_spec_commands.specs.Told.{Reads};
 ghost use Rattle.hwdb_plan.specs.Ended.{IsUnscanned, ShowsEnd, outs};
 ghost use Rattle.hwdb_plan.specs.Scan.{scan_plan};
 ghost use Rattle.hwdb_tool.specs.Scanned.{IsUnscannedFor};
+ghost use Rattle.hwdb_spec_commands.specs.declared.job.Task.TheVariants.{Scan};
 
+use crate::verb::{StreamVerb, root_of};
 use hwdb_answers::ToolError;
+use hwdb_cli::{Job, ScanArgs};
 use hwdb_io::{Cause, Sink, Source};
 use hwdb_scan::{run_scan, scanned_path, unscanned_text};
-use hwdb_system::Refusal;
+use hwdb_system::{Machine, Refusal};
 use std::alloc::{AllocError, Global};
 
 /// Prints a line for each key that the events of `input` tell, as soon as they are read: of all keys, or of as many as are asked for. Errors
@@ -89,4 +92,21 @@ fn words_of(
 {
     let path = scanned_path(alloc, root, device)?;
     unscanned_text(alloc, name_of(&path), cause)
+}
+
+impl<D: Machine, I: Source, O: Sink, E: Sink> StreamVerb<D, I, O, E> for ScanArgs {
+    ghost task = { λ args. Scan args };
+
+    fn run(
+        &self,
+        alloc: Global,
+        job: &Job,
+        _system: &D,
+        input: &mut I,
+        out: &mut O,
+        _err: &mut E,
+    ) -> Result<u8, Refusal> {
+        let (root, device) = (root_of(job), self.device.as_str());
+        scan(alloc, root, device, self.count, input, out)
+    }
 }

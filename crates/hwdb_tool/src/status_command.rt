@@ -25,6 +25,7 @@ ghost use Rattle.hwdb_plan.specs.Status.{databases_of, ignored_below, in_places,
 ghost use Rattle.hwdb_tool.specs.Statuses.{AreMadeOf, IsNow, ignored_path, now_with, places};
 ghost use Rattle.hwdb_tool.specs.Views.{end_of};
 ghost use Rattle.hwdb_spec.specs.declared.errors.ToolError.{ToolError};
+ghost use Rattle.hwdb_spec_commands.specs.declared.job.Task.TheVariants as Task;
 ghost use Rattle.hwdb_spec_commands.specs.declared.refusals.Refusal.TheVariants.{Plain};
 
 use crate::answer::Answer;
@@ -32,14 +33,16 @@ use crate::commands::{removing_words, update_words};
 use crate::databases::{ETC_FOLDER, USR_FOLDER, found_in};
 use crate::hiding::database_path;
 use crate::progress::masks;
+use crate::verb::{Verb, root_of};
 use hwdb_answers::ToolError;
+use hwdb_cli::{Job, StatusArgs};
 use hwdb_compile::{Compiled, compile_chosen};
 use hwdb_databases::{
     Amount, Report, Standing, State, amount_of, in_order, is_well, report_in, standing_of,
 };
-use hwdb_io::MAX_BYTES;
+use hwdb_io::{MAX_BYTES, Source};
 use hwdb_reader::law_one_tree;
-use hwdb_system::{Refusal, System, TextFolders, name_set, selected, with_texts};
+use hwdb_system::{Machine, Refusal, System, TextFolders, name_set, selected, with_texts};
 use hwdb_text::{Chosen, ChosenFile};
 use std::alloc::{AllocError, Global};
 use std::collections::BTreeSet;
@@ -555,4 +558,35 @@ pub fn status<D: TextFolders>(
         unread,
     } = made_now(alloc, root, system)?;
     reported(alloc, root, json, quiet, &database, bare, unread, system)
+}
+
+impl<D: Machine, I: Source> Verb<D, I> for StatusArgs {
+    ghost task = { λ args. Task.Status args };
+
+    fn answer(
+        &self,
+        alloc: Global,
+        job: &Job,
+        system: &D,
+        _input: &mut I,
+    ) -> Result<Answer, Refusal> {
+        status(alloc, root_of(job), self.json, false, system)
+    }
+}
+
+/// The words of `update --check`.
+pub(crate) struct Fresh;
+
+impl<D: Machine, I: Source> Verb<D, I> for Fresh {
+    ghost task = { λ _. Task.Fresh };
+
+    fn answer(
+        &self,
+        alloc: Global,
+        job: &Job,
+        system: &D,
+        _input: &mut I,
+    ) -> Result<Answer, Refusal> {
+        status(alloc, root_of(job), false, true, system)
+    }
 }

@@ -12,15 +12,18 @@ ghost use Rattle.hwdb_plan.specs.Test.{test_plan, tested};
 ghost use Rattle.hwdb_spec.specs.Folders.{Source};
 ghost use Rattle.hwdb_spec.specs.Texts.{max_file};
 ghost use Rattle.hwdb_tool.specs.Views.{end_of, texts_in};
+ghost use Rattle.hwdb_spec_commands.specs.declared.job.Task.TheVariants.{Test};
 
 use crate::answer::Answer;
 use crate::check_command::{given_texts, with_paths};
 use crate::databases::{named, refused_database};
+use crate::verb::{Verb, root_of, text_of};
 use hwdb_answers::ToolError;
 use hwdb_check::TextFile;
+use hwdb_cli::{Job, TestArgs};
 use hwdb_io::Source;
 use hwdb_reader::check;
-use hwdb_system::{Refusal, System};
+use hwdb_system::{Machine, Refusal, System};
 use hwdb_test::test_files;
 use std::alloc::Global;
 
@@ -88,5 +91,21 @@ fn tried_over(
     match test_files(alloc, &db, json, files) {
         Ok(tested) => Ok(Answer::new(alloc, tested.text, tested.status)),
         Err(error) => Err(ToolError::from(error)),
+    }
+}
+
+impl<D: Machine, I: Source> Verb<D, I> for TestArgs {
+    ghost task = { λ args. Test args };
+
+    fn answer(
+        &self,
+        alloc: Global,
+        job: &Job,
+        system: &D,
+        input: &mut I,
+    ) -> Result<Answer, Refusal> {
+        let database = text_of(&self.database);
+        let (root, files) = (root_of(job), &self.files);
+        test(alloc, root, files, database, self.json, system, input)
     }
 }

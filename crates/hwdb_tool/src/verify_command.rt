@@ -11,16 +11,19 @@ ghost use Rattle.hwdb_plan.specs.Input.{OverInput, OverNamed};
 ghost use Rattle.hwdb_plan.specs.Verify.{summary, verify_plan, verify_stop};
 ghost use Rattle.hwdb_plan.specs.Plans.{Follows};
 ghost use Rattle.hwdb_spec.specs.declared.errors.VerifyError.{VerifyError};
+ghost use Rattle.hwdb_spec_commands.specs.declared.job.Task.TheVariants.{Verify};
 
 use crate::answer::Answer;
 use crate::databases::named;
 use crate::given::{INPUT, names_input, read_input};
+use crate::verb::{Verb, root_of, text_of};
 use crate::verdicts::verdict;
 use hwdb_answers::ToolError;
+use hwdb_cli::{Job, VerifyArgs};
 use hwdb_databases::VerifyError;
 use hwdb_io::Source;
 use hwdb_reader::DbFault;
-use hwdb_system::{Refusal, System};
+use hwdb_system::{Machine, Refusal, System};
 use std::alloc::Global;
 
 /// How much is in the database at the path, or if none is given in the one that is asked. `-` is what `input` has left. Bytes
@@ -104,5 +107,19 @@ fn refused_verdict(alloc: Global, fault: DbFault, path: &[u8]) -> Refusal
     match verdict(alloc, path, fault) {
         Ok(text) => Refusal::InWords(text),
         Err(refused) => Refusal::from(refused),
+    }
+}
+
+impl<D: Machine, I: Source> Verb<D, I> for VerifyArgs {
+    ghost task = { λ args. Verify args };
+
+    fn answer(
+        &self,
+        alloc: Global,
+        job: &Job,
+        system: &D,
+        input: &mut I,
+    ) -> Result<Answer, Refusal> {
+        verify(alloc, root_of(job), text_of(&self.database), system, input)
     }
 }

@@ -13,7 +13,7 @@ use Rattle.hwdb_spec_commands.specs.Comparisons.{comparison_form, devices_named,
 use Rattle.hwdb_spec_commands.specs.Databases.{IsDiffText, IsDifferent}
 use Rattle.hwdb_spec_commands.specs.DiffErrors.{IsDiffRefusal}
 use Rattle.hwdb_spec_commands.specs.Given.{any_dash, is_dash}
-use Rattle.hwdb_spec_commands.specs.OverText.{text_if}
+use Rattle.hwdb_spec_commands.specs.Jobs.{text_if}
 use Rattle.hwdb_spec_commands.specs.Told.{IsStop, Reads, stop_of}
 use Rattle.hwdb_spec_commands.specs.Told.Stop.{Says}
 use Rattle.hwdb_spec_commands.specs.declared.refusals.Refusal.{Refusal}

@@ -18,7 +18,7 @@ use Rattle.hwdb_system.specs.Selections.{texts_in}
 use Rattle.hwdb_tool.specs.TextPlans.{besides_for}
 use Rattle.hwdb_tool.specs.declared.over_text.Basis.{Basis}
 use Rattle.hwdb_tool.proofs.SidePlanLemmas.{are_taken, items, side_made}
-use Rattle.hwdb_tool.proofs.TextProgramLemmas.{said_is}
+use Rattle.hwdb_tool.proofs.ExplainText.{said_is}
 use Rattle.hwdb_tool.proofs.over_text.made.Goals as goal
 
 pub returns-clause-made : goal.returns-clause-made

@@ -1,9 +1,10 @@
-use Rattle.std.proofs.Common.{List, Ok, Err, [], ap, length, refl, subst, sym, ◌∙◌, ◌≢◌, ◌≤◌, ℕ}
+use Rattle.std.proofs.Common.{List, Ok, Err, [], ap, length, refl, subst, ◌∙◌, ◌≢◌, ◌≤◌, ℕ}
+use Rattle.std.specs.Prelude.{option_map}
 use Rattle.hwdb_spec_program.specs.Program.{root_of}
 use Rattle.hwdb_spec_commands.specs.Runs.{HasTaken, WasCut, told_by}
 use Rattle.hwdb_spec_commands.specs.SysfsAnswers.{sight_by}
 use Rattle.hwdb_tool.proofs.FlushLemmas.{hands_on_twice}
-use Rattle.hwdb_tool.proofs.OverTextLemmas.{no_misuse}
+use Rattle.hwdb_tool.proofs.OverTextLemmas.{no_misfit}
 use Rattle.hwdb_plan.specs.Ended.{outs}
 use Rattle.hwdb_plan.specs.OverText.{Basis, basis, basis_now}
 use Rattle.hwdb_plan.specs.Plans.{ReachesValue}
@@ -32,7 +33,7 @@ returns-in-Some-clause-follows g c = λ tells words asked.
     let E = told_by g.E.Sink.taken g.E.Sink.failures in
     let ib = I c.args.input.now in
     let before = outs (E c.args.err.now) (O c.args.out.now) in
-    misused_planned w sight ib ib before words job asked c.requires c.in-Some.text.now c.misused.result (sym c.in-Some.ensures) c.misused.ensures
+    misused_planned w sight ib ib before words job asked c.requires c.in-Some.text.now c.misused.result (ap (option_map (λ t. t.now)) c.in-Some.is) c.misused.ensures
 
 pub returns-in_err-made-clause-follows : goal.returns-in_err-made-clause-follows
 returns-in_err-made-clause-follows g c = λ tells words asked.
@@ -44,7 +45,7 @@ returns-in_err-made-clause-follows g c = λ tells words asked.
     let E = told_by g.E.Sink.taken g.E.Sink.failures in
     let ib = I c.args.input.now in
     let before = outs (E c.args.err.now) (O c.args.out.now) in
-    let fit = no_misuse c.misuse_text.result job.task c.in_default.not-Some c.misuse_text.ensures in
+    let fit = no_misfit job.misfit c.in_default.not-Some in
     let r = c.in_err-made.field-0.0 in
     let why = subst (λ root. ReachesValue basis_in w (basis_now root (besides_for job.task)) (Err r)) c.root_of-root.ensures (c.in_err-made.ensures.told tells) in
     unmade_planned w sight ib ib before words job asked c.requires r c.from_residual.result fit why c.from_residual.ensures.1
@@ -59,7 +60,7 @@ returns-in_err-status-clause-follows g c = λ tells words asked.
     let E = told_by g.E.Sink.taken g.E.Sink.failures in
     let ib = I c.args.input.now in
     let before = outs (E c.args.err.now) (O c.args.out.now) in
-    let fit = no_misuse c.misuse_text.result job.task c.in_default.not-Some c.misuse_text.ensures in
+    let fit = no_misfit job.misfit c.in_default.not-Some in
     let im = I c.run_over.new.input in
     let middle = outs (E c.run_over.new.err) (O c.run_over.new.out) in
     let m = c.in_ok-made.made in
@@ -82,7 +83,7 @@ returns-in_err-say-clause-follows g c = λ tells words asked.
     let E = told_by g.E.Sink.taken g.E.Sink.failures in
     let ib = I c.args.input.now in
     let before = outs (E c.args.err.now) (O c.args.out.now) in
-    let fit = no_misuse c.misuse_text.result job.task c.in_default.not-Some c.misuse_text.ensures in
+    let fit = no_misfit job.misfit c.in_default.not-Some in
     let im = I c.run_over.new.input in
     let middle = outs (E c.run_over.new.err) (O c.run_over.new.out) in
     let m = c.in_ok-made.made in
@@ -109,7 +110,7 @@ returns-clause-follows g c = λ tells words asked.
     let E = told_by g.E.Sink.taken g.E.Sink.failures in
     let ib = I c.args.input.now in
     let before = outs (E c.args.err.now) (O c.args.out.now) in
-    let fit = no_misuse c.misuse_text.result job.task c.in_default.not-Some c.misuse_text.ensures in
+    let fit = no_misfit job.misfit c.in_default.not-Some in
     let im = I c.run_over.new.input in
     let middle = outs (E c.run_over.new.err) (O c.run_over.new.out) in
     let m = c.in_ok-made.made in

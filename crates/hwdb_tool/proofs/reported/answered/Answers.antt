@@ -1,4 +1,4 @@
-use Rattle.std.proofs.Common.{◌≡◌, Err, List, Ok, ap, string_bytes, subst, sym, ◌∙◌, ℕ}
+use Rattle.std.proofs.Common.{◌≡◌, Err, List, Ok, string_bytes, subst, sym, ◌∙◌, ℕ}
 use Rattle.hwdb_spec.specs.Lines.{is, pieces}
 use Rattle.hwdb_spec_commands.specs.DatabaseErrors.{IsDatabaseRefusal}
 use Rattle.hwdb_spec_commands.specs.Databases.{IsTextOf}

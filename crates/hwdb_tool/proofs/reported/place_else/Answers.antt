@@ -1,4 +1,4 @@
-use Rattle.std.proofs.Common.{◌≡◌, ◌<◌, ◌≤◌, ◌∙◌, ◌++◌, ◌∷◌, ap, arith, inl, inr, length, map, refl, subst, sym, suc, List, Option, Some, Vec, Global, ℕ, []}
+use Rattle.std.proofs.Common.{◌≡◌, ◌<◌, ◌≤◌, ◌∙◌, ◌++◌, ◌∷◌, ap, arith, inl, inr, length, map, refl, subst, sym, suc, List, Some, Vec, Global, ℕ, []}
 use Rattle.hwdb_spec_commands.specs.DeviceFound.{only, places_meant, several_text}
 use Rattle.hwdb_spec_commands.specs.Exports.{export_sight}
 use Rattle.hwdb_spec_commands.specs.Refusals.{IsInWords}
