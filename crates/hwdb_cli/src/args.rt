@@ -1,5 +1,5 @@
 //! What the words ask for, by the exact matches that `clap` finds.
-ghost use Rattle.std.specs.Prelude.{◌≡◌, ◌≢◌, ◌⊎◌, ◌&&◌, IfErr, IfOk, None, [], false, is_some, map, option_map, string_bytes, true};
+ghost use Rattle.std.specs.Prelude.{◌≡◌, ◌≢◌, ◌⊎◌, ◌&&◌, IfErr, IfOk, None, [], codes, false, is_some, map, option_map, string_bytes, true};
 ghost use Rattle.std.specs.Option.{option_or, unwrap_or};
 ghost use Rattle.clap.specs.Walk.{first_of, rows_of};
 ghost use Rattle.clap.specs.Matches.{found_of};
@@ -64,6 +64,19 @@ fn text_taker(name: &str, inner: &ArgMatches<'_>) -> Option<Option<&'static str>
     }
 }
 
+/// Whether the text files are asked, and what is said of other words that don't fit that.
+fn text_asked(name: &str, inner: &ArgMatches<'_>) -> (bool, Option<&'static str>)
+    ensures text { result.0 ≡ (is_some (text_taker name.now (rows_of (found_of inner.now)))
+        && has_flag (codes "text") (rows_of (found_of inner.now))) }
+    ensures misfit { option_map (λ t. t.now) result.1
+        ≡ unwrap_or (text_taker name.now (rows_of (found_of inner.now))) None }
+{
+    match text_taker(name, inner) {
+        Some(misfit) => (has_flag(inner, "text"), misfit),
+        None => (false, None),
+    }
+}
+
 /// A text that may be given before and after the command: the one after it counts first.
 fn shared_text(
     alloc: Global,
@@ -97,9 +110,7 @@ fn job_of(
     let color = shared_text(alloc, top, inner, "color")?;
     let usr = has_flag(inner, "usr") || has_flag(top, "usr");
     let strict = has_flag(inner, "strict") || has_flag(top, "strict");
-    let taker = text_taker(name, inner);
-    let text = has_flag(inner, "text") && taker.is_some();
-    let misfit = taker.unwrap_or(None);
+    let (text, misfit) = text_asked(name, inner);
     let reload = has_flag(inner, "reload");
     Ok(Job {
         usr,

@@ -1,6 +1,7 @@
 //! What `clap` found of the words: the values of one command's options and arguments.
-ghost use Rattle.std.specs.Prelude.{◌≡◌, IfOk, map, option_map, string_bytes};
-ghost use Rattle.clap.specs.Walk.{first_of, rows_of};
+ghost use Rattle.std.specs.Option.{unwrap_or};
+ghost use Rattle.std.specs.Prelude.{◌≡◌, IfOk, [], length, map, option_map, string_bytes};
+ghost use Rattle.clap.specs.Walk.{all_of, first_of, rows_of};
 ghost use Rattle.clap.specs.Matches.{found_of};
 ghost use Rattle.hwdb_spec_commands.specs.Jobs.{AreAnyValues, AreValues, HasValue, IsValue, has_flag};
 
@@ -80,5 +81,15 @@ pub fn any_values_of(
     match matches.get_strs(id) {
         Some(texts) => copies(alloc, texts),
         None => Ok(Vec::new(alloc)),
+    }
+}
+
+/// How many values an argument has.
+pub fn value_count(matches: &ArgMatches<'_>, id: &str) -> usize
+    ensures { result ≡ length (unwrap_or (all_of id.now (rows_of (found_of matches.now))) []) }
+{
+    match matches.get_strs(id) {
+        Some(texts) => texts.len(),
+        None => 0,
     }
 }

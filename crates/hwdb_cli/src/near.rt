@@ -8,7 +8,7 @@ ghost use Rattle.hwdb_spec_commands.specs.CommandLine.{limit_rule, near_app};
 
 use crate::drafts::{Draft, json_option, needed_word, option, shared, text_option, with_argument};
 use crate::list::limit_of;
-use crate::matched::{has_flag, values_of};
+use crate::matched::{has_flag, value_count, values_of};
 use clap::builder::ValueParser;
 use clap::{Arg, ArgAction, ArgMatches};
 use hwdb_spec_commands::{NearArgs, Task};
@@ -72,10 +72,8 @@ pub fn task(alloc: Global, inner: &ArgMatches<'_>) -> Result<Task, AllocError>
 pub fn misfit(inner: &ArgMatches<'_>) -> Option<&'static str>
     ensures { option_map (λ t. t.now) result ≡ files_misfit (rows_of (found_of inner.now)) }
 {
-    match inner.get_strs("MODALIAS") {
-        Some(words) if words.len() > 1 => {
-            Some("--text and FILE are two sources: leave out one of them")
-        }
-        _ => None,
+    if value_count(inner, "MODALIAS") > 1 {
+        return Some("--text and FILE are two sources: leave out one of them");
     }
+    None
 }

@@ -106,7 +106,7 @@ pub record IsJob (top : List Row) (name : Text) (inner : List Row) (job : Job) :
   pub strict : job.strict ≡ (has_flag (codes "strict") inner || has_flag (codes "strict") top)
   pub root : option_map string_bytes job.root ≡ option_or (first_of (codes "root") inner) (first_of (codes "root") top)
   pub color : option_map string_bytes job.color ≡ option_or (first_of (codes "color") inner) (first_of (codes "color") top)
-  pub text : job.text ≡ (has_flag (codes "text") inner && is_some (text_taker name inner))
+  pub text : job.text ≡ (is_some (text_taker name inner) && has_flag (codes "text") inner)
   pub misfit : option_map (λ t. t.now) job.misfit ≡ unwrap_or (text_taker name inner) None
   pub reload : job.reload ≡ has_flag (codes "reload") inner
   pub task : IsTask name inner job.task

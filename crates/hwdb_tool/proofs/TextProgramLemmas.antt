@@ -73,9 +73,9 @@ module _ (words : List Text) (job : Job) (asked : AskFor words job) (p : Plan) w
       by top (Some f) is =
           let root = root_given top f.1 in
           let taker = text_taker f.0 f.1 in
-          let both : (has_flag (codes "text") f.1 && is_some taker) ≡ true = sym is.text ∙ has_both job.text (not (is_update job.task)) asks in
-          ap (λ (b : Bool). if b then over_texts root taker (said_by f.0 f.1) p else p) (has_both (has_flag (codes "text") f.1) (is_some taker) both)
-          ∙ over_is root (said_by f.0 f.1) p taker (misfit_of job) (has_second (has_flag (codes "text") f.1) (is_some taker) both) is.misfit
+          let both : (is_some taker && has_flag (codes "text") f.1) ≡ true = sym is.text ∙ has_both job.text (not (is_update job.task)) asks in
+          ap (λ (b : Bool). if b then over_texts root taker (said_by f.0 f.1) p else p) (has_second (is_some taker) (has_flag (codes "text") f.1) both)
+          ∙ over_is root (said_by f.0 f.1) p taker (misfit_of job) (has_both (is_some taker) (has_flag (codes "text") f.1) both) is.misfit
           ∙ ap (λ (said : Texts → List ℕ). if_fit (misfit_of job) (text_plan root said p)) (λ i texts. besides_is job.task f.0 f.1 is.task texts i)
           ∙ ap (λ (r : List ℕ). if_fit (misfit_of job) (text_plan r (λ texts. besides_for job.task texts) p)) (sym (root_is top f.0 f.1 job is))
 
@@ -90,7 +90,7 @@ module _ (words : List Text) (job : Job) (asked : AskFor words job) (p : Plan) w
           flagged false taker flag known = refl
           flagged true None flag known = refl
           flagged true (Some m) flag known =
-              let text : job.text ≡ true = is.text ∙ ap (λ (b : Bool). b && is_some (text_taker f.0 f.1)) flag ∙ ap is_some known in
+              let text : job.text ≡ true = is.text ∙ ap (λ (o : Option (Option Text)). is_some o && has_flag (codes "text") f.1) known ∙ flag in
               let updates = not_false (is_update job.task) (sym (ap (λ (b : Bool). b && not (is_update job.task)) text) ∙ asks) in
               absurd (true≢false (sym (ap is_some known) ∙ ap is_some (update_takes_none job.task f.0 f.1 is.task updates)))
 
