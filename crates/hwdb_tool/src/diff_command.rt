@@ -14,7 +14,7 @@ ghost use Rattle.hwdb_spec.specs.Texts.{devices_of};
 ghost use Rattle.hwdb_spec_commands.specs.Told.{IsStop};
 ghost use Rattle.hwdb_plan.specs.Diff.{change_of, diff_plan, diff_stop, sides_compared};
 ghost use Rattle.hwdb_plan.specs.OverText.{if_fit};
-ghost use Rattle.hwdb_spec_commands.specs.OverText.{text_if};
+ghost use Rattle.hwdb_spec_commands.specs.Jobs.{text_if};
 ghost use Rattle.hwdb_plan.specs.Files.{OfInput};
 ghost use Rattle.hwdb_plan.specs.Plans.{Follows};
 ghost use Rattle.hwdb_tool.specs.SideSteps.{IsOneDash};
