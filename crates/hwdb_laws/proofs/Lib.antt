@@ -12,6 +12,7 @@ pub mod ComputedErrorRows
 pub mod ComputedAnswerRows
 pub mod ComputedCompareRows
 pub mod ComputedColourRows
+pub mod ComputedCommandRows
 pub mod ComputedPlaceRows
 pub mod ComputedWordRows
 pub mod ComputedDeviceRows

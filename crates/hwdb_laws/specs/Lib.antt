@@ -11,6 +11,7 @@ pub mod ErrorRows
 pub mod AnswerRows
 pub mod CompareRows
 pub mod ColourRows
+pub mod CommandRows
 pub mod PlaceRows
 pub mod WordRows
 pub mod DeviceRows

@@ -18,6 +18,7 @@
 //! | `AnswerRows` | what a database, or text files, answer |
 //! | `CompareRows` | what `diff` prints of two databases |
 //! | `ColourRows` | which bytes have which colour |
+//! | `CommandRows` | what a command needs of its words |
 //! | `PlaceRows` | where files are, and what calls of a store leave |
 //! | `WordRows` | what is read of the command line |
 //! | `DeviceRows` | what `device` prints |

@@ -3,6 +3,7 @@ ghost use Rattle.hwdb_laws.specs.AnswerRows;
 ghost use Rattle.hwdb_laws.specs.ChangeRows;
 ghost use Rattle.hwdb_laws.specs.CheckRows;
 ghost use Rattle.hwdb_laws.specs.ColourRows;
+ghost use Rattle.hwdb_laws.specs.CommandRows;
 ghost use Rattle.hwdb_laws.specs.CompareRows;
 ghost use Rattle.hwdb_laws.specs.DeviceRows;
 ghost use Rattle.hwdb_laws.specs.ErrorRows;
@@ -261,6 +262,7 @@ pub fn task_rows()
     ensures told { TaskRows.ToldRows }
     ensures over { TaskRows.OverRows }
     ensures taken { TaskRows.TakenRows }
+    ensures commands { CommandRows.CommandRows }
 {}
 
 /// What a database, or text files, answer.
