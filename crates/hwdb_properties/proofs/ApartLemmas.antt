@@ -31,7 +31,7 @@ by_word : (space : Bool) (r : ℕ) (row : List ℕ) (n : ℕ) (name : List ℕ) 
 by_word true r row n name h = refl
 by_word false r row n name h = neither (same (r ∷ row) (n ∷ name)) (is_family (r ∷ row)) _ (not_same r row n name h) (not_started r row n name (ne_eqb r n (λ e. h (sym e))))
 
-word_first : (space : Bool) (k r : ℕ) (row : List ℕ) → take (cond (not space) (1 + k) 0) (r ∷ row) ≡ (if space then [] else r ∷ take k row)
+pub word_first : (space : Bool) (k r : ℕ) (row : List ℕ) → take (cond (not space) (1 + k) 0) (r ∷ row) ≡ (if space then [] else r ∷ take k row)
 word_first true k r row = refl
 word_first false k r row = let one : 1 + k ≡ suc k = omega arith in ap (λ (n : ℕ). take n (r ∷ row)) one
 

@@ -5,3 +5,4 @@ pub mod CommonLemmas
 pub mod ApartLemmas
 pub mod PieceLemmas
 pub mod NearRowLemmas
+pub mod SkipLemmas

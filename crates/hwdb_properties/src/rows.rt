@@ -2,11 +2,13 @@
 ghost use Rattle.std.specs.Prelude.{◌≡◌, Bool, List, ℕ, ◌-◌, false, length, drop, true};
 ghost use Rattle.hwdb_spec_commands.specs.Properties;
 ghost use Rattle.hwdb_properties.specs.Internal.{passes};
+ghost use Rattle.hwdb_properties.specs.Skipping.{IsApart, IsNext, upper};
 
 use crate::cuts::{after, before, front, front_and_one, same};
-use crate::names::{is_near, same_letters};
+use crate::names::{is_near, lower, same_letters};
 use crate::words::has_lost_words;
-use hwdb_text::Lines;
+use hwdb_text::{Lines, begins_with};
+use memchr::memmem::find;
 
 /// How the name of a row is like one that is given.
 #[derive(Clone, Copy)]
@@ -116,11 +118,77 @@ fn passes(row: &[u8], name: &[u8], likeness: Likeness) -> bool
     }
 }
 
+/// Where the first row begins, after a table's first one, that begins with a byte; the table's end if none does.
+fn next_row(table: &[u8], first: u8) -> usize
+    ensures { IsNext first table.now result }
+{
+    match find(table, &[b'\n', first]) {
+        Some(at) => at + 1,
+        None => table.len(),
+    }
+}
+
+/// Where the first row begins, after a table's first one, that begins with one of two bytes; the table's end if none does.
+fn next_of(table: &[u8], one: u8, other: u8) -> usize
+    ensures one { IsNext one table.now result }
+    ensures other { IsNext other table.now result }
+{
+    let at = next_row(table, one);
+    if one == other {
+        return at;
+    }
+    let then = next_row(table, other);
+    if then < at { then } else { at }
+}
+
+/// The rows of a table from the first one on that begins with one of two bytes.
+fn rows_from(table: &[u8], one: u8, other: u8) -> &[u8]
+    ensures { (test : List ℕ → Bool) → IsApart one other test
+        → Properties.first_row test result.now ≡ Properties.first_row test table.now }
+{
+    if begins_with(one, table) {
+        return table;
+    }
+    if begins_with(other, table) {
+        return table;
+    }
+    &table[next_of(table, one, other)..]
+}
+
+/// A small letter of ASCII in upper case, any other byte as it is.
+fn upper(byte: u8) -> u8
+    ensures { result ≡ upper byte }
+{
+    if matches!(byte, b'a'..=b'z') {
+        byte - 32
+    } else {
+        byte
+    }
+}
+
+/// The rows of a table from one on before which no row is like a name.
+fn rows_for<'t>(table: &'t [u8], name: &[u8], likeness: Likeness) -> &'t [u8]
+    ensures { Properties.first_row (passes likeness name.now) result.now
+        ≡ Properties.first_row (passes likeness name.now) table.now }
+{
+    if name.is_empty() {
+        return table;
+    }
+    match likeness {
+        Likeness::Same => rows_from(table, name[0], name[0]),
+        Likeness::Letters => {
+            let low = lower(name[0]);
+            rows_from(table, low, upper(low))
+        }
+        Likeness::Near | Likeness::Lost => table,
+    }
+}
+
 /// The first row of a table whose name is like one that is given; an empty text if there is none.
 pub fn first_row<'t>(table: &'t [u8], name: &[u8], likeness: Likeness) -> &'t [u8]
     ensures { result.now ≡ Properties.first_row (passes likeness name.now) table.now }
 {
-    for row in Lines::new(table) {
+    for row in Lines::new(rows_for(table, name, likeness)) {
         if passes(row, name, likeness) {
             return row;
         }
