@@ -76,10 +76,11 @@ files_misfit inner = text_if (nat_lt 1 (length (unwrap_or (all_of (codes "MODALI
 abbrev pub list_misfit : List Row → Option Text
 list_misfit inner = text_if (not (is_some (first_of (codes "DEVICE") inner) || has_flag (codes "all") inner)) (codes "--text needs DEVICE or --all: a list of devices asks no database")
 
--- what is said of a database, an option or a word
+-- what is said of a database that is an option
 abbrev pub option_misfit : List Row → Option Text
 option_misfit inner = text_if (is_some (first_of (codes "database") inner)) (codes "--text and --database are two sources: leave out one of them")
 
+-- what is said of one that is a word
 abbrev pub word_misfit : List Row → Option Text
 word_misfit inner = text_if (is_some (first_of (codes "DATABASE") inner)) (codes "--text and DATABASE are two sources: leave out one of them")
 
