@@ -18,9 +18,10 @@ use Rattle.hwdb_plan.specs.Device.{device_asked}
 use Rattle.hwdb_plan.specs.Given.{given_at}
 use Rattle.hwdb_plan.specs.Report.{report_answer}
 use Rattle.hwdb_plan.specs.Requests.{plan_of}
-use Rattle.hwdb_plan.specs.Plans.{Plan}
+use Rattle.hwdb_plan.specs.Plans.{Follows, Plan}
 use Rattle.hwdb_spec_program.specs.ProgramPlan.{device_command}
 use Rattle.hwdb_tool.specs.Reported.{FollowsFrom}
+use Rattle.hwdb_tool.specs.Views.{end_of}
 use Rattle.hwdb_tool.specs.declared.answer.Answer.{Answer}
 use Rattle.hwdb_tool.proofs.ProgramPlanLemmas.{At, around, at_word, command_plan}
 

@@ -355,12 +355,14 @@ impl<D: Machine, I: Source> Verb<D, I> for DeviceArgs {
         system: &D,
         input: &mut I,
     ) -> Result<Answer, Refusal> {
+        let (root, given, named) = (root_of(job), text_of(&self.path), text_of(&self.from));
+        let form = device_form(self.strings, self.json, self.pattern);
         let wanted = Wanted {
-            root: root_of(job),
-            given: text_of(&self.path),
-            form: device_form(self.strings, self.json, self.pattern),
+            root,
+            given,
+            form,
             all: self.all,
         };
-        devices_from(alloc, text_of(&self.from), wanted, system, input)
+        devices_from(alloc, named, wanted, system, input)
     }
 }

@@ -25,5 +25,5 @@ returns-clause-follows g c = λ tells words asked.
     let result = c.explain.result in
     of_words sight input left (λ p. ShowsEnd w p input left before now result) words c.args.job.now asked
     (λ word rows is. explain_planned w sight input left before now result root c.args.job.now.strict word rows args (subst (λ t. IsTask word rows t) c.requires is)
-    (subst (λ (d : List ℕ). ShowsEnd w (explain_plan root args.json d) input left before now result) c.as_str.ensures.value
-    (subst (λ (r : List ℕ). ShowsEnd w (explain_plan r args.json c.as_str.result.now) input left before now result) c.root_of.ensures (c.explain.ensures.follows tells))))
+    (subst (λ (d : List ℕ). ShowsEnd w (explain_plan root args.json d) input left before now result) c.as_str-device.ensures.value
+    (subst (λ (r : List ℕ). ShowsEnd w (explain_plan r args.json c.as_str-device.result.now) input left before now result) c.root_of-root.ensures (c.explain.ensures.follows tells))))

@@ -29,8 +29,8 @@ returns-clause-follows g c = λ tells words asked.
     let form = c.format_asked-form.result in
     let files = map string_bytes c.deref.result.now in
     let kinds = map string_bytes c.deref-2.result.now in
-    let name = option_map (λ t. t.now) c.text_of.result in
-    let known = option_map (λ t. t.now) c.text_of-2.result in
+    let name = option_map (λ t. t.now) c.text_of-name.result in
+    let known = option_map (λ t. t.now) c.text_of-known.result in
     let name2 = option_map string_bytes args.name in
     let known2 = option_map string_bytes args.baseline in
     let kinds2 = map string_bytes args.allowed.items in
@@ -39,7 +39,7 @@ returns-clause-follows g c = λ tells words asked.
     (λ word rows is. check_planned w sight input left root strict word rows answer args (subst (λ t. IsTask word rows t) c.requires is)
     (subst (λ (f : Format). Told (λ told. check_as told root strict files2 name2 known2 f kinds2)) c.format_asked-form.ensures
     (subst (λ (fs : List (String Global)). Told (λ told. check_as told root strict (map string_bytes fs) name2 known2 form kinds2)) c.deref.ensures.value
-    (subst (λ (n : Option (List ℕ)). Told (λ told. check_as told root strict files n known2 form kinds2)) c.text_of.ensures
-    (subst (λ (b : Option (List ℕ)). Told (λ told. check_as told root strict files name b form kinds2)) c.text_of-2.ensures
+    (subst (λ (n : Option (List ℕ)). Told (λ told. check_as told root strict files n known2 form kinds2)) c.text_of-name.ensures
+    (subst (λ (b : Option (List ℕ)). Told (λ told. check_as told root strict files name b form kinds2)) c.text_of-known.ensures
     (subst (λ (ks : List (String Global)). Told (λ told. check_as told root strict files name known form (map string_bytes ks))) c.deref-2.ensures.value
-    (subst (λ (r : List ℕ). Told (λ told. check_as told r strict files name known form kinds)) c.root_of.ensures (c.check_as_asked.ensures.follows tells))))))))
+    (subst (λ (r : List ℕ). Told (λ told. check_as told r strict files name known form kinds)) c.root_of-root.ensures (c.check_as_asked.ensures.follows tells))))))))

@@ -1,10 +1,8 @@
-use Rattle.std.proofs.Common.{◌≡◌, ap, false, map, string_bytes, subst, sym, Global, List, Result, String, ℕ}
-use Rattle.hwdb_plan.specs.Files.{OfInput}
+use Rattle.std.proofs.Common.{◌≡◌, ap, false, map, string_bytes, subst, sym, Global, List, String}
 use Rattle.hwdb_plan.specs.Plans.{Follows, Plan}
 use Rattle.hwdb_spec_commands.specs.Jobs.{IsTask}
 use Rattle.hwdb_spec_commands.specs.Runs.{told_by}
 use Rattle.hwdb_spec_commands.specs.SysfsAnswers.{sight_by}
-use Rattle.hwdb_spec_commands.specs.declared.unread.Unread.{Unread}
 use Rattle.hwdb_spec_program.specs.Program.{root_of}
 use Rattle.hwdb_tool.specs.Views.{end_of}
 use Rattle.hwdb_tool.proofs.ProgramPlanLemmas.{of_words}
@@ -20,8 +18,8 @@ returns-clause-unread g c = λ none.
     let new = string_bytes args.new in
     let paths = map string_bytes c.deref.result.now in
     c.diff.ensures.unread
-    (subst (λ p. any_dash (p ∷ c.as_str-2.result.now ∷ paths) ≡ false) (sym c.as_str.ensures.value)
-    (subst (λ p. any_dash (old ∷ p ∷ paths) ≡ false) (sym c.as_str-2.ensures.value)
+    (subst (λ p. any_dash (p ∷ c.as_str-new.result.now ∷ paths) ≡ false) (sym c.as_str-old.ensures.value)
+    (subst (λ p. any_dash (old ∷ p ∷ paths) ≡ false) (sym c.as_str-new.ensures.value)
     (subst (λ l. any_dash (old ∷ new ∷ map string_bytes l) ≡ false) (sym c.deref.ensures.value) none)))
 
 pub returns-clause-follows : goal.returns-clause-follows
@@ -32,11 +30,10 @@ returns-clause-follows g c = λ tells words asked.
     let input = I c.args.input.now in
     let left = I c.diff.new.input in
     let args = c.args.self.now in
-    let root = root_of c.args.job.now in
-    let strict = c.args.job.now.strict in
+    let root = root_of c.args._job.now in
+    let strict = c.args._job.now.strict in
     let answer = c.diff.result in
     let Answers : Plan → Type 0 = λ p. Follows end_of w p answer in
-    let Told = λ (is : Result (List ℕ) Unread → Plan). OfInput input.bytes input.failures left.failures (λ told. Follows end_of w (is told) answer) in
-    of_words sight input left Answers words c.args.job.now asked
+    of_words sight input left Answers words c.args._job.now asked
     (λ word rows is. diff_planned w sight input left root strict word rows answer args (subst (λ t. IsTask word rows t) c.requires is)
-    (map string_bytes c.deref.result.now) c.as_str.result.now c.as_str-2.result.now (ap (λ (ds : List (String Global)). map string_bytes ds) c.deref.ensures.value) c.as_str.ensures.value c.as_str-2.ensures.value (c.diff.ensures.follows tells))
+    (map string_bytes c.deref.result.now) c.as_str-old.result.now c.as_str-new.result.now (ap (λ (ds : List (String Global)). map string_bytes ds) c.deref.ensures.value) c.as_str-old.ensures.value c.as_str-new.ensures.value (c.diff.ensures.follows tells))

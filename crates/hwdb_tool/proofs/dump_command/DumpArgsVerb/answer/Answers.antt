@@ -1,11 +1,9 @@
-use Rattle.std.proofs.Common.{◌≡◌, false, subst, sym, List, Option, Result, ℕ}
+use Rattle.std.proofs.Common.{◌≡◌, false, subst, sym, List, Option, ℕ}
 use Rattle.std.specs.Prelude.{option_map}
-use Rattle.hwdb_plan.specs.Files.{OfInput}
 use Rattle.hwdb_plan.specs.Plans.{Follows, Plan}
 use Rattle.hwdb_spec_commands.specs.Jobs.{IsTask}
 use Rattle.hwdb_spec_commands.specs.Runs.{told_by}
 use Rattle.hwdb_spec_commands.specs.SysfsAnswers.{sight_by}
-use Rattle.hwdb_spec_commands.specs.declared.unread.Unread.{Unread}
 use Rattle.hwdb_spec_program.specs.Program.{root_of}
 use Rattle.hwdb_tool.specs.Views.{end_of}
 use Rattle.hwdb_tool.proofs.ProgramPlanLemmas.{of_words}
@@ -30,7 +28,6 @@ returns-clause-follows g c = λ tells words asked.
     let strict = c.args.job.now.strict in
     let answer = c.dump.result in
     let Answers : Plan → Type 0 = λ p. Follows end_of w p answer in
-    let Told = λ (is : Result (List ℕ) Unread → Plan). OfInput input.bytes input.failures left.failures (λ told. Follows end_of w (is told) answer) in
     let database = option_map (λ t. t.now) c.text_of.result in
     of_words sight input left Answers words c.args.job.now asked
     (λ word rows is. dump_planned w sight input left root strict word rows answer args (subst (λ t. IsTask word rows t) c.requires is)

@@ -32,4 +32,4 @@ returns-clause-follows g c = λ tells words asked.
     (λ word rows is. near_planned w sight input left root strict word rows answer args (subst (λ t. IsTask word rows t) c.requires is)
     (subst (λ (fs : List (String Global)). Told (λ told. near_plan told (map string_bytes fs) root (near_form args.json (string_bytes args.device) (near_limit args.limit)))) c.deref.ensures.value
     (subst (λ (d : List ℕ). Told (λ told. near_plan told (map string_bytes files) root (near_form args.json d (near_limit args.limit)))) c.as_bytes-device.ensures.value
-    (subst (λ (r : List ℕ). Told (λ told. near_plan told (map string_bytes files) r (near_form args.json device (near_limit args.limit)))) c.root_of.ensures (c.near.ensures.follows tells)))))
+    (subst (λ (r : List ℕ). Told (λ told. near_plan told (map string_bytes files) r (near_form args.json device (near_limit args.limit)))) c.root_of-root.ensures (c.near.ensures.follows tells)))))

@@ -26,4 +26,4 @@ returns-clause-follows g c = λ tells words asked.
     of_words sight input left (λ p. ShowsEnd w p input left before now result) words c.args.job.now asked
     (λ word rows is. query_planned w sight input left before now result root c.args.job.now.strict word rows args (subst (λ t. IsTask word rows t) c.requires is)
     (subst (λ (ds : List (String Global)). ShowsEnd w (query_plan root args.json (map string_bytes ds)) input left before now result) c.deref.ensures.value
-    (subst (λ (r : List ℕ). ShowsEnd w (query_plan r args.json (map string_bytes c.deref.result.now)) input left before now result) c.root_of.ensures (c.query.ensures.follows tells))))
+    (subst (λ (r : List ℕ). ShowsEnd w (query_plan r args.json (map string_bytes c.deref.result.now)) input left before now result) c.root_of-root.ensures (c.query.ensures.follows tells))))

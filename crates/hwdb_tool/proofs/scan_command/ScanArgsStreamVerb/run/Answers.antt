@@ -25,5 +25,5 @@ returns-clause-follows g c = λ tells words asked.
     let result = c.scan.result in
     of_words sight input left (λ p. ShowsEnd w p input left before now result) words c.args.job.now asked
     (λ word rows is. scan_planned w sight input left before now result root c.args.job.now.strict word rows args (subst (λ t. IsTask word rows t) c.requires is)
-    (subst (λ (d : List ℕ). ShowsEnd w (scan_plan root d args.count) input left before now result) c.as_str.ensures.value
-    (subst (λ (r : List ℕ). ShowsEnd w (scan_plan r c.as_str.result.now args.count) input left before now result) c.root_of.ensures (c.scan.ensures.follows w (E c.args._err.now)))))
+    (subst (λ (d : List ℕ). ShowsEnd w (scan_plan root d args.count) input left before now result) c.as_str-device.ensures.value
+    (subst (λ (r : List ℕ). ShowsEnd w (scan_plan r c.as_str-device.result.now args.count) input left before now result) c.root_of-root.ensures (c.scan.ensures.follows w (E c.args._err.now)))))

@@ -32,4 +32,4 @@ returns-clause-follows g c = λ tells words asked.
     (λ word rows is. test_planned w sight input left root strict word rows answer args (subst (λ t. IsTask word rows t) c.requires is)
     (subst (λ (fs : List (String Global)). Told (λ told. test_plan told (map string_bytes fs) (option_map string_bytes args.database) root args.json)) c.deref.ensures.value
     (subst (λ (d : Option (List ℕ)). Told (λ told. test_plan told (map string_bytes files) d root args.json)) c.text_of-database.ensures
-    (subst (λ (r : List ℕ). Told (λ told. test_plan told (map string_bytes files) database r args.json)) c.root_of.ensures (c.test.ensures.follows tells)))))
+    (subst (λ (r : List ℕ). Told (λ told. test_plan told (map string_bytes files) database r args.json)) c.root_of-root.ensures (c.test.ensures.follows tells)))))
