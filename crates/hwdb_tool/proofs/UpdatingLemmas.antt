@@ -64,8 +64,8 @@ by_task task = inr (λ (v, is). cc)
 
 -- its words don't take `--text`
 pub update_takes_none : (task : Task) (word : Text) (rows : List Row) → IsTask word rows task → is_update task ≡ true → text_taker word rows ≡ None
-update_takes_none (Update u) word rows is yes = subst (λ (n : Text). text_taker n rows ≡ None) (sym is.0) refl
-update_takes_none task word rows is no_one = absurd (true≢false (sym no_one))
+update_takes_none (Update u) word rows is updates = subst (λ (n : Text). text_taker n rows ≡ None) (sym is.0) refl
+update_takes_none task word rows is updates = absurd (true≢false (sym updates))
 
 -- ---- by words
 -- what an update of this job is asked for

@@ -266,7 +266,7 @@ pub fn run<D: Machine, I: Source, O: Sink, E: Sink>(
         (E.failures err.old) (E.failures err.new) }
 {
     match &job.task {
-        Task::Update(args) => update_asked(alloc, job, args, system, err),
+        Task::Update(args) => update_asked(alloc, job, args, system, input, out, err),
         Task::Query(args) => args.run(alloc, job, system, input, out, err),
         Task::Explain(args) => args.run(alloc, job, system, input, out, err),
         Task::List(args) => args.run(alloc, job, system, input, out, err),

@@ -1,7 +1,7 @@
 //! What `update --usr --verbose` says before it updates, if /etc's database, which is asked first, hides the new one.
 ghost use Rattle.std.specs.Prelude.{◌≡◌, ◌≤◌, ◌++◌, [], ℕ, List, IfOk, OnOk, string_bytes};
 ghost use Rattle.hwdb_spec.specs.Flushing.{HandsOn};
-ghost use Rattle.hwdb_spec_commands.specs.Runs.{Told, files_by, told_by};
+ghost use Rattle.hwdb_spec_commands.specs.Runs.{files_by, told_by};
 ghost use Rattle.hwdb_spec_program.specs.Hiding.{hiding_line, hiding_text};
 ghost use Rattle.hwdb_spec.specs.Store as spec;
 ghost use Rattle.hwdb_spec_program.specs.HidingPlan.{UpdatesTelling, hiding_plan};
@@ -26,7 +26,7 @@ use crate::printing::say;
 use crate::update_command::update;
 use crate::verb::root_of;
 use hwdb_cli::{Job, UpdateArgs};
-use hwdb_io::Sink;
+use hwdb_io::{Sink, Source};
 use hwdb_replace::DATABASE;
 use hwdb_show::push_name;
 use hwdb_system::{Machine, Refusal, System, path_in};
@@ -138,20 +138,24 @@ pub fn update_telling<D: System, E: Sink>(
     update(alloc, root, usr, strict, verbose, skip, system, err)
 }
 
-/// `update`, as its words ask for it: says what hides the new database, and then updates. It has no plan that ends in what it shows.
-pub(crate) fn update_asked<D: Machine, E: Sink>(
+/// `update`, as its words ask for it: says what hides the new database, and then updates. Its words have no plan that ends in what it
+/// shows. So that holds of whatever the run reads and prints, neither of which it touches.
+pub(crate) fn update_asked<D: Machine, I: Source, O: Sink, E: Sink>(
     alloc: Global,
     job: &Job,
     args: &UpdateArgs,
     system: &mut D,
+    _input: &I,
+    _out: &O,
     err: &mut E,
 ) -> Result<u8, Refusal>
     requires { job.now.task ≡ Update args.now }
     ensures status { IfOk result (λ status. status ≤ 1) }
-    ensures follows { D.Store.tells → (input out : Told) → ShowsAsked job.now
-        (D.System.reads system.old) (sight_by D.answers system.old) input input
-        (outs (told_by E.taken E.failures err.old) out)
-        (outs (told_by E.taken E.failures err.new) out) result }
+    ensures follows { D.Store.tells → ShowsAsked job.now (D.System.reads system.old)
+        (sight_by D.answers system.old)
+        (told_by I.left I.failures _input.now) (told_by I.left I.failures _input.now)
+        (outs (told_by E.taken E.failures err.old) (told_by O.taken O.failures _out.now))
+        (outs (told_by E.taken E.failures err.new) (told_by O.taken O.failures _out.now)) result }
     ensures updates { let files = files_by D.Store.seen D.System.may_fail D.Store.may_leave
         D.Store.failures in D.Store.tells → UpdatesAsAsked job.now (D.System.reads system.old)
         (files system.old) (files system.new) (told_by E.taken E.failures err.old)

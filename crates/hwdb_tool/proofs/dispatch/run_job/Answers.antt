@@ -31,7 +31,7 @@ returns-clause-follows g c = λ tells words asked.
     (sym c.asks_text.ensures ∙ c.if-asks_text.false) (c.run.ensures.follows tells words asked)
 
 pub returns-then-asks_text-clause-updates : goal.returns-then-asks_text-clause-updates
-returns-then-asks_text-clause-updates g c = λ tells v s is. absurd (no_update c.args.job.now.text c.args.job.now.task (sym c.asks_text.ensures ∙ c.if-asks_text.true) (v, s, is))
+returns-then-asks_text-clause-updates g c = λ tells u is. absurd (no_update c.args.job.now.text c.args.job.now.task (sym c.asks_text.ensures ∙ c.if-asks_text.true) (u, is))
 
 pub returns-then-asks_text-clause-any_crash : goal.returns-then-asks_text-clause-any_crash
-returns-then-asks_text-clause-any_crash g c = λ tells v s is. absurd (no_update c.args.job.now.text c.args.job.now.task (sym c.asks_text.ensures ∙ c.if-asks_text.true) (v, s, is))
+returns-then-asks_text-clause-any_crash g c = λ tells u is. absurd (no_update c.args.job.now.text c.args.job.now.task (sym c.asks_text.ensures ∙ c.if-asks_text.true) (u, is))

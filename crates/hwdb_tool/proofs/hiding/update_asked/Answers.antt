@@ -11,9 +11,11 @@ use Rattle.hwdb_tool.proofs.UpdatingLemmas.{task_crash, task_moment, task_update
 use Rattle.hwdb_tool.proofs.hiding.update_asked.Goals as goal
 
 pub returns-clause-follows : goal.returns-clause-follows
-returns-clause-follows g c = λ tells input out words asked.
+returns-clause-follows g c = λ tells words asked.
     let w = g.D.System.reads c.args.system.now in
     let sight = sight_by g.D.DeviceFiles.answers c.args.system.now in
+    let input = told_by g.I.Source.left g.I.Source.failures c.args._input.now in
+    let out = told_by g.O.Sink.taken g.O.Sink.failures c.args._out.now in
     let E = told_by g.E.Sink.taken g.E.Sink.failures in
     let Is : Plan → Type 0 = λ p. ShowsEnd w p input input (outs (E c.args.err.now) out) (outs (E c.update_telling.new.err) out) c.update_telling.result in
     of_words sight input input Is words c.args.job.now asked
