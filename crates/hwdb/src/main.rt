@@ -50,8 +50,13 @@ fn held_streams(rt: &HostRuntime) -> io::Result<[Option<File>; 3]> {
 fn main(rt: HostRuntime) -> ExitCode {
     let held = held_streams(&rt);
     let alloc = rt.alloc();
-    let is_seen = rt.stderr().is_terminal();
-    let mut err = Coloured::new(alloc, ToWrite::new(rt.stderr()), TextKind::Plain, is_seen);
+    let at_terminal = rt.stderr().is_terminal();
+    let mut err = Coloured::new(
+        alloc,
+        ToWrite::new(rt.stderr()),
+        TextKind::Plain,
+        at_terminal,
+    );
     if held.is_err() {
         let line = "hwdb: a standard stream is closed, and /dev/null cannot be opened\n";
         let _ = write_text(&mut err, line.as_bytes());
@@ -76,7 +81,15 @@ fn main(rt: HostRuntime) -> ExitCode {
             let mut input = FromRead::new(input);
             let is_seen = rt.stdout().is_terminal();
             let mut out = Coloured::new(alloc, ToWrite::new(rt.stdout()), kind, is_seen);
-            let status = program(alloc, &words, &mut system, &mut input, &mut out, &mut err);
+            let status = program(
+                alloc,
+                &words,
+                &mut system,
+                &mut input,
+                &mut out,
+                &mut err,
+                at_terminal,
+            );
             ExitCode::from(status)
         }
         Err(error) => {

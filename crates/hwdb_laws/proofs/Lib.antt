@@ -25,3 +25,4 @@ pub mod ProgramRunLemmas
 pub mod PlannedJobLemmas
 pub mod PlannedUpdateLemmas
 pub mod ToldLemmas
+pub mod ShownLemmas

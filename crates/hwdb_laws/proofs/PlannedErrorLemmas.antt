@@ -9,6 +9,8 @@ use Rattle.hwdb_spec.specs.Folders.{Choice, Source, choice, max_files, names}
 use Rattle.hwdb_spec.specs.System.{etc_files, usr_files}
 use Rattle.hwdb_spec.specs.Errors.{refusal_of_compile}
 use Rattle.hwdb_spec_commands.specs.DeviceFound.{places_meant, several_text}
+use Rattle.hwdb_plan.specs.Advice.{advised, advised_if, with_advice}
+use Rattle.hwdb_plan.specs.Lemmas.Advice.{advised_is_no_more}
 use Rattle.hwdb_plan.specs.Asking.{if_read}
 use Rattle.hwdb_plan.specs.Folders.{Texts, choose, if_listed, names_of, paths_of, read_texts, texts_of_folders, texts_of_names, with_texts}
 use Rattle.hwdb_plan.specs.Lemmas.OverText.{said_is_no_more}
@@ -38,7 +40,7 @@ use Rattle.hwdb_plan.specs.Plans.{AreMadeOf, End, Ends, Plan, over, reads_over}
 use Rattle.hwdb_plan.specs.Plans.End.{Answers, Lines, Replaces, Scans, Stops, Streams}
 use Rattle.hwdb_plan.specs.Plans.Plan.{Done}
 use Rattle.hwdb_spec_program.specs.DeviceErrors.{asked_names}
-use Rattle.hwdb_spec_program.specs.ProgramPlan.{ShowsPlan, as_given, command_of, files_plan, over_texts, program_plan, root_given, said_by}
+use Rattle.hwdb_spec_program.specs.ProgramPlan.{ShowsPlan, advice_given, as_given, command_of, files_plan, over_texts, program_plan, root_given, said_by, shown_plan}
 use Rattle.hwdb_plan.specs.Requests.{Around, Command, Search, found_plan, plan_of, told_plan}
 use Rattle.hwdb_plan.specs.Requests.Command.{OfDevices, OfFiles}
 use Rattle.hwdb_plan.specs.Requests.Search.{AtPlace, Below, Fitting, Found}
@@ -183,20 +185,20 @@ module _ (alike : PlansEndAlike) where
     made_both etc usr one two (inr (why, much, is)) (inr (why2, much2, is2)) =
         inl (inl (inr (inr record { etc = etc; usr = usr; most = max_file; bad = λ r. Plain (refusal_of_compile r); one = why; two = why2; has_one = much; has_two = much2; is_one = is; is_two = is2 })))
 
-  -- a text after what both print
-  after_alike : (text : List ℕ) (e f : End) → AreOneEnd e f → AreOneEnd (with_after text e) (with_after text f)
-  after_alike text e f (inl (inl is)) = inl (inl (ap (with_after text) is))
-  after_alike text e f (inl (inr (inl faults))) = inl (inr (inl record {
+  -- what leaves an error as it is, as a text after what is printed
+  changed_alike : (g : End → End) → ((s : Stop) → g (Stops s) ≡ Stops s) → (e f : End) → AreOneEnd e f → AreOneEnd (g e) (g f)
+  changed_alike g keeps e f (inl (inl is)) = inl (inl (ap g is))
+  changed_alike g keeps e f (inl (inr (inl faults))) = inl (inr (inl record {
     bytes = faults.bytes;
     bad = faults.bad;
     one = faults.one;
     two = faults.two;
     has_one = faults.has_one;
     has_two = faults.has_two;
-    is_one = ap (with_after text) faults.is_one;
-    is_two = ap (with_after text) faults.is_two;
+    is_one = ap g faults.is_one ∙ keeps (faults.bad faults.one);
+    is_two = ap g faults.is_two ∙ keeps (faults.bad faults.two);
   }))
-  after_alike text e f (inl (inr (inr reasons))) = inl (inr (inr record {
+  changed_alike g keeps e f (inl (inr (inr reasons))) = inl (inr (inr record {
     etc = reasons.etc;
     usr = reasons.usr;
     most = reasons.most;
@@ -205,11 +207,12 @@ module _ (alike : PlansEndAlike) where
     two = reasons.two;
     has_one = reasons.has_one;
     has_two = reasons.has_two;
-    is_one = ap (with_after text) reasons.is_one;
-    is_two = ap (with_after text) reasons.is_two;
+    is_one = ap g reasons.is_one ∙ keeps (reasons.bad reasons.one);
+    is_two = ap g reasons.is_two ∙ keeps (reasons.bad reasons.two);
   }))
-  after_alike text e f (inr (inl (said, said2, is, is2, but))) = inr (inl (said, said2, ap (with_after text) is, ap (with_after text) is2, but))
-  after_alike text e f (inr (inr (error, path, cause, cause2, is, is2))) = inr (inr (error, path, cause, cause2, ap (with_after text) is, ap (with_after text) is2))
+  changed_alike g keeps e f (inr (inl (said, said2, is, is2, but))) = inr (inl (said, said2, ap g is ∙ keeps (Says said), ap g is2 ∙ keeps (Says said2), but))
+  changed_alike g keeps e f (inr (inr (error, path, cause, cause2, is, is2))) =
+      inr (inr (error, path, cause, cause2, ap g is ∙ keeps (Over error path cause), ap g is2 ∙ keeps (Over error path cause2)))
 
   module _ (laws : OverLaws) (p q : Plan) (both : Alike p q) where
     basis_alike : (root : List ℕ) (b : Basis) → Alike (from_basis root p b) (from_basis root q b)
@@ -218,7 +221,7 @@ module _ (alike : PlansEndAlike) where
         let one = said_is_no_more b.besides w (over is b.database p) e ends in
         let two = said_is_no_more b.besides w (over is b.database q) f ends2 in
         let found = both (reads_over is b.database w) one.0 two.0 (laws.1 is b.database w p one.0 one.1) (laws.1 is b.database w q two.0 two.1) in
-        subst (λ (x : End). AreOneEnd x f) (sym one.2) (subst (λ (x : End). AreOneEnd (with_after b.besides one.0) x) (sym two.2) (after_alike b.besides one.0 two.0 found))
+        subst (λ (x : End). AreOneEnd x f) (sym one.2) (subst (λ (x : End). AreOneEnd (with_after b.besides one.0) x) (sym two.2) (changed_alike (with_after b.besides) (λ s. refl) one.0 two.0 found))
 
     text_alike : (root : List ℕ) (besides : Texts → List ℕ) → Alike (text_plan root besides p) (text_plan root besides q)
     text_alike root besides w e f ends ends2 =
@@ -251,6 +254,21 @@ module _ (alike : PlansEndAlike) where
         by true = taker_alike (root_given top found.1) taken besides
         by false = both
 
+  -- on a terminal the line of a command is said of both
+  module _ (p q : Plan) (both : Alike p q) where
+    advised_alike : (line : List ℕ) → Alike (advised line p) (advised line q)
+    advised_alike line w e f ends ends2 =
+        let one = advised_is_no_more line w p e ends in
+        let two = advised_is_no_more line w q f ends2 in
+        subst (λ (x : End). AreOneEnd x f) (sym one.2)
+        (subst (λ (x : End). AreOneEnd (with_advice line one.0) x) (sym two.2) (changed_alike (with_advice line) (λ s. refl) one.0 two.0 (both w one.0 two.0 one.1 two.1)))
+
+    seen_alike : (at_terminal : Bool) (line : Option (List ℕ)) → Alike (advised_if at_terminal line p) (advised_if at_terminal line q)
+    seen_alike true (Some line) = advised_alike line
+    seen_alike true None = both
+    seen_alike false (Some line) = both
+    seen_alike false None = both
+
   -- ---- the plans of words, with other words of a cause
   module _ (sight : Sight) (cause cause2 : List ℕ) (told : Result (List ℕ) Unread) where
     abbrev first : Around
@@ -272,13 +290,21 @@ module _ (alike : PlansEndAlike) where
         some : {X : Type 0} (x y : X) → Some x ≡ Some y → x ≡ y
         some x y equal = cc
 
-    plan_alike : OverLaws → (words : List Text) (p q : Plan) → program_plan first words ≡ Some p → program_plan second words ≡ Some q → Alike p q
-    plan_alike laws words p q is is2 w e f ends ends2 =
+    words_alike : OverLaws → (words : List Text) (p q : Plan) → program_plan first words ≡ Some p → program_plan second words ≡ Some q → Alike p q
+    words_alike laws words p q is is2 w e f ends ends2 =
         let top = matches_of hwdb_app words in
         let found = subcommand_of hwdb_app words in
         let x = mapped (as_given top found) (files_plan first words) p is in
         let y = mapped (as_given top found) (files_plan second words) q is2 in
         given_alike laws x.0 y.0 (found_alike (command_of sight words) x.0 y.0 x.1 y.1) top found w e f (subst (λ (z : Plan). Ends w z e) (sym x.2) ends) (subst (λ (z : Plan). Ends w z f) (sym y.2) ends2)
+
+    -- on a terminal
+    pub plan_alike : OverLaws → (at_terminal : Bool) (words : List Text) (p q : Plan) → shown_plan at_terminal first words ≡ Some p → shown_plan at_terminal second words ≡ Some q → Alike p q
+    plan_alike laws at_terminal words p q is is2 w e f ends ends2 =
+        let line = advice_given (subcommand_of hwdb_app words) in
+        let x = mapped (advised_if at_terminal line) (program_plan first words) p is in
+        let y = mapped (advised_if at_terminal line) (program_plan second words) q is2 in
+        seen_alike x.0 y.0 (words_alike laws words x.0 y.0 x.1 y.1) at_terminal line w e f (subst (λ (z : Plan). Ends w z e) (sym x.2) ends) (subst (λ (z : Plan). Ends w z f) (sym y.2) ends2)
 
 -- ---- ends of streams
 one_grown : (had : List ℕ) (now now2 : Option (List ℕ)) (text : List ℕ) → Appends (Some had) now text → Appends (Some had) now2 text → now ≡ now2
@@ -382,7 +408,7 @@ shown_error input input_now before now r bytes tells reading (Scans path count) 
 shown_error input input_now before now r bytes tells reading (Replaces folder made said status) shows = absurd shows
 
 -- ---- two runs
-module _ (alike : PlansEndAlike) (laws : OverLaws) (words : List Text) (w : Reads) (sight : Sight) (input input_now input_now2 : Told) (before now now2 : Outs) (r r2 : Refusal) (have : HavePlan words)
+module _ (alike : PlansEndAlike) (laws : OverLaws) (at_terminal : Bool) (words : List Text) (w : Reads) (sight : Sight) (input input_now input_now2 : Told) (before now now2 : Outs) (r r2 : Refusal) (have : HavePlan at_terminal words)
     (of_input : Tells input) (of_out : Tells before.out) (reading : IsOfReading input input_now r) (reading2 : IsOfReading input input_now2 r2) where
   abbrev plan_told : (told : Result (List ℕ) Unread) (cause : List ℕ) → Plan
   plan_told told cause = have.plan (record { input = told; sight = sight; cause = cause })
@@ -417,7 +443,7 @@ module _ (alike : PlansEndAlike) (laws : OverLaws) (words : List Text) (w : Read
 
   moved : (e : End) (told t : Result (List ℕ) Unread) (cause : List ℕ) → ServesBut e told t → Ends w (plan_told told cause) e → Ends w (plan_told t cause) e ⊎ IsForgone e
   moved e told t cause serves ends =
-      plan_moves laws w e (IsForgone e) sight cause cause told t serves (inl refl) words (plan_told told cause) (plan_told t cause)
+      plan_moves laws w e (IsForgone e) sight cause cause told t serves (inl refl) at_terminal words (plan_told told cause) (plan_told t cause)
       (have.is (record { input = told; sight = sight; cause = cause })) (have.is (record { input = t; sight = sight; cause = cause })) ends
 
   one_end : (e f : End) (told told2 : Result (List ℕ) Unread) (cause cause2 : List ℕ) → IsInputTold input.bytes input.failures input_now.failures told
@@ -426,7 +452,7 @@ module _ (alike : PlansEndAlike) (laws : OverLaws) (words : List Text) (w : Read
       let (t, serves, serves2) = shared e f told told2 is is2 in
       ⊎_elim
       (λ one. ⊎_elim
-      (λ two. inl (plan_alike alike sight cause cause2 t laws words (plan_told t cause) (plan_told t cause2)
+      (λ two. inl (plan_alike alike sight cause cause2 t laws at_terminal words (plan_told t cause) (plan_told t cause2)
       (have.is (record { input = t; sight = sight; cause = cause })) (have.is (record { input = t; sight = sight; cause = cause2 })) w e f one two))
       (λ gone. inr (inr gone)) (moved f told2 t cause2 serves2 ends2))
       (λ gone. inr (inl gone)) (moved e told t cause serves ends)
@@ -468,7 +494,7 @@ module _ (alike : PlansEndAlike) (laws : OverLaws) (words : List Text) (w : Read
         one_grown of_out.0 now.out.bytes now2.out.bytes (text lines) (had now.out text took) (subst (λ (t : List (List ℕ) → List ℕ). Appends (Some of_out.0) now2.out.bytes (t lines)) (sym same) (had now2.out text2 took2)),
       )
 
-  errors_one : ShowsPlan (λ a. program_plan a words) w sight input input_now before now (Err r) → ShowsPlan (λ a. program_plan a words) w sight input input_now2 before now2 (Err r2) → AreOne
+  errors_one : ShowsPlan (λ a. shown_plan at_terminal a words) w sight input input_now before now (Err r) → ShowsPlan (λ a. shown_plan at_terminal a words) w sight input input_now2 before now2 (Err r2) → AreOne
   errors_one (told, so, (cause, line, shows)) (told2, so2, (cause2, line2, shows2)) =
       by
       (subst (λ (o : Option Plan). IfSome o (λ p. ShowsEnd w p input input_now before now (Err r))) (have.is (record { input = told; sight = sight; cause = cause })) shows)
@@ -482,5 +508,5 @@ module _ (alike : PlansEndAlike) (laws : OverLaws) (words : List Text) (w : Read
           (shown_error input input_now before now r of_input.0 of_input.1 reading e shows) (shown_error input input_now2 before now2 r2 of_input.0 of_input.1 reading2 f shows2)
 
 pub planned_errors : PlansEndAlike → OverIsOver → OverIsNoMore → PlannedErrorsAreOne
-planned_errors alike is_over no_more words w sight input input_now input_now2 before now now2 r r2 have of_input of_out reading reading2 =
-    errors_one alike (is_over, no_more) words w sight input input_now input_now2 before now now2 r r2 have of_input of_out reading reading2
+planned_errors alike is_over no_more at_terminal words w sight input input_now input_now2 before now now2 r r2 have of_input of_out reading reading2 =
+    errors_one alike (is_over, no_more) at_terminal words w sight input input_now input_now2 before now now2 r r2 have of_input of_out reading reading2

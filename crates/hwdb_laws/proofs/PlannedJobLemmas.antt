@@ -17,6 +17,7 @@ use Rattle.hwdb_spec_commands.specs.Told.Stop.{NoDatabase}
 use Rattle.hwdb_spec_commands.specs.declared.job.Task.{Task}
 use Rattle.hwdb_spec_commands.specs.declared.job.Task.TheVariants.{Update}
 use Rattle.hwdb_spec_commands.specs.declared.unread.Unread.TheVariants as unread
+use Rattle.hwdb_plan.specs.Advice.{advised_if}
 use Rattle.hwdb_plan.specs.Plans.{Plan}
 use Rattle.hwdb_plan.specs.Plans.End.{Stops}
 use Rattle.hwdb_plan.specs.Plans.Plan.{Done}
@@ -25,7 +26,7 @@ use Rattle.hwdb_plan.specs.Requests.Command.{OfFiles}
 use Rattle.hwdb_plan.specs.Requests.Request.{Alone}
 use Rattle.hwdb_plan.specs.Status.{status_plan}
 use Rattle.hwdb_spec_program.specs.DeviceErrors.{asked_names}
-use Rattle.hwdb_spec_program.specs.ProgramPlan.{AskedUpdate, OldOrAsked, UpdatesIfAsked, as_given, asked_update, command, command_of, files_plan, found_command, found_update, root_given, strict_given, update_of}
+use Rattle.hwdb_spec_program.specs.ProgramPlan.{AskedUpdate, OldOrAsked, UpdatesIfAsked, advice_given, as_given, asked_update, command, command_of, files_plan, found_command, found_update, program_plan, root_given, strict_given, update_of}
 use Rattle.hwdb_laws.proofs.PlannedLemmas.{mapped}
 use Rattle.hwdb_laws.specs.PlannedJobs.{HaveUpdate, JobsArePlanned, NoneHaveBoth}
 use Rattle.hwdb_laws.specs.PlannedRuns.{HavePlan}
@@ -97,13 +98,17 @@ has_mapped : (f : Command → Plan) (o : Option Command) → is_some o ≡ true 
 has_mapped f None is = absurd cc
 has_mapped f (Some c) is = refl
 
-have_plan : (words : List Text) → ((sight : Sight) → is_some (command_of sight words) ≡ true) → HavePlan words
-have_plan words there = record {
-  plan = λ a. as_given (matches_of hwdb_app words) (subcommand_of hwdb_app words) (plan_in (files_plan a words));
-  is = λ a. ap (option_map (as_given (matches_of hwdb_app words) (subcommand_of hwdb_app words))) (is_in (files_plan a words) (has_mapped (plan_of asked_names a) (command_of a.sight words) (there a.sight)));
-}
+have_plan : (at_terminal : Bool) (words : List Text) → ((sight : Sight) → is_some (command_of sight words) ≡ true) → HavePlan at_terminal words
+have_plan at_terminal words there =
+    let top = matches_of hwdb_app words in
+    let found = subcommand_of hwdb_app words in
+    let line = advice_given found in record {
+      plan = λ a. advised_if at_terminal line (as_given top found (plan_in (files_plan a words)));
+      is = λ a. ap (λ (o : Option Plan). option_map (advised_if at_terminal line) (option_map (as_given top found) o))
+          (is_in (files_plan a words) (has_mapped (plan_of asked_names a) (command_of a.sight words) (there a.sight)));
+    }
 
-module _ (words : List Text) (found : Text × List Row) (is : subcommand_of hwdb_app words ≡ Some found) where
+module _ (at_terminal : Bool) (words : List Text) (found : Text × List Row) (is : subcommand_of hwdb_app words ≡ Some found) where
   abbrev Root : Text
   Root = root_given (matches_of hwdb_app words) found.1
 
@@ -111,12 +116,12 @@ module _ (words : List Text) (found : Text × List Row) (is : subcommand_of hwdb
   Strict = strict_given (matches_of hwdb_app words) found.1
 
   abbrev Either : Type 0
-  Either = HavePlan words ⊎ HaveUpdate words
+  Either = HavePlan at_terminal words ⊎ HaveUpdate words
 
-  of_command : ((sight : Sight) → is_some (command sight Root Strict found.0 found.1) ≡ true) → HavePlan words
-  of_command there = have_plan words (λ sight. subst (λ (o : Option (Text × List Row)). is_some (found_command sight (matches_of hwdb_app words) o) ≡ true) (sym is) (there sight))
+  of_command : ((sight : Sight) → is_some (command sight Root Strict found.0 found.1) ≡ true) → HavePlan at_terminal words
+  of_command there = have_plan at_terminal words (λ sight. subst (λ (o : Option (Text × List Row)). is_some (found_command sight (matches_of hwdb_app words) o) ≡ true) (sym is) (there sight))
 
-  other : bytes_eq found.0 (codes "update") ≡ false → bytes_eq found.0 (codes "help") ≡ false → HavePlan words
+  other : bytes_eq found.0 (codes "update") ≡ false → bytes_eq found.0 (codes "help") ≡ false → HavePlan at_terminal words
   other plain asked =
       of_command (λ sight. has (command sight Root Strict found.0 found.1) (bytes_eq found.0 (codes "update")) (bytes_eq found.0 (codes "help")) plain asked
       (entered_is (is_planned sight Root Strict found.1) words found (all_planned sight Root Strict found.1) is))
@@ -150,11 +155,11 @@ module _ (words : List Text) (found : Text × List Row) (is : subcommand_of hwdb
   either task asked false true plain help = absurd (no_task task (subst (λ (word : Text). IsTask word found.1 task) ((bytes_eq-Decides found.0 (codes "help")).0 help) asked))
 
 pub jobs_are_planned : JobsArePlanned
-jobs_are_planned words job asked = by (subcommand_of hwdb_app words) refl asked
+jobs_are_planned at_terminal words job asked = by (subcommand_of hwdb_app words) refl asked
   where
-    by : (found : Option (Text × List Row)) → subcommand_of hwdb_app words ≡ found → IsJobOf (matches_of hwdb_app words) found job → HavePlan words ⊎ HaveUpdate words
+    by : (found : Option (Text × List Row)) → subcommand_of hwdb_app words ≡ found → IsJobOf (matches_of hwdb_app words) found job → HavePlan at_terminal words ⊎ HaveUpdate words
     by None is job_is = absurd job_is
-    by (Some found) is job_is = either words found is job.task job_is.task (bytes_eq found.0 (codes "update")) (bytes_eq found.0 (codes "help")) refl refl
+    by (Some found) is job_is = either at_terminal words found is job.task job_is.task (bytes_eq found.0 (codes "update")) (bytes_eq found.0 (codes "help")) refl refl
 
 -- ---- no words have both
 -- any of what a run is told beside its files
@@ -191,18 +196,19 @@ commanded : (f : Command → Plan) (o : Option Command) (p : Plan) → option_ma
 commanded f None p is = absurd cc
 commanded f (Some c) p is = (c, refl)
 
-not_asked : (words : List Text) → HavePlan words → update_of words ≡ None
-not_asked words have =
-    let plain = mapped (as_given (matches_of hwdb_app words) (subcommand_of hwdb_app words)) (files_plan some_around words) (have.plan some_around) (have.is some_around) in
+not_asked : (at_terminal : Bool) (words : List Text) → HavePlan at_terminal words → update_of words ≡ None
+not_asked at_terminal words have =
+    let shown = mapped (advised_if at_terminal (advice_given (subcommand_of hwdb_app words))) (program_plan some_around words) (have.plan some_around) (have.is some_around) in
+    let plain = mapped (as_given (matches_of hwdb_app words) (subcommand_of hwdb_app words)) (files_plan some_around words) shown.0 shown.1 in
     let c = commanded (plan_of asked_names some_around) (command_of some_around.sight words) plain.0 plain.1 in
     not_found (matches_of hwdb_app words) (subcommand_of hwdb_app words) c.0 c.1
 
 pub none_have_both : NoneHaveBoth
-none_have_both words have update = let none = not_asked words have in let some = update.is in cc
+none_have_both at_terminal words have update = let none = not_asked at_terminal words have in let some = update.is in cc
 
 -- so no file changes
 pub runs_keep : (before now : Files) → PlannedRunsKeepFiles before now
-runs_keep before now words w ob on result have left = subst (λ (o : Option AskedUpdate). UpdatesIfAsked o w before now ob on result) (not_asked words have) left
+runs_keep before now at_terminal words w ob on result have left = subst (λ (o : Option AskedUpdate). UpdatesIfAsked o w before now ob on result) (not_asked at_terminal words have) left
 
 pub crashes_keep : (outcomes : Outcomes) → PlannedCrashesKeepFiles outcomes
-crashes_keep outcomes words w causes old have p v left = subst (λ (o : Option AskedUpdate). OldOrAsked o w causes old outcomes p v) (not_asked words have) left
+crashes_keep outcomes at_terminal words w causes old have p v left = subst (λ (o : Option AskedUpdate). OldOrAsked o w causes old outcomes p v) (not_asked at_terminal words have) left

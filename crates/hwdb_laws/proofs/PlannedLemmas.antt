@@ -25,6 +25,7 @@ use Rattle.hwdb_spec_commands.specs.declared.refusals.Refusal.{Refusal}
 use Rattle.hwdb_spec_commands.specs.declared.refusals.Refusal.TheVariants as refusal
 use Rattle.hwdb_spec_commands.specs.declared.unread.Unread.{Unread}
 use Rattle.hwdb_spec_commands.specs.declared.unread.Unread.TheVariants as unread
+use Rattle.hwdb_plan.specs.Advice.{advised, advised_if, with_advice}
 use Rattle.hwdb_plan.specs.Asking.{if_read}
 use Rattle.hwdb_plan.specs.Baseline.{if_marked, over_baseline}
 use Rattle.hwdb_plan.specs.Sysfs.{folder_of as folder_place, none_there, one_of, place_of, says, sysfs_of}
@@ -36,13 +37,14 @@ use Rattle.hwdb_plan.specs.Given.{given_at, given_or_asked}
 use Rattle.hwdb_plan.specs.GivenFolders.{files_at, files_for, if_few, if_folder, named_files}
 use Rattle.hwdb_plan.specs.Input.{IsInputTold}
 use Rattle.hwdb_plan.specs.Laws.{DoneIsOne, OverIsNoMore, OverIsOver}
+use Rattle.hwdb_plan.specs.Lemmas.Advice.{advised_is_no_more, advised_is_said}
 use Rattle.hwdb_plan.specs.Lemmas.Ends.{leaves_one, nothing_changed}
 use Rattle.hwdb_plan.specs.Lemmas.OverText.{said_is_after, said_is_no_more}
 use Rattle.hwdb_plan.specs.OverText.{Basis, basis, basis_of, from_basis, if_fit, is_first, text_plan, with_after}
 use Rattle.hwdb_plan.specs.Plans.{End, Ends, Next, Plan, over, reads_over}
 use Rattle.hwdb_plan.specs.Plans.End.{Answers, Lines, Replaces, Scans, Stops, Streams}
 use Rattle.hwdb_plan.specs.Plans.Plan.{Done, Input}
-use Rattle.hwdb_spec_program.specs.ProgramPlan.{ShowsPlan, as_given, command_of, files_plan, over_texts, program_plan, root_given, said_by}
+use Rattle.hwdb_spec_program.specs.ProgramPlan.{ShowsPlan, advice_given, as_given, command_of, files_plan, over_texts, program_plan, root_given, said_by, shown_plan}
 use Rattle.hwdb_plan.specs.Requests.{Around, Command, Request, Search, found_plan, plan_of, told_plan}
 use Rattle.hwdb_plan.specs.Requests.Command.{OfDevices, OfFiles}
 use Rattle.hwdb_plan.specs.Requests.Request.{Alone, AtPath, Fit, Meant, OfBase, OfSide, Over, Texts as OfTexts}
@@ -387,10 +389,10 @@ pub mapped : (f : Plan → Plan) (o : Option Plan) (p : Plan) → option_map f o
 mapped f None p is = absurd cc
 mapped f (Some x) p is = (x, refl, one_some (f x) p is)
 
-pub plan_moves : OverLaws → (w : Reads) (e : End) (Lost : Type 0) (sight : Sight) (cause cause2 : List ℕ) (one other : Result (List ℕ) Unread) → Serves w e Lost one other → AreServed w e Lost cause cause2
+words_move : OverLaws → (w : Reads) (e : End) (Lost : Type 0) (sight : Sight) (cause cause2 : List ℕ) (one other : Result (List ℕ) Unread) → Serves w e Lost one other → AreServed w e Lost cause cause2
     → (words : List Text) (p q : Plan) → program_plan (record { input = one; sight = sight; cause = cause }) words ≡ Some p → program_plan (record { input = other; sight = sight; cause = cause2 }) words ≡ Some q
     → Moves w e Lost p q
-plan_moves laws w e Lost sight cause cause2 one other serves causes words p q is is2 ends =
+words_move laws w e Lost sight cause cause2 one other serves causes words p q is is2 ends =
     let top = matches_of hwdb_app words in
     let found = subcommand_of hwdb_app words in
     let a : Around = record { input = one; sight = sight; cause = cause } in
@@ -399,6 +401,33 @@ plan_moves laws w e Lost sight cause cause2 one other serves causes words p q is
     let y = mapped (as_given top found) (files_plan b words) q is2 in
     let moved = given_words_move laws w e Lost x.0 y.0
     (λ r f so. found_moves r f Lost sight cause cause2 one other (serves_as w r e f Lost so one other serves) (served_as w r e f Lost so cause cause2 causes) (command_of sight words) x.0 y.0 x.1 y.1) top found in
+    subst (λ (z : Plan). Ends w z e ⊎ Lost) y.2 (moved (subst (λ (z : Plan). Ends w z e) (sym x.2) ends))
+
+-- on a terminal the line of a command moves with its plan
+module _ (w : Reads) (e : End) (Lost : Type 0) (p q : Plan) (step : (f : End) → StopsAs e f → Moves w f Lost p q) where
+  advised_moves : (line : List ℕ) → Moves w e Lost (advised line p) (advised line q)
+  advised_moves line ends =
+      let said = advised_is_no_more line w p e ends in
+      ⊎_elim (λ moved. inl (subst (λ (x : End). Ends w (advised line q) x) (sym said.2) (advised_is_said line w q said.0 moved))) (λ lost. inr lost)
+      (step said.0 (λ s stops. said.2 ∙ ap (with_advice line) stops) said.1)
+
+  seen_moves : (at_terminal : Bool) (line : Option (List ℕ)) → Moves w e Lost (advised_if at_terminal line p) (advised_if at_terminal line q)
+  seen_moves true (Some line) ends = advised_moves line ends
+  seen_moves true None ends = step e (λ s is. is) ends
+  seen_moves false (Some line) ends = step e (λ s is. is) ends
+  seen_moves false None ends = step e (λ s is. is) ends
+
+pub plan_moves : OverLaws → (w : Reads) (e : End) (Lost : Type 0) (sight : Sight) (cause cause2 : List ℕ) (one other : Result (List ℕ) Unread) → Serves w e Lost one other → AreServed w e Lost cause cause2
+    → (at_terminal : Bool) (words : List Text) (p q : Plan) → shown_plan at_terminal (record { input = one; sight = sight; cause = cause }) words ≡ Some p
+    → shown_plan at_terminal (record { input = other; sight = sight; cause = cause2 }) words ≡ Some q → Moves w e Lost p q
+plan_moves laws w e Lost sight cause cause2 one other serves causes at_terminal words p q is is2 ends =
+    let line = advice_given (subcommand_of hwdb_app words) in
+    let a : Around = record { input = one; sight = sight; cause = cause } in
+    let b : Around = record { input = other; sight = sight; cause = cause2 } in
+    let x = mapped (advised_if at_terminal line) (program_plan a words) p is in
+    let y = mapped (advised_if at_terminal line) (program_plan b words) q is2 in
+    let moved = seen_moves w e Lost x.0 y.0
+    (λ f so. words_move laws w f Lost sight cause cause2 one other (serves_as w w e f Lost so one other serves) (served_as w w e f Lost so cause cause2 causes) words x.0 y.0 x.1 y.1) at_terminal line in
     subst (λ (z : Plan). Ends w z e ⊎ Lost) y.2 (moved (subst (λ (z : Plan). Ends w z e) (sym x.2) ends))
 
 -- ---- two runs
@@ -416,11 +445,11 @@ one_serves w input n m k (Err why) told2 tells is is2 = inl (λ g done. inr (λ 
 one_serves w input n m k (Ok x) (Err why) tells is is2 = inr (λ g done. inr (λ end. done (unread_stop (codes "standard input") why) end))
 one_serves w input n m k (Ok x) (Ok y) tells is is2 = inl (λ g done. inl (ap Ok (one_told input n m k x y tells is is2)))
 
-done_moves : OverLaws → (w : Reads) (g : End) → IsDone g → (sight : Sight) (cause cause2 : List ℕ) (one other : Result (List ℕ) Unread) → Serves w g ⊥ one other → (words : List Text) (p q : Plan)
-    → program_plan (record { input = one; sight = sight; cause = cause }) words ≡ Some p → program_plan (record { input = other; sight = sight; cause = cause2 }) words ≡ Some q → Ends w p g → Ends w q g
-done_moves laws w g done sight cause cause2 one other serves words p q is is2 ends =
+done_moves : OverLaws → (w : Reads) (g : End) → IsDone g → (sight : Sight) (cause cause2 : List ℕ) (one other : Result (List ℕ) Unread) → Serves w g ⊥ one other → (at_terminal : Bool) (words : List Text) (p q : Plan)
+    → shown_plan at_terminal (record { input = one; sight = sight; cause = cause }) words ≡ Some p → shown_plan at_terminal (record { input = other; sight = sight; cause = cause2 }) words ≡ Some q → Ends w p g → Ends w q g
+done_moves laws w g done sight cause cause2 one other serves at_terminal words p q is is2 ends =
     ⊎_elim (λ moved. moved) (λ none. absurd none)
-    (plan_moves laws w g ⊥ sight cause cause2 one other serves (inr (λ text end. done (Says text) end)) words p q is is2 ends)
+    (plan_moves laws w g ⊥ sight cause cause2 one other serves (inr (λ text end. done (Says text) end)) at_terminal words p q is is2 ends)
 
 module _ (one_end : DoneIsOne) where
   done_is_one : (w : Reads) (p q : Plan) (e f : End) → IsDone e → IsDone f → ((g : End) → IsDone g → Ends w p g → Ends w q g) ⊎ ((g : End) → IsDone g → Ends w q g → Ends w p g)
@@ -449,7 +478,7 @@ shown_done (Streams text) input input_now before now n shows = λ s is. cc
 shown_done (Scans path count) input input_now before now n shows = λ s is. cc
 shown_done (Replaces folder bytes said status) input input_now before now n shows = λ s is. cc
 
-module _ (one_end : DoneIsOne) (laws : OverLaws) (words : List Text) (w : Reads) (sight : Sight) (input input_now input_now2 : Told) (before now now2 : Outs) (status status2 : ℕ) (have : HavePlan words)
+module _ (one_end : DoneIsOne) (laws : OverLaws) (at_terminal : Bool) (words : List Text) (w : Reads) (sight : Sight) (input input_now input_now2 : Told) (before now now2 : Outs) (status status2 : ℕ) (have : HavePlan at_terminal words)
     (of_input : Tells input) where
   abbrev Shown : (now : Outs) (input_now : Told) (status : ℕ) → Plan → Type 0
   Shown after input_after n p = ShowsEnd w p input input_after before after (Ok n)
@@ -476,14 +505,14 @@ module _ (one_end : DoneIsOne) (laws : OverLaws) (words : List Text) (w : Reads)
       let first : Around = record { input = told; sight = sight; cause = cause } in
       let second : Around = record { input = told2; sight = sight; cause = cause2 } in
       ⊎_elim
-      (λ one. inl (λ g done. done_moves laws w g done sight cause cause2 told told2 (one g done) words (have.plan first) (have.plan second) (have.is first) (have.is second)))
-      (λ other. inr (λ g done. done_moves laws w g done sight cause2 cause told2 told (other g done) words (have.plan second) (have.plan first) (have.is second) (have.is first)))
+      (λ one. inl (λ g done. done_moves laws w g done sight cause cause2 told told2 (one g done) at_terminal words (have.plan first) (have.plan second) (have.is first) (have.is second)))
+      (λ other. inr (λ g done. done_moves laws w g done sight cause2 cause told2 told (other g done) at_terminal words (have.plan second) (have.plan first) (have.is second) (have.is first)))
       serves
 
-  of_plan : (a : Around) (after : Outs) (input_after : Told) (n : ℕ) → IfSome (program_plan a words) (Shown after input_after n) → Shown after input_after n (have.plan a)
+  of_plan : (a : Around) (after : Outs) (input_after : Told) (n : ℕ) → IfSome (shown_plan at_terminal a words) (Shown after input_after n) → Shown after input_after n (have.plan a)
   of_plan a after input_after n shows = subst (λ (o : Option Plan). IfSome o (Shown after input_after n)) (have.is a) shows
 
-  runs_one : Tells before.err → Tells before.out → ShowsPlan (λ a. program_plan a words) w sight input input_now before now (Ok status) → ShowsPlan (λ a. program_plan a words) w sight input input_now2 before now2 (Ok status2) → IsOne
+  runs_one : Tells before.err → Tells before.out → ShowsPlan (λ a. shown_plan at_terminal a words) w sight input input_now before now (Ok status) → ShowsPlan (λ a. shown_plan at_terminal a words) w sight input input_now2 before now2 (Ok status2) → IsOne
   runs_one of_err of_out (told, so, (cause, line, shows)) (told2, so2, (cause2, line2, shows2)) =
       let first : Around = record { input = told; sight = sight; cause = cause } in
       let second : Around = record { input = told2; sight = sight; cause = cause2 } in
@@ -492,8 +521,8 @@ module _ (one_end : DoneIsOne) (laws : OverLaws) (words : List Text) (w : Reads)
       (of_plan first now input_now status shows) (of_plan second now2 input_now2 status2 shows2)
 
 pub planned_runs : DoneIsOne → OverIsOver → OverIsNoMore → PlannedRunsAreOne
-planned_runs one_end is_over no_more words w sight input input_now input_now2 before now now2 status status2 have of_input of_err of_out =
-    runs_one one_end (is_over, no_more) words w sight input input_now input_now2 before now now2 status status2 have of_input of_err of_out
+planned_runs one_end is_over no_more at_terminal words w sight input input_now input_now2 before now now2 status status2 have of_input of_err of_out =
+    runs_one one_end (is_over, no_more) at_terminal words w sight input input_now input_now2 before now now2 status status2 have of_input of_err of_out
 
 -- ---- a run that is done, and one that ends with an error
 pub too_long : (n most : ℕ) → n ≤ most → most < n → ⊥
@@ -529,7 +558,7 @@ module _ (path : Option (List ℕ)) (count : Option ℕ) (input input_now before
   scan_unfailed (refusal.At e at cause) h = absurd h
   scan_unfailed refusal.NoDatabase h = absurd h
 
-module _ (one_end : DoneIsOne) (laws : OverLaws) (words : List Text) (w : Reads) (sight : Sight) (input input_now input_now2 : Told) (before now now2 : Outs) (status : ℕ) (r : Refusal) (have : HavePlan words)
+module _ (one_end : DoneIsOne) (laws : OverLaws) (at_terminal : Bool) (words : List Text) (w : Reads) (sight : Sight) (input input_now input_now2 : Told) (before now now2 : Outs) (status : ℕ) (r : Refusal) (have : HavePlan at_terminal words)
     (of_input : Tells input) (unfailed : HasFailed input.failures input_now2.failures → ⊥) where
   abbrev Allowed : Type 0
   Allowed = (r ≡ refusal.Plain OutOfMemory) ⊎ (r ≡ refusal.Plain Write)
@@ -540,7 +569,7 @@ module _ (one_end : DoneIsOne) (laws : OverLaws) (words : List Text) (w : Reads)
   -- the plan stops, so that the other run isn't done
   moved : (e : End) → IsDone e → (one other : Result (List ℕ) Unread) (cause cause2 : List ℕ) → Serves w e ⊥ one other → Ends w (plan_told one cause) e → Ends w (plan_told other cause2) e
   moved e done one other cause cause2 serves ends =
-      done_moves laws w e done sight cause cause2 one other serves words (plan_told one cause) (plan_told other cause2)
+      done_moves laws w e done sight cause cause2 one other serves at_terminal words (plan_told one cause) (plan_told other cause2)
       (have.is (record { input = one; sight = sight; cause = cause })) (have.is (record { input = other; sight = sight; cause = cause2 })) ends
 
   stops : (e : End) (s : Stop) → IsDone e → (told told2 : Result (List ℕ) Unread) (cause cause2 : List ℕ) → IsInputTold input.bytes input.failures input_now.failures told
@@ -562,7 +591,7 @@ module _ (one_end : DoneIsOne) (laws : OverLaws) (words : List Text) (w : Reads)
       ⊎_elim
       (λ ends3. absurd (done s (one_end w (plan_told (Ok x) cause2) e (Stops s) done (moved e done (Ok x) (Ok x) cause cause2 (inl refl) ends) ends3)))
       (λ memory. inl (no_memory r (says ∙ memory)))
-      (plan_moves laws w (Stops s) (s ≡ Plain OutOfMemory) sight cause2 cause2 (Err unread.Memory) (Ok x) (inr (λ end. cc)) (inl refl) words (have.plan first) (have.plan second) (have.is first) (have.is second) ends2)
+      (plan_moves laws w (Stops s) (s ≡ Plain OutOfMemory) sight cause2 cause2 (Err unread.Memory) (Ok x) (inr (λ end. cc)) (inl refl) at_terminal words (have.plan first) (have.plan second) (have.is first) (have.is second) ends2)
 
   -- lines of standard input were answered, all of them in the one run
   streams : (text : List (List ℕ) → List ℕ) → Streamed text input.bytes before.out now.out → (x : Refusal) → r ≡ x → StreamStops text input input_now2 before.out now2.out x → Allowed
@@ -609,7 +638,7 @@ module _ (one_end : DoneIsOne) (laws : OverLaws) (words : List Text) (w : Reads)
   ends_so e (Streams text) told told2 cause cause2 is is2 ends ends2 shows shows2 =
       let done = shown_done e input input_now before now status shows in
       let same = done_is_one one_end w (plan_told told cause) (plan_told told2 cause2) e (Streams text) done (λ s is. cc)
-      (plans_are_one one_end laws words w sight input input_now input_now2 before now now2 status status have of_input told told2 cause cause2 (one_serves w input input.failures input_now.failures input_now2.failures told told2 of_input is is2)) ends ends2 in
+      (plans_are_one one_end laws at_terminal words w sight input input_now input_now2 before now now2 status status have of_input told told2 cause cause2 (one_serves w input input.failures input_now.failures input_now2.failures told told2 of_input is is2)) ends ends2 in
       shown_alike (Streams text) (subst (λ (x : End). Shows x input input_now before now (Ok status)) same shows) shows2
   ends_so e (Scans path count) told told2 cause cause2 is is2 ends ends2 shows shows2 = scan_unfailed path count input input_now2 before.out now2.out unfailed r shows2.0
   ends_so e (Replaces folder bytes said n) told told2 cause cause2 is is2 ends ends2 shows shows2 = absurd shows2
@@ -621,12 +650,12 @@ module _ (one_end : DoneIsOne) (laws : OverLaws) (words : List Text) (w : Reads)
   both told told2 cause cause2 is is2 (inl a) (inr none) = inl none.0
   both told told2 cause cause2 is is2 (inl (e, ends, shows)) (inl (f, ends2, shows2)) = ends_so e f told told2 cause cause2 is is2 ends ends2 shows shows2
 
-  no_error_then : ShowsPlan (λ a. program_plan a words) w sight input input_now before now (Ok status) → ShowsPlan (λ a. program_plan a words) w sight input input_now2 before now2 (Err r) → Allowed
+  no_error_then : ShowsPlan (λ a. shown_plan at_terminal a words) w sight input input_now before now (Ok status) → ShowsPlan (λ a. shown_plan at_terminal a words) w sight input input_now2 before now2 (Err r) → Allowed
   no_error_then (told, so, (cause, line, shows)) (told2, so2, (cause2, line2, shows2)) =
       both told told2 cause cause2 so so2
       (subst (λ (o : Option Plan). IfSome o (λ p. ShowsEnd w p input input_now before now (Ok status))) (have.is (record { input = told; sight = sight; cause = cause })) shows)
       (subst (λ (o : Option Plan). IfSome o (λ p. ShowsEnd w p input input_now2 before now2 (Err r))) (have.is (record { input = told2; sight = sight; cause = cause2 })) shows2)
 
 pub planned_done : DoneIsOne → OverIsOver → OverIsNoMore → PlannedDoneIsNoError
-planned_done one_end is_over no_more words w sight input input_now input_now2 before now now2 status r have of_input unfailed =
-    no_error_then one_end (is_over, no_more) words w sight input input_now input_now2 before now now2 status r have of_input unfailed
+planned_done one_end is_over no_more at_terminal words w sight input input_now input_now2 before now now2 status r have of_input unfailed =
+    no_error_then one_end (is_over, no_more) at_terminal words w sight input input_now input_now2 before now now2 status r have of_input unfailed

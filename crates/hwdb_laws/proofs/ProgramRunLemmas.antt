@@ -1,5 +1,5 @@
 -- Two runs of the program with the same words are one, and what an error of a run says of standard input is so.
-use Rattle.std.proofs.Common.{◌≡◌, ◌∙◌, ◌⊎◌, ⊎_elim, inl, inr, ap, refl, subst, sym, length, IfSome, List, Option, None, Result, Some, Ok, Err, ℕ, [], ◌<◌}
+use Rattle.std.proofs.Common.{◌≡◌, ◌∙◌, ◌⊎◌, ⊎_elim, inl, inr, ap, refl, subst, sym, length, IfSome, List, Option, None, Result, Some, Ok, Err, ℕ, [], ◌<◌, Bool}
 use Rattle.std.specs.Prelude.{codes}
 use Rattle.clap.specs.Simple.{subcommand_of}
 use Rattle.clap.specs.Walk.{Text}
@@ -24,7 +24,7 @@ use Rattle.hwdb_plan.specs.Input.{IsInputTold}
 use Rattle.hwdb_plan.specs.Laws.{DoneIsOne, OverIsNoMore, OverIsOver, PlansEndAlike}
 use Rattle.hwdb_plan.specs.Plans.{Ends, Plan}
 use Rattle.hwdb_plan.specs.Plans.End.{Answers, Lines, Replaces, Scans, Stops, Streams}
-use Rattle.hwdb_spec_program.specs.ProgramPlan.{IsReported, ShowsPlan, error_status, program_plan}
+use Rattle.hwdb_spec_program.specs.ProgramPlan.{IsReported, ShowsPlan, error_status, shown_plan}
 use Rattle.hwdb_plan.specs.Requests.{Around}
 use Rattle.hwdb_laws.proofs.PlannedErrorLemmas.{planned_errors}
 use Rattle.hwdb_laws.proofs.PlannedLemmas.{OverLaws, plan_moves, planned_done, planned_runs}
@@ -43,29 +43,29 @@ reported_error : (words : List Text) (result : Result ℕ Refusal) (status : ℕ
 reported_error words result status r err_then err_now is unwritten reported =
     ⊎_elim (λ said. said.0) (λ quiet. absurd (unwritten quiet.1)) (subst (λ (x : Result ℕ Refusal). Reported words x status err_then err_now) is reported)
 
-module _ (words : List Text) (w : Reads) (sight : Sight) (input input_now : Told) (before now : Outs) (status : ℕ) (run : IsRun words w sight input input_now before now status) where
-  shown_as : (result : Result ℕ Refusal) → run.result ≡ result → ShowsPlan (λ a. program_plan a words) w sight input input_now before (outs run.err_then now.out) result
-  shown_as result is = subst (λ (x : Result ℕ Refusal). ShowsPlan (λ a. program_plan a words) w sight input input_now before (outs run.err_then now.out) x) is run.shows
+module _ (at_terminal : Bool) (words : List Text) (w : Reads) (sight : Sight) (input input_now : Told) (before now : Outs) (status : ℕ) (run : IsRun at_terminal words w sight input input_now before now status) where
+  shown_as : (result : Result ℕ Refusal) → run.result ≡ result → ShowsPlan (λ a. shown_plan at_terminal a words) w sight input input_now before (outs run.err_then now.out) result
+  shown_as result is = subst (λ (x : Result ℕ Refusal). ShowsPlan (λ a. shown_plan at_terminal a words) w sight input input_now before (outs run.err_then now.out) x) is run.shows
 
 pub jobs_are_one : DoneIsOne → OverIsOver → OverIsNoMore → JobsAreOne
-jobs_are_one one_end is_over no_more words w sight input input_now input_now2 before now now2 status status2 n m have tell one two is is2 =
+jobs_are_one one_end is_over no_more at_terminal words w sight input input_now input_now2 before now now2 status status2 n m have tell one two is is2 =
     let (same, err, out) =
-    planned_runs one_end is_over no_more words w sight input input_now input_now2 before (outs one.err_then now.out) (outs two.err_then now2.out) n m have tell.input tell.err tell.out
-    (shown_as words w sight input input_now before now status one (Ok n) is) (shown_as words w sight input input_now2 before now2 status2 two (Ok m) is2) in
+    planned_runs one_end is_over no_more at_terminal words w sight input input_now input_now2 before (outs one.err_then now.out) (outs two.err_then now2.out) n m have tell.input tell.err tell.out
+    (shown_as at_terminal words w sight input input_now before now status one (Ok n) is) (shown_as at_terminal words w sight input input_now2 before now2 status2 two (Ok m) is2) in
     let (says, quiet) = reported_done words one.result status n one.err_then now.err is one.reported in
     let (says2, quiet2) = reported_done words two.result status2 m two.err_then now2.err is2 two.reported in
     (says ∙ same ∙ sym says2, ap (λ (t : Told). t.bytes) quiet ∙ err ∙ sym (ap (λ (t : Told). t.bytes) quiet2), out)
 
 pub done_job_is_no_error : DoneIsOne → OverIsOver → OverIsNoMore → DoneJobIsNoError
-done_job_is_no_error one_end is_over no_more words w sight input input_now input_now2 before now now2 status status2 n r have tell unfailed one two is is2 =
-    planned_done one_end is_over no_more words w sight input input_now input_now2 before (outs one.err_then now.out) (outs two.err_then now2.out) n r have tell.input unfailed
-    (shown_as words w sight input input_now before now status one (Ok n) is) (shown_as words w sight input input_now2 before now2 status2 two (Err r) is2)
+done_job_is_no_error one_end is_over no_more at_terminal words w sight input input_now input_now2 before now now2 status status2 n r have tell unfailed one two is is2 =
+    planned_done one_end is_over no_more at_terminal words w sight input input_now input_now2 before (outs one.err_then now.out) (outs two.err_then now2.out) n r have tell.input unfailed
+    (shown_as at_terminal words w sight input input_now before now status one (Ok n) is) (shown_as at_terminal words w sight input input_now2 before now2 status2 two (Err r) is2)
 
 pub jobs_end_in_one_error : PlansEndAlike → OverIsOver → OverIsNoMore → JobsEndInOneError
-jobs_end_in_one_error alike is_over no_more words w sight input input_now input_now2 before now now2 status status2 r r2 have tell reading reading2 one two is is2 =
+jobs_end_in_one_error alike is_over no_more at_terminal words w sight input input_now input_now2 before now now2 status status2 r r2 have tell reading reading2 one two is is2 =
     let (error, err, out) =
-    planned_errors alike is_over no_more words w sight input input_now input_now2 before (outs one.err_then now.out) (outs two.err_then now2.out) r r2 have tell.input tell.out reading reading2
-    (shown_as words w sight input input_now before now status one (Err r) is) (shown_as words w sight input input_now2 before now2 status2 two (Err r2) is2) in
+    planned_errors alike is_over no_more at_terminal words w sight input input_now input_now2 before (outs one.err_then now.out) (outs two.err_then now2.out) r r2 have tell.input tell.out reading reading2
+    (shown_as at_terminal words w sight input input_now before now status one (Err r) is) (shown_as at_terminal words w sight input input_now2 before now2 status2 two (Err r2) is2) in
     let says = reported_error words one.result status r one.err_then now.err is reading.outputs one.reported in
     let says2 = reported_error words two.result status2 r2 two.err_then now2.err is2 reading2.outputs two.reported in
     (says ∙ sym says2, error, err, out)
@@ -118,7 +118,7 @@ module _ (text : List (List ℕ) → List ℕ) (input input_now before now : Tol
   no_scan at count (refusal.At e p c) h is = absurd h
   no_scan at count refusal.NoDatabase h is = absurd h
 
-module _ (words : List Text) (w : Reads) (sight : Sight) (input input_now : Told) (before now : Outs) (r : Refusal) (error : ToolError) (path : List ℕ) (cause : Option Cause) (have : HavePlan words)
+module _ (at_terminal : Bool) (words : List Text) (w : Reads) (sight : Sight) (input input_now : Told) (before now : Outs) (r : Refusal) (error : ToolError) (path : List ℕ) (cause : Option Cause) (have : HavePlan at_terminal words)
     (says : stop_of r ≡ Over error path cause) (laws : OverLaws) where
   abbrev plan_of : (told : Result (List ℕ) Unread) (words_of_cause : List ℕ) → Plan
   plan_of told c = have.plan (record { input = told; sight = sight; cause = c })
@@ -134,24 +134,24 @@ module _ (words : List Text) (w : Reads) (sight : Sight) (input input_now : Told
   stops_or_streams p (inl (Replaces folder made said status, ends, shows)) = absurd shows
 
   -- what standard input is told doesn't matter, or the error is that it isn't told
-  spared : (why : Unread) (c : List ℕ) → Ends w (plan_of (Err why) c) (Stops (stop_of r)) → EndsWhateverIsRead words w sight have r ⊎ (stop_of r ≡ unread_stop (codes "standard input") why)
+  spared : (why : Unread) (c : List ℕ) → Ends w (plan_of (Err why) c) (Stops (stop_of r)) → EndsWhateverIsRead at_terminal words w sight have r ⊎ (stop_of r ≡ unread_stop (codes "standard input") why)
   spared why c ends =
       let first : Around = record { input = Err why; sight = sight; cause = c } in
       let second : Around = record { input = Ok []; sight = sight; cause = c } in
       ⊎_elim (λ moved. inl ([], c, moved)) (λ lost. inr lost)
       (plan_moves laws w (Stops (stop_of r)) (stop_of r ≡ unread_stop (codes "standard input") why) sight c c (Err why) (Ok [])
-      (inr (λ end. one_stop (stop_of r) (unread_stop (codes "standard input") why) end)) (inl refl) words (plan_of (Err why) c) (plan_of (Ok []) c) (have.is first) (have.is second) ends)
+      (inr (λ end. one_stop (stop_of r) (unread_stop (codes "standard input") why) end)) (inl refl) at_terminal words (plan_of (Err why) c) (plan_of (Ok []) c) (have.is first) (have.is second) ends)
 
   -- the plan ends so whatever is read, or standard input wasn't told, or a line of it is meant
   abbrev Traced : Type 0
-  Traced = EndsWhateverIsRead words w sight have r
+  Traced = EndsWhateverIsRead at_terminal words w sight have r
       ⊎ (((why : Unread) × IsInputTold input.bytes input.failures input_now.failures (Err why) × (stop_of r ≡ unread_stop (codes "standard input") why)) ⊎ IsOfStream input input_now error path)
 
   trace : (told : Result (List ℕ) Unread) (c : List ℕ) → IsInputTold input.bytes input.failures input_now.failures told → Ends w (plan_of told c) (Stops (stop_of r)) → Traced
   trace (Ok bytes) c so ends = inl (bytes, c, ends)
   trace (Err why) c so ends = ⊎_elim (λ whatever. inl whatever) (λ is. inr (inl (why, so, is))) (spared why c ends)
 
-  traced : ShowsPlan (λ a. program_plan a words) w sight input input_now before now (Err r) → Traced
+  traced : ShowsPlan (λ a. shown_plan at_terminal a words) w sight input input_now before now (Err r) → Traced
   traced (told, so, (c, line, shows)) =
       ⊎_elim (trace told c so) (λ stream. inr (inr stream))
       (stops_or_streams (plan_of told c) (subst (λ (o : Option Plan). IfSome o (λ p. ShowsEnd w p input input_now before now (Err r))) (have.is (record { input = told; sight = sight; cause = c })) shows))
@@ -192,22 +192,22 @@ unread_long unread.Memory path cause n m input so is = absurd cc
 unread_long (unread.Failed c) path cause n m input so is = absurd (failed_long path cause c is)
 
 pub input_is_read : OverIsOver → OverIsNoMore → InputIsRead
-input_is_read is_over no_more words w sight input input_now before now r cause have shows says =
+input_is_read is_over no_more at_terminal words w sight input input_now before now r cause have shows says =
     ⊎_elim (λ whatever. inr whatever)
     (λ other. ⊎_elim (λ unread. inl (unread_read unread.0 cause input.failures input_now.failures input.bytes unread.1 (sym says ∙ unread.2)))
     (λ stream. ⊎_elim (λ failed. inl failed.2) (λ line. not_a_line line.1) stream) other)
-    (traced words w sight input input_now before now r Read (codes "standard input") cause have says (is_over, no_more) shows)
+    (traced at_terminal words w sight input input_now before now r Read (codes "standard input") cause have says (is_over, no_more) shows)
 
 pub input_is_long : OverIsOver → OverIsNoMore → InputIsLong
-input_is_long is_over no_more words w sight input input_now before now r cause have shows says =
+input_is_long is_over no_more at_terminal words w sight input input_now before now r cause have shows says =
     ⊎_elim (λ whatever. inr whatever)
     (λ other. ⊎_elim (λ unread. inl (unread_long unread.0 (codes "standard input") cause input.failures input_now.failures input.bytes unread.1 (sym says ∙ unread.2)).0)
     (λ stream. ⊎_elim (λ failed. not_read failed.0) (λ line. not_a_line line.1) stream) other)
-    (traced words w sight input input_now before now r TooLong (codes "standard input") cause have says (is_over, no_more) shows)
+    (traced at_terminal words w sight input input_now before now r TooLong (codes "standard input") cause have says (is_over, no_more) shows)
 
 pub line_is_long : OverIsOver → OverIsNoMore → LineIsLong
-line_is_long is_over no_more words w sight input input_now before now r cause have shows says =
+line_is_long is_over no_more at_terminal words w sight input input_now before now r cause have shows says =
     ⊎_elim (λ whatever. inr whatever)
     (λ other. ⊎_elim (λ unread. not_a_line (sym (unread_long unread.0 (codes "a line of standard input") cause input.failures input_now.failures input.bytes unread.1 (sym says ∙ unread.2)).1))
     (λ stream. ⊎_elim (λ failed. not_a_line (sym failed.1)) (λ line. inl line.2) stream) other)
-    (traced words w sight input input_now before now r TooLong (codes "a line of standard input") cause have says (is_over, no_more) shows)
+    (traced at_terminal words w sight input input_now before now r TooLong (codes "a line of standard input") cause have says (is_over, no_more) shows)

@@ -24,3 +24,4 @@ pub mod ProgramRuns
 pub mod PlannedJobs
 pub mod PlannedUpdates
 pub mod ToldOnce
+pub mod ShownPlans

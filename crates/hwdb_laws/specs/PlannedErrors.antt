@@ -1,5 +1,5 @@
 -- What errors two runs with the same words end in, if the words have a plan. Our choice.
-use Rattle.std.specs.Prelude.{◌≡◌, ◌≢◌, ◌⊎◌, List, Option, Err, ℕ}
+use Rattle.std.specs.Prelude.{◌≡◌, ◌≢◌, ◌⊎◌, List, Option, Err, ℕ, Bool}
 use Rattle.clap.specs.Walk.{Text}
 use Rattle.hwdb_spec.specs.Failures.{HasFailed}
 use Rattle.hwdb_spec.specs.declared.causes.Cause.{Cause}
@@ -17,7 +17,7 @@ use Rattle.hwdb_plan.specs.Laws.{AreAlike}
 use Rattle.hwdb_plan.specs.Plans.{End}
 use Rattle.hwdb_plan.specs.Plans.End.{Stops}
 use Rattle.hwdb_spec_program.specs.DeviceErrors.{asked_names}
-use Rattle.hwdb_spec_program.specs.ProgramPlan.{ShowsPlan, program_plan}
+use Rattle.hwdb_spec_program.specs.ProgramPlan.{ShowsPlan, shown_plan}
 use Rattle.hwdb_laws.specs.PlannedRuns.{HavePlan, Tells}
 
 -- an error comes of what is read: there was memory, both outputs took what they were given, and no call of standard input failed
@@ -53,9 +53,9 @@ AreOneError r r2 = AreOneEnd (Stops (stop_of r)) (Stops (stop_of r2))
 -- Two runs begin with the same words, over one file system and one sysfs, and their devices tell the same. Each ends with an error that comes
 -- of what is read. Then they have one error, and both outputs have the same.
 abbrev pub PlannedErrorsAreOne : Type 0
-PlannedErrorsAreOne = (words : List Text) (w : Reads) (sight : Sight) (input input_now input_now2 : Told) (before now now2 : Outs) (r r2 : Refusal)
-    → HavePlan words → Tells input → Tells before.out
+PlannedErrorsAreOne = (at_terminal : Bool) (words : List Text) (w : Reads) (sight : Sight) (input input_now input_now2 : Told) (before now now2 : Outs) (r r2 : Refusal)
+    → HavePlan at_terminal words → Tells input → Tells before.out
     → IsOfReading input input_now r → IsOfReading input input_now2 r2
-    → ShowsPlan (λ a. program_plan a words) w sight input input_now before now (Err r)
-    → ShowsPlan (λ a. program_plan a words) w sight input input_now2 before now2 (Err r2)
+    → ShowsPlan (λ a. shown_plan at_terminal a words) w sight input input_now before now (Err r)
+    → ShowsPlan (λ a. shown_plan at_terminal a words) w sight input input_now2 before now2 (Err r2)
     → AreOneError r r2 × (now.err ≡ now2.err) × (now.out.bytes ≡ now2.out.bytes)

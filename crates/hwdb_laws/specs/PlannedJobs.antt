@@ -1,5 +1,5 @@
 -- Which words have a plan. Our choice.
-use Rattle.std.specs.Prelude.{◌≡◌, ◌⊎◌, List, Some}
+use Rattle.std.specs.Prelude.{◌≡◌, ◌⊎◌, List, Some, Bool}
 use Rattle.clap.specs.Walk.{Text}
 use Rattle.hwdb_spec_commands.specs.declared.job.Job.{Job}
 use Rattle.hwdb_spec_program.specs.ProgramPlan.{AskedUpdate, update_of}
@@ -13,8 +13,8 @@ pub record HaveUpdate (words : List Text) : Type 0 where
 
 -- words that ask for a job have a plan, or ask for an update
 abbrev pub JobsArePlanned : Type 0
-JobsArePlanned = (words : List Text) (job : Job) → AskFor words job → HavePlan words ⊎ HaveUpdate words
+JobsArePlanned = (at_terminal : Bool) (words : List Text) (job : Job) → AskFor words job → HavePlan at_terminal words ⊎ HaveUpdate words
 
 -- no words have both
 abbrev pub NoneHaveBoth : Type 0
-NoneHaveBoth = (words : List Text) → HavePlan words → HaveUpdate words → ⊥
+NoneHaveBoth = (at_terminal : Bool) (words : List Text) → HavePlan at_terminal words → HaveUpdate words → ⊥

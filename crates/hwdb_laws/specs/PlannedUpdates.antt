@@ -1,6 +1,6 @@
 -- What two updates over one input have in common that are done, and what runs leave that are no updates. Our choice.
 use Rattle.std.specs.List.{AllByRecursion}
-use Rattle.std.specs.Prelude.{◌≡◌, ◌≢◌, ◌⊎◌, ◌++◌, ℕ, Err, List, Ok, Option, Result, Some, IsOk, false}
+use Rattle.std.specs.Prelude.{◌≡◌, ◌≢◌, ◌⊎◌, ◌++◌, ℕ, Err, List, Ok, Option, Result, Some, IsOk, false, Bool}
 use Rattle.clap.specs.Walk.{Text}
 use Rattle.hwdb_spec.specs.Folders.{Choice, choice, path_of}
 use Rattle.hwdb_spec.specs.Store.{Contents, IsPartPath, Outcomes, Same, Stored, database_file, database_name, path_in}
@@ -76,10 +76,10 @@ PlannedUpdatesEndInOneError before now before2 now2 = (words : List Text) (w : R
 
 -- A run with words that have a plan changes no file: they ask for no update.
 abbrev pub PlannedRunsKeepFiles : (before now : Files) → Type 0
-PlannedRunsKeepFiles before now = (words : List Text) (w : Reads) (outs_before outs_now : Outs) (result : Result ℕ Refusal) → HavePlan words
+PlannedRunsKeepFiles before now = (at_terminal : Bool) (words : List Text) (w : Reads) (outs_before outs_now : Outs) (result : Result ℕ Refusal) → HavePlan at_terminal words
     → UpdatesIfAsked (update_of words) w before now outs_before outs_now result → AreKept before now
 
 -- A crash of it leaves what there was.
 abbrev pub PlannedCrashesKeepFiles : Outcomes → Type 0
-PlannedCrashesKeepFiles outcomes = (words : List Text) (w : Reads) (causes : List (List ℕ)) (old : Contents) → HavePlan words
+PlannedCrashesKeepFiles outcomes = (at_terminal : Bool) (words : List Text) (w : Reads) (causes : List (List ℕ)) (old : Contents) → HavePlan at_terminal words
     → (path : List ℕ) (v : Option Stored) → OldOrAsked (update_of words) w causes old outcomes path v → outcomes path v

@@ -28,7 +28,7 @@
 //!
 //! `rows` shows them. `planned` shows `PlannedRuns` and `PlannedErrors`: two runs with the same words are one, if the words have a plan.
 //! `planned_jobs` shows that all words that ask for a job have one, or ask for an update, and `planned_updates` that two updates are one.
-//! `program_runs` shows of runs of the program that they are one, and `told` that what is read for them follows from the contents.
+//! `shown` shows what a terminal changes (`ShownPlans`). `program_runs` shows of runs of the program that they are one, and `told` that what is read for them follows from the contents.
 #![tactic(auto)]
 
 mod planned;
@@ -36,6 +36,7 @@ mod planned_jobs;
 mod planned_updates;
 mod program_runs;
 mod rows;
+mod shown;
 mod told;
 
 pub use planned::{answers_are_one, errors_are_one};
@@ -48,4 +49,5 @@ pub use rows::{
     plan_rows, status_rows, sysfs_rows, task_rows, update_rows, verify_rows, wanted_rows,
     word_rows,
 };
+pub use shown::{shown_is_plain, shown_rows};
 pub use told::told_is_one;

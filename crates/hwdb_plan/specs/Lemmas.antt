@@ -14,3 +14,5 @@ pub mod Sides
 pub mod Diff
 pub mod Status
 pub mod OverText
+pub mod Answering
+pub mod Advice

@@ -2,7 +2,7 @@
 use Rattle.std.specs.Prelude.{◌++◌, ℕ, Bool, true, false, List, [], None, Option, Some, codes, if◌then◌else◌}
 use Rattle.hwdb_spec_commands.specs.AllStrings.{all_strings_text, unread_lines}
 use Rattle.hwdb_spec_commands.specs.DeviceAsked.{device_list, no_device_text}
-use Rattle.hwdb_spec_commands.specs.DeviceFound.{near_given, places_meant, several_text}
+use Rattle.hwdb_spec_commands.specs.DeviceFound.{near_given}
 use Rattle.hwdb_spec_commands.specs.DeviceTexts.{device_text}
 use Rattle.hwdb_spec_commands.specs.DeviceTree.{Sight, device_at}
 use Rattle.hwdb_spec_commands.specs.Exports.{export_sight, is_export, no_export_text, without_machine}
@@ -14,7 +14,7 @@ use Rattle.hwdb_plan.specs.OverText.{if_fit}
 use Rattle.hwdb_plan.specs.Plans.{Next, Plan}
 use Rattle.hwdb_plan.specs.Plans.End.{Answers}
 use Rattle.hwdb_plan.specs.Plans.Plan.{Decode, Done}
-use Rattle.hwdb_plan.specs.Sysfs.{one_of, says}
+use Rattle.hwdb_plan.specs.Sysfs.{meant_of, says}
 
 -- where an export has sysfs
 abbrev pub sys : List ℕ
@@ -38,9 +38,7 @@ none_found r given = says (no_device_text false given [] (near_given r.sight r.n
 
 -- the device that is meant, over the database that is asked; several are an error, and so is none
 abbrev pub found_device : Report → DeviceForm → (given : List ℕ) → Plan
-found_device r form given =
-    one_of (λ place. asked r.root (found_answer r form place)) (λ places. says (several_text r.sight r.names sys given places)) (none_found r given)
-    (places_meant r.sight r.names [] sys given)
+found_device r form given = meant_of r.sight r.names [] given sys (none_found r given) (λ place. asked r.root (found_answer r form place))
 
 -- a line for each device
 abbrev pub found_devices : Report → Plan

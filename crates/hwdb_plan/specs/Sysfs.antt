@@ -35,12 +35,16 @@ one_of next several none [] = none
 one_of next several none (place ∷ []) = next place
 one_of next several none (place ∷ other ∷ more) = several (place ∷ other ∷ more)
 
+-- what follows the place of the device that is meant, or what follows if none is; if several are, the error lists them
+abbrev pub meant_of : Sight → (names : List (List ℕ)) (root given sys : List ℕ) → (none : Plan) → ((place : List ℕ) → Plan) → Plan
+meant_of sight names root given sys none next =
+    one_of next (λ places. says (several_text sight names sys given places)) none (places_meant sight names root sys given)
+
 -- the error if no device is meant: what can't be read first that would tell of one, or that none is there
 abbrev pub none_there : Sight → (cause : List ℕ) (names : List (List ℕ)) (root given sys : List ℕ) → Plan
 none_there sight cause names root given sys =
     option_map_or (λ path. says (unread_text path cause)) (unread_for sight root sys given) (says (missing_text sight names root sys given cause))
 
--- What follows the place of the device that is meant. If several are, the error lists them; and none is an error, too.
+-- what follows the place of the device that is meant; none is an error, too
 abbrev pub place_of : Sight → (cause : List ℕ) (names : List (List ℕ)) (root given sys : List ℕ) → ((place : List ℕ) → Plan) → Plan
-place_of sight cause names root given sys next =
-    one_of next (λ places. says (several_text sight names sys given places)) (none_there sight cause names root given sys) (places_meant sight names root sys given)
+place_of sight cause names root given sys next = meant_of sight names root given sys (none_there sight cause names root given sys) next

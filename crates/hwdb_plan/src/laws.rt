@@ -1,5 +1,5 @@
 //! Laws of plans. Each function does nothing: its contract is the law.
-ghost use Rattle.hwdb_plan.specs.Advice.{AdviceRows, AdvisedIsNoMore, AdvisedIsSaid};
+ghost use Rattle.hwdb_plan.specs.Advice.{AdviceRows, AdvisedIsNoMore, AdvisedIsSaid, AdvisedRows};
 ghost use Rattle.hwdb_plan.specs.Laws.{AnswersLeaveAll, DoneIsOne, OnlyAskedMatters, OverIsNoMore, OverIsOver, PlansEndAlike};
 ghost use Rattle.hwdb_plan.specs.TextLaws.{SaidIsAfter, SaidIsNoMore, ShowsAfter};
 
@@ -72,19 +72,20 @@ pub fn only_asked_matters()
 {}
 
 /// A line on what to try next is said of what the plan ends in.
-#[tactic(auto, using(crate::proofs::AdviceLemmas::advised_is_said))]
+#[tactic(auto, using(crate::specs::Lemmas::Advice::advised_is_said))]
 pub fn advised_is_said()
     ensures { AdvisedIsSaid }
 {}
 
 /// And the plan ends in nothing else.
-#[tactic(auto, using(crate::proofs::AdviceLemmas::advised_is_no_more))]
+#[tactic(auto, using(crate::specs::Lemmas::Advice::advised_is_no_more))]
 pub fn advised_is_no_more()
     ensures { AdvisedIsNoMore }
 {}
 
 /// Worked rows: which line it is, and what has it.
-#[tactic(auto, using(crate::proofs::AdviceLemmas::advice_rows))]
+#[tactic(auto, using(crate::proofs::AdviceLemmas::advice_rows, crate::proofs::AdviceLemmas::advised_rows))]
 pub fn advice_rows()
-    ensures { AdviceRows }
+    ensures lines { AdviceRows }
+    ensures ends { AdvisedRows }
 {}

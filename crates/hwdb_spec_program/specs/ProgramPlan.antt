@@ -25,6 +25,7 @@ use Rattle.hwdb_spec_program.specs.DeviceErrors.{asked_names}
 use Rattle.hwdb_spec_program.specs.GivenDatabases.{names_twice, twice_text}
 use Rattle.hwdb_spec_program.specs.HidingPlan.{UpdatesTelling}
 use Rattle.hwdb_spec_program.specs.TaskRefusals.{IsRootRefused, IsSaid}
+use Rattle.hwdb_plan.specs.Advice.{advice_of, advised_if}
 use Rattle.hwdb_plan.specs.Answers.{explain_plan, query_plan}
 use Rattle.hwdb_plan.specs.Ask.{lone_answer}
 use Rattle.hwdb_plan.specs.Check.{check_request, said_of}
@@ -189,6 +190,16 @@ as_given top (Some found) p =
 abbrev pub program_plan : Around → (words : List Text) → Option Plan
 program_plan a words = option_map (as_given (matches_of hwdb_app words) (subcommand_of hwdb_app words)) (files_plan a words)
 
+-- ---- on a terminal
+-- what is said of a command that prints nothing, by its word and the device that its words name
+abbrev pub advice_given : Option (Text × List Row) → Option Text
+advice_given None = None
+advice_given (Some found) = advice_of found.0 (value_of (codes "MODALIAS") found.1)
+
+-- the plan of a run, by whether its standard error is a terminal: there it has that line
+abbrev pub shown_plan : (at_terminal : Bool) → Around → (words : List Text) → Option Plan
+shown_plan at_terminal a words = option_map (advised_if at_terminal (advice_given (subcommand_of hwdb_app words))) (program_plan a words)
+
 -- ---- updates
 -- what an update is asked for: the root, `--usr`, `--strict`, `--verbose`, and `--skip-unreadable`
 pub record AskedUpdate : Type 0 where
@@ -256,11 +267,12 @@ IsReported gone failed (Ok n) status err_then err_now = (status ≡ n) × (err_n
 IsReported gone failed (Err r) status err_then err_now =
     ((status ≡ failed) × IsSaid r err_then err_now) ⊎ ((status ≡ 0) × (r ≡ Plain Write) × gone × (err_now ≡ err_then))
 
--- a run shows what the plan of its words ends in, if they have one, or does the update that they ask for; and reports it
-pub record ReportsPlan (gone : Type 0) (words : List Text) (w : Reads) (before now : World) (status : ℕ) : Type 0 where
+-- A run shows what the plan of its words ends in, if they have one, or does the update that they ask for; and reports it. On a terminal the
+-- plan has a line for who gets nothing.
+pub record ReportsPlan (at_terminal : Bool) (gone : Type 0) (words : List Text) (w : Reads) (before now : World) (status : ℕ) : Type 0 where
   pub result : Result ℕ Refusal
   pub err_then : Told
-  pub shows : ShowsPlan (λ a. program_plan a words) w before.devices before.input now.input (outs_of before) (outs err_then now.out) result
+  pub shows : ShowsPlan (λ a. shown_plan at_terminal a words) w before.devices before.input now.input (outs_of before) (outs err_then now.out) result
   pub updates : UpdatesIfAsked (update_of words) w before.files now.files (outs_of before) (outs err_then now.out) result
   pub reported : IsReported gone (error_status (subcommand_of hwdb_app words)) result status err_then now.err
 
@@ -272,6 +284,6 @@ pub record AreWordsUnread (before now : World) (status : ℕ) : Type 0 where
   pub says : status ≡ 1
 
 -- If the words have no fault, the program follows their plan. Before that there may be no memory to read them, or their root can't be read.
-abbrev pub RunsPlan : (gone : Type 0) (words : List Text) → Reads → (before now : World) (status : ℕ) → Type 0
-RunsPlan gone words w before now status = fault_of hwdb_app words ≡ []
-    → ReportsPlan gone words w before now status ⊎ (AreWordsUnread before now status ⊎ IsRootRefused words status before now)
+abbrev pub RunsPlan : (at_terminal : Bool) (gone : Type 0) (words : List Text) → Reads → (before now : World) (status : ℕ) → Type 0
+RunsPlan at_terminal gone words w before now status = fault_of hwdb_app words ≡ []
+    → ReportsPlan at_terminal gone words w before now status ⊎ (AreWordsUnread before now status ⊎ IsRootRefused words status before now)

@@ -1,5 +1,6 @@
 -- A device, the lines of all of them, and what is said if there is none.
-use Rattle.std.proofs.Common.{◌≡◌, ◌<◌, ◌≤◌, ◌+◌, ◌∙◌, ◌++◌, ◌∷◌, [], ap, arith, append_assoc, false, flat_map, get_or, if◌then◌else◌, is_some, length, map, not, refl, sym, take, true, Bool, Global, List, Vec, ℕ}
+use Rattle.std.proofs.Common.{◌≡◌, ◌<◌, ◌≤◌, ◌+◌, ◌∙◌, ◌++◌, ◌∷◌, [], ap, arith, append_assoc, false, flat_map, get_or, if◌then◌else◌, is_some, length, map, not, refl, subst, sym, take, true, Bool, Err, Global, IfErr, List, Ok, Result, Vec, ℕ}
+use Rattle.std.specs.Result.{IsErrAnd}
 use Rattle.std.proofs.lemmas.List.{flat_map_more, take_all}
 use Rattle.hwdb_spec_commands.specs.DeviceAsked.{leads_nowhere}
 use Rattle.hwdb_spec_commands.specs.DeviceFound.{places_meant, several_text}
@@ -56,3 +57,8 @@ leads_somewhere sight root given some = go (has (byte "/") given) (is_some (sigh
     go : (b found : Bool) → (b ≡ true → found ≡ true) → (if b then not found else false) ≡ false
     go true found some = ap not (some refl)
     go false found some = refl
+
+-- an error that is handed on is what it was
+pub error_kept : {T : Type 0} (Is : Refusal → Type 0) (r : Refusal) (result : Result T Refusal) → IsErrAnd result (λ x. x ≡ r) → Is r → IfErr result Is
+error_kept Is r (Ok t) same is = absurd same
+error_kept Is r (Err x) same is = subst Is (sym same) is

@@ -12,4 +12,5 @@ pub mod Reloading
 pub mod Crash
 pub mod Failures
 pub mod Updating
+pub mod Advising
 pub mod Reported

@@ -13,13 +13,14 @@ ghost use Rattle.hwdb_spec_commands.specs.declared.job.Job.{Job};
 ghost use Rattle.hwdb_spec_commands.specs.declared.args.UpdateArgs.{UpdateArgs};
 ghost use Rattle.hwdb_spec_commands.specs.declared.job.Task.TheVariants.{Update};
 ghost use Rattle.hwdb_spec_program.specs.Program.{IsUpdate, OldOrAskedFor, OldOrDone, looks_below_root, reads_input, root_of};
-ghost use Rattle.hwdb_spec_program.specs.ProgramPlan.{OldOrAsked, RunsPlan, ShowsPlan, program_plan, update_of};
+ghost use Rattle.hwdb_spec_program.specs.ProgramPlan.{OldOrAsked, RunsPlan, ShowsPlan, shown_plan, update_of};
 ghost use Rattle.hwdb_spec_program.specs.TaskRefusals.{AreFaulty, AreRefused, AreTold, IsRootUnread, IsSaid, refused_status};
 ghost use Rattle.hwdb_spec_commands.specs.Refusals.{HasReason};
 ghost use Rattle.hwdb_spec_commands.specs.declared.refusals.Refusal.TheVariants.{Plain};
 ghost use Rattle.hwdb_tool.specs.Updating.{UpdatesAsAsked};
 ghost use Rattle.hwdb_tool.specs.Verbs.{ShowsAsked};
 
+use crate::advising::{run_advised, wants_advice};
 use crate::hiding::update_asked;
 use crate::outlet::Outlet;
 use crate::over_text::{asks_text, run_over_text};
@@ -38,6 +39,8 @@ use std::alloc::Global;
 ///
 /// Words that the command doesn't take, and that ask for no help, are an error. If the reader of `out` went away the status is
 /// 0, and nothing is said. Only a command that is given `-` reads of `input`.
+///
+/// `at_terminal` says whether `err` is a terminal. There `explain`, `near` and `device` say what to try next if they print nothing.
 pub fn program<D: Machine, I: Source, O: Outlet, E: Sink>(
     alloc: Global,
     words: &[String],
@@ -45,13 +48,14 @@ pub fn program<D: Machine, I: Source, O: Outlet, E: Sink>(
     input: &mut I,
     out: &mut O,
     err: &mut E,
+    at_terminal: bool,
 ) -> u8
     ensures status { result ≤ 2 }
     ensures wrong_words { AreWrong (map string_bytes words.now) → result ≡ 1 }
     ensures follows { D.Store.tells → let world = world_by (sight_by D.answers)
         (files_by D.Store.seen D.System.may_fail D.Store.may_leave D.Store.failures)
         (told_by I.left I.failures) (told_by O.Sink.taken O.Sink.failures) (told_by E.taken
-        E.failures) in RunsPlan (O.reader_gone out.new) (map string_bytes words.now)
+        E.failures) in RunsPlan at_terminal (O.reader_gone out.new) (map string_bytes words.now)
         (D.System.reads system.old) (world system.old input.old out.old err.old)
         (world system.new input.new out.new err.new) result }
     ensures any_crash { D.Store.tells → (causes : List (List ℕ))
@@ -83,7 +87,7 @@ pub fn program<D: Machine, I: Source, O: Outlet, E: Sink>(
 {
     match read_words(alloc, words) {
         Ok(job) => match enter_root(&job, system) {
-            Ok(()) => match run_job(alloc, &job, system, input, out, err) {
+            Ok(()) => match run_job(alloc, &job, system, input, out, err, at_terminal) {
                 Ok(status) => status,
                 Err(refusal) => refuse_job(alloc, refusal, refused_status(&job.task), out, err),
             },
@@ -182,7 +186,8 @@ fn refused_status(task: &Task) -> u8
     }
 }
 
-/// Does the job, and returns the status: 1 if `check`, `test` or `diff` finds something or `--strict` says so, else 0.
+/// Does the job, and returns the status: 1 if `check`, `test` or `diff` finds something or `--strict` says so, else 0. If `err` is a
+/// terminal, it says what to try next of a command that prints nothing.
 fn run_job<D: Machine, I: Source, O: Sink, E: Sink>(
     alloc: Global,
     job: &Job,
@@ -190,10 +195,11 @@ fn run_job<D: Machine, I: Source, O: Sink, E: Sink>(
     input: &mut I,
     out: &mut O,
     err: &mut E,
+    at_terminal: bool,
 ) -> Result<u8, Refusal>
     ensures status { IfOk result (λ status. status ≤ 1) }
     ensures follows { D.Store.tells → (words : List (List ℕ)) → AskFor words job.now
-        → ShowsPlan (λ a. program_plan a words) (D.System.reads system.old)
+        → ShowsPlan (λ a. shown_plan at_terminal a words) (D.System.reads system.old)
         (sight_by D.answers system.old)
         (told_by I.left I.failures input.old) (told_by I.left I.failures input.new)
         (outs (told_by E.taken E.failures err.old) (told_by O.taken O.failures out.old))
@@ -220,6 +226,9 @@ fn run_job<D: Machine, I: Source, O: Sink, E: Sink>(
     ensures err_hands_on { HandsOn (E.is_flushed err.old) (E.is_flushed err.new)
         (E.failures err.old) (E.failures err.new) }
 {
+    if wants_advice(at_terminal, &job.task) {
+        return run_advised(alloc, job, system, input, out, err);
+    }
     if asks_text(job) {
         return run_over_text(alloc, job, system, input, out, err);
     }

@@ -7,6 +7,7 @@
 //! | `printing` | the one place where that is printed |
 //! | `outlet` | where standard output goes to: a sink whose reader may go away |
 //! | `coloured` | one that shows what it takes in colour, and as a terminal is shown it |
+//! | `advising` | what is said on a terminal if a command prints nothing; `kept`: its texts until that is known |
 //! | `update_command` | `update`; `progress`: what it says of its files; `hiding`: of a database that hides the new one; `emptied`: of one that is lost |
 //! | `query_command` | `query`, of the devices of the words or of standard input; `in_parts`: of a database whose strings alone are held |
 //! | `answers` | `explain`, `list` and `ask` |
@@ -36,6 +37,7 @@
 //! calls of these are here too.
 #![tactic(auto)]
 
+mod advising;
 mod answer;
 mod answers;
 mod besides;
@@ -56,6 +58,7 @@ mod given_folders;
 mod hiding;
 mod in_parts;
 mod input_devices;
+mod kept;
 mod keys_command;
 mod laws;
 mod missing;

@@ -1,5 +1,6 @@
 //! Sysfs and a device in it, and what is said if there is none.
-ghost use Rattle.std.specs.Prelude.{◌≡◌, ◌++◌, [], map, List, Some, ℕ, IfErr, IfOk, OnOk};
+ghost use Rattle.std.specs.Option.{option_map_or};
+ghost use Rattle.std.specs.Prelude.{◌≡◌, ◌++◌, ◌∷◌, ◌⊎◌, [], map, List, Some, ℕ, IfErr, IfOk, OnOk};
 ghost use Rattle.hwdb_spec_commands.specs.DeviceAsked as spec;
 ghost use Rattle.hwdb_spec_commands.specs.DeviceFound as found;
 ghost use Rattle.hwdb_spec_commands.specs.DeviceFound.{only, places_meant};
@@ -8,7 +9,9 @@ ghost use Rattle.hwdb_spec.specs.Failures.{IsOneLine};
 ghost use Rattle.hwdb_spec_commands.specs.SysfsAnswers.{Answers, seen, sight_by};
 ghost use Rattle.hwdb_sysfs.specs.Finding as finding;
 ghost use Rattle.hwdb_spec_commands.specs.Refusals.{IsInWords};
-ghost use Rattle.hwdb_spec_program.specs.DeviceErrors.{IsNoDevice, IsNoSysfs, IsWorded, asked_names};
+ghost use Rattle.hwdb_spec_program.specs.DeviceErrors.{IsNoDevice, IsNoSysfs, IsWorded, SaysSeveral, asked_names};
+ghost use Rattle.hwdb_spec.specs.declared.errors.ToolError.TheVariants.{Memory};
+ghost use Rattle.hwdb_spec_commands.specs.declared.refusals.Refusal.TheVariants.{Plain};
 
 use hwdb_device::{fitting, near_given, several_text};
 use hwdb_io::Cause;
@@ -113,19 +116,43 @@ fn place_else<F: DeviceFiles>(
         → IfErr result (IsNoDevice root sys.now given.now (sight_by F.answers files.now)) }
     ensures worded { IfErr result IsWorded }
 {
-    let mut places = places_else(alloc, sys, given, &why, files)?;
-    if places.len() > 1 {
-        return Err(several(alloc, sys, given, &places, files));
-    }
-    match places.pop() {
+    match only_meant(alloc, sys, given, &why, files)? {
         Some(place) => Ok(place),
         None => Err(unmeant(alloc, sys, given, why, files)),
     }
 }
 
+/// The place of the only device that is meant, if no whole name is one's for this reason; nothing if none is. Several are an error.
+pub(crate) fn only_meant<F: DeviceFiles>(
+    alloc: Global,
+    sys: &[u8],
+    given: &[u8],
+    why: &Unfound,
+    files: &F,
+) -> Result<Option<Vec<u8>>, Refusal>
+    ensures meant { F.tells → (root : List ℕ)
+        → finding.IsUnfound (F.answers files.now) root sys.now given.now why.now
+        → IfOk result (λ o. places_meant (sight_by F.answers files.now) asked_names root sys.now
+        given.now ≡ option_map_or (λ place. place.items ∷ []) o []) }
+    ensures several { F.tells → (root : List ℕ)
+        → finding.IsUnfound (F.answers files.now) root sys.now given.now why.now
+        → IfErr result (λ r. (r ≡ Plain Memory)
+        ⊎ SaysSeveral root sys.now given.now (sight_by F.answers files.now) r) }
+    ensures worded { IfErr result IsWorded }
+{
+    let mut places = places_else(alloc, sys, given, why, files)?;
+    if places.len() > 1 {
+        return Err(several(alloc, sys, given, &places, files));
+    }
+    match places.pop() {
+        Some(place) => Ok(Some(place)),
+        None => Ok(None),
+    }
+}
+
 /// The places of the devices that are meant, if no whole name is one's for this reason. There are none if what would tell of a whole name
 /// can't be read.
-pub(crate) fn places_else<F: DeviceFiles>(
+fn places_else<F: DeviceFiles>(
     alloc: Global,
     sys: &[u8],
     given: &[u8],
@@ -147,7 +174,7 @@ pub(crate) fn places_else<F: DeviceFiles>(
 }
 
 /// What is said of several devices.
-pub(crate) fn several<F: DeviceFiles>(
+fn several<F: DeviceFiles>(
     alloc: Global,
     sys: &[u8],
     given: &[u8],

@@ -27,7 +27,7 @@ use crate::databases::{asked, refused_database};
 use crate::device_command::{device_form, list_text, text_over};
 use crate::every_device::{all_misuse, devices, strings_over};
 use crate::given::{INPUT, is_dash, read};
-use crate::missing::{no_device, places_else, several};
+use crate::missing::{no_device, only_meant};
 use crate::over_text::misused;
 use crate::verb::{Verb, root_of, text_of};
 use hwdb_cli::{DeviceArgs, Job};
@@ -246,11 +246,7 @@ fn place_else(
         why → IfErr result
         (IsUnfoundIn sys.now given.now (spec.export_sight (bytes_of export.now))) }
 {
-    let mut places = places_else(alloc, sys, given, &why, export)?;
-    if places.len() > 1 {
-        return Err(several(alloc, sys, given, &places, export));
-    }
-    match places.pop() {
+    match only_meant(alloc, sys, given, &why, export)? {
         Some(place) => Ok(place),
         None => Err(no_device(alloc, sys, given, false, b"", export)),
     }

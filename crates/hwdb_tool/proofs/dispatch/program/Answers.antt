@@ -12,7 +12,7 @@ use Rattle.hwdb_tool.proofs.MomentLemmas.{leaves_more, leaves_old}
 use Rattle.hwdb_tool.proofs.FlushLemmas.{handed_on, handed_on_twice}
 use Rattle.hwdb_tool.proofs.ReportLemmas.{help_is_told, refused_reported, status_is, usage_is_told}
 use Rattle.hwdb_plan.specs.Ended.{outs}
-use Rattle.hwdb_spec_program.specs.ProgramPlan.{OldOrAsked, ShowsPlan, UpdatesIfAsked, error_status, program_plan, update_of}
+use Rattle.hwdb_spec_program.specs.ProgramPlan.{OldOrAsked, ShowsPlan, UpdatesIfAsked, error_status, shown_plan, update_of}
 use Rattle.clap.specs.Simple.{subcommand_of}
 use Rattle.hwdb_spec_commands.specs.CommandLine.{hwdb_app}
 use Rattle.hwdb_tool.proofs.UpdatingLemmas.{crash_asked, crash_before, kept_so, leaves_kept, updates_asked}
@@ -74,7 +74,7 @@ returns-in-Ok-run_job-clause-follows g c = λ tells faultless.
     inl record {
       result = Ok c.in-Ok-run_job.status;
       err_then = E c.run_job.new.err;
-      shows = subst (λ (s : g.row.D.Denot). ShowsPlan (λ a. program_plan a words) (g.D.System.reads s) (sight_by g.D.DeviceFiles.answers s) (I c.args.input.now) (I c.run_job.new.input) before now (Ok c.in-Ok-run_job.status))
+      shows = subst (λ (s : g.row.D.Denot). ShowsPlan (λ a. shown_plan c.args.at_terminal a words) (g.D.System.reads s) (sight_by g.D.DeviceFiles.answers s) (I c.args.input.now) (I c.run_job.new.input) before now (Ok c.in-Ok-run_job.status))
           (c.enter_root.ensures.same tells) (c.in-Ok-run_job.ensures.follows tells words c.in-Ok.ensures.job);
       updates = subst (λ (s : g.row.D.Denot). UpdatesIfAsked (update_of words) (g.D.System.reads s) (F s) (F c.run_job.new.system) before now (Ok c.in-Ok-run_job.status)) (c.enter_root.ensures.same tells)
           (updates_asked words c.in-Ok.job c.in-Ok.ensures.job (g.D.System.reads c.enter_root.new.system) (F c.enter_root.new.system) (F c.run_job.new.system) before now (Ok c.in-Ok-run_job.status) (c.in-Ok-run_job.ensures.updates tells)
@@ -95,7 +95,7 @@ returns-in-Ok-enter_root-clause-follows g c = λ tells faultless.
     inl record {
       result = Err r;
       err_then = E c.run_job.new.err;
-      shows = subst (λ (s : g.row.D.Denot). ShowsPlan (λ a. program_plan a words) (g.D.System.reads s) (sight_by g.D.DeviceFiles.answers s) (I c.args.input.now) (I c.run_job.new.input) before now (Err r))
+      shows = subst (λ (s : g.row.D.Denot). ShowsPlan (λ a. shown_plan c.args.at_terminal a words) (g.D.System.reads s) (sight_by g.D.DeviceFiles.answers s) (I c.args.input.now) (I c.run_job.new.input) before now (Err r))
           (c.enter_root.ensures.same tells) (c.in-Err-run_job.ensures.follows tells words c.in-Ok.ensures.job);
       updates = subst (λ (s : g.row.D.Denot). UpdatesIfAsked (update_of words) (g.D.System.reads s) (F s) (F c.run_job.new.system) before now (Err r)) (c.enter_root.ensures.same tells)
           (updates_asked words c.in-Ok.job c.in-Ok.ensures.job (g.D.System.reads c.enter_root.new.system) (F c.enter_root.new.system) (F c.run_job.new.system) before now (Err r) (c.in-Err-run_job.ensures.updates tells)
