@@ -25,6 +25,7 @@
 //! | `annotations` | a finding as GitHub shows it beside its line |
 //! | `findings` | what is found in a line, in each format |
 //! | `fixes` | lines as they were likely meant, of which a warning is told |
+//! | `fragile` | patterns that name the firmware of a machine beside its model |
 //! | `logs` | findings as a log in SARIF |
 //! | `repeats` | match lines that their record has already |
 //! | `replacements` | assignments that a later line of the same file replaces |
@@ -53,6 +54,7 @@ mod fields;
 mod files;
 mod findings;
 mod fixes;
+mod fragile;
 mod hunks;
 mod judgements;
 mod kinds;

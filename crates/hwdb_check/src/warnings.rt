@@ -14,6 +14,7 @@ ghost use Rattle.hwdb_check.specs.Found.{finds};
 
 use crate::findings::{Finding, Found, put_found};
 use crate::fixes::fix_for;
+use crate::fragile::{fragile_place, push_fragile_hint};
 use crate::judgements::{
     judgement_place, judgement_text, push_judgement_hint, push_likelihood_hint, said_of,
 };
@@ -62,6 +63,7 @@ fn text_of(kind: WarningKind) -> &'static str
         WarningKind::MayBeTooDeep => {
             "with other lines, more than 2047 bytes may be too deep for udev"
         }
+        WarningKind::Fragile => "a version or a date of the firmware beside the model",
     }
 }
 
@@ -101,7 +103,8 @@ fn hint_of(kind: WarningKind) -> &'static str
         | WarningKind::Unread(_)
         | WarningKind::Unpaired
         | WarningKind::Unmatched(_)
-        | WarningKind::Unlikely(_) => "",
+        | WarningKind::Unlikely(_)
+        | WarningKind::Fragile => "",
     }
 }
 
@@ -130,6 +133,7 @@ fn push_hint(
         WarningKind::Unpaired => push_unpaired_hint(text, clean),
         WarningKind::Unmatched(judgement) => push_judgement_hint(alloc, text, judgement, clean),
         WarningKind::Unlikely(told) => push_likelihood_hint(alloc, text, told, clean),
+        WarningKind::Fragile => push_fragile_hint(alloc, text, clean),
         _ => push_words(text, hint_of(kind)),
     }
 }
@@ -156,6 +160,7 @@ fn warning_place(kind: WarningKind, line: &[u8], clean: &[u8]) -> usize
         }
         WarningKind::TooLongForUdev => wild_place(clean),
         WarningKind::MayBeTooDeep => LONGEST_LINE,
+        WarningKind::Fragile => fragile_place(clean),
     }
 }
 
