@@ -31,3 +31,4 @@ pub mod EditLemmas
 pub mod EditRecordLemmas
 pub mod HunkLemmas
 pub mod SureLaws
+pub mod AmongLemmas

@@ -6,12 +6,13 @@ ghost use Rattle.hwdb_spec_commands.specs.LikelyForms.{likely};
 ghost use Rattle.hwdb_spec.specs.Forms.{all_bytes_from, is_expected, judged};
 ghost use Rattle.hwdb_spec_commands.specs.Mends.{likely_after, mend_hint, mended};
 ghost use Rattle.hwdb_spec_commands.specs.Fields;
+ghost use Rattle.hwdb_spec_commands.specs.Fixes;
 ghost use Rattle.hwdb_spec_commands.specs.Reports.{shown};
 ghost use Rattle.hwdb_spec_commands.specs.Unmatched;
 
 use crate::fields::{meant_field, odd_field};
 use crate::fragile::push_before;
-use crate::mends::{front_of, has, likely_after, mended, push_mend, rest_of};
+use crate::mends::{front_of, has, likely_after, push_mend, rest_of};
 use crate::runs::{push_compare, push_runs, runs_of};
 use hwdb_forms::{Judged, expected, judge_both, likely_prefix};
 use hwdb_properties::{before, is_known};
@@ -251,36 +252,40 @@ fn push_other_hint(
 }
 
 /// Adds what to do about a pattern that goes wrong at a place: it is written as it was likely meant, or the bytes are named that could be
-/// there.
+/// there. `mend` is what was meant.
 fn push_dead_hint(
     alloc: Global,
     text: &mut Vec<u8>,
     pattern: &[u8],
     place: usize,
+    mend: &Option<Vec<u8>>,
 ) -> Result<(), AllocError>
+    requires { option_map (λ t. t.items) mend.now ≡ mended pattern.now place }
     ensures { OnOk result (text.new.items ≡ text.old.items ++ mend_hint pattern.now place
         (Unmatched.dead_hint pattern.now place) (mended pattern.now place)) }
 {
-    match mended(alloc, pattern, place)? {
-        Some(meant) => push_mend(text, pattern, place, &meant),
+    match mend {
+        Some(meant) => push_mend(text, pattern, place, meant),
         None => push_other_hint(alloc, text, pattern, place),
     }
 }
 
-/// Adds what to do about a pattern with this judgement.
+/// Adds what to do about a pattern with this judgement. `mend` is what was meant.
 pub fn push_judgement_hint(
     alloc: Global,
     text: &mut Vec<u8>,
     judgement: Judgement,
     pattern: &[u8],
+    mend: &Option<Vec<u8>>,
 ) -> Result<(), AllocError>
+    requires { option_map (λ t. t.items) mend.now ≡ Fixes.pattern_meant judgement pattern.now }
     ensures { OnOk result (text.new.items
         ≡ text.old.items ++ Unmatched.judgement_hint judgement pattern.now) }
 {
     match judgement {
         Judgement::Fine => Ok(()),
         Judgement::UnknownPrefix => push_prefix_hint(alloc, text, pattern),
-        Judgement::Dead(place) => push_dead_hint(alloc, text, pattern, place),
+        Judgement::Dead(place) => push_dead_hint(alloc, text, pattern, place, mend),
     }
 }
 
@@ -311,12 +316,14 @@ fn push_likely_hint(
     text: &mut Vec<u8>,
     pattern: &[u8],
     place: usize,
+    mend: &Option<Vec<u8>>,
 ) -> Result<(), AllocError>
+    requires { option_map (λ t. t.items) mend.now ≡ mended pattern.now place }
     ensures { OnOk result (text.new.items ≡ text.old.items ++ mend_hint pattern.now place
         (Unmatched.likely_place_hint (take place pattern.now)) (mended pattern.now place)) }
 {
-    match mended(alloc, pattern, place)? {
-        Some(meant) => push_mend(text, pattern, place, &meant),
+    match mend {
+        Some(meant) => push_mend(text, pattern, place, meant),
         None => push_likely_place_hint(alloc, text, front_of(pattern, place)),
     }
 }
@@ -328,50 +335,41 @@ fn field_at(pattern: &[u8], place: usize) -> &'static [u8]
     meant_field(rest_of(pattern, place))
 }
 
-/// Adds which field was likely meant, or what to do without that.
-fn push_field_hint(
-    alloc: Global,
-    text: &mut Vec<u8>,
-    field: &[u8],
-    pattern: &[u8],
-    place: usize,
-) -> Result<(), AllocError>
-    ensures { OnOk result (text.new.items
-        ≡ text.old.items ++ Unmatched.unlikely_hint field.now pattern.now place) }
-{
-    if field.is_empty() {
-        push_likely_hint(alloc, text, pattern, place)
-    } else {
-        push_meant(text, field)
-    }
-}
-
-/// Adds what to do about a pattern that likely goes wrong at a place.
+/// Adds what to do about a pattern that likely goes wrong at a place: which field was likely meant there, or what to do without that.
 fn push_unlikely_hint(
     alloc: Global,
     text: &mut Vec<u8>,
     pattern: &[u8],
     place: usize,
+    mend: &Option<Vec<u8>>,
 ) -> Result<(), AllocError>
+    requires { option_map (λ t. t.items) mend.now
+        ≡ Fixes.likely_meant (Judgement.Dead place) pattern.now }
     ensures { OnOk result (text.new.items
         ≡ text.old.items ++ Unmatched.likelihood_hint (Judgement.Dead place) pattern.now) }
 {
-    push_field_hint(alloc, text, field_at(pattern, place), pattern, place)
+    let field = field_at(pattern, place);
+    if !field.is_empty() {
+        return push_meant(text, field);
+    }
+    push_likely_hint(alloc, text, pattern, place, mend)
 }
 
-/// Adds what to do about a pattern of which this is said.
+/// Adds what to do about a pattern of which this is said. `mend` is what was meant.
 pub fn push_likelihood_hint(
     alloc: Global,
     text: &mut Vec<u8>,
     likelihood: Judgement,
     pattern: &[u8],
+    mend: &Option<Vec<u8>>,
 ) -> Result<(), AllocError>
+    requires { option_map (λ t. t.items) mend.now ≡ Fixes.likely_meant likelihood pattern.now }
     ensures { OnOk result (text.new.items
         ≡ text.old.items ++ Unmatched.likelihood_hint likelihood pattern.now) }
 {
     match likelihood {
         Judgement::Fine => Ok(()),
         Judgement::UnknownPrefix => push_compare(text),
-        Judgement::Dead(place) => push_unlikely_hint(alloc, text, pattern, place),
+        Judgement::Dead(place) => push_unlikely_hint(alloc, text, pattern, place, mend),
     }
 }

@@ -38,6 +38,7 @@
 //! | `files` | text files that are checked, one after another |
 //! | `edits` | the lines of a file, some of which are mended |
 //! | `edit_records` | the same, record by record |
+//! | `among` | whether some findings are all among others |
 //! | `sure` | which mends of a file are sure |
 //! | `hunks` | a unified patch of a file |
 //! | `patched` | the patch of text files, and what is said of some in a format |
@@ -45,6 +46,7 @@
 #![tactic(auto)]
 
 mod allowed;
+mod among;
 mod annotations;
 mod baselines;
 mod companions;

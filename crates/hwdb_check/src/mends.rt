@@ -9,7 +9,7 @@ ghost use Rattle.hwdb_check.specs.Mending.{outcome};
 ghost use Rattle.hwdb_spec_commands.specs.Properties.{is_hex_digit, lower};
 
 use crate::fields::field_row;
-use hwdb_forms::{expected_likely, judge_both};
+use hwdb_forms::{expected_likely, judge_likely};
 use hwdb_properties::same;
 use hwdb_show::{push_byte, push_shown};
 use hwdb_spec::Judgement;
@@ -323,8 +323,7 @@ pub fn likely_after(alloc: Global, front: &[u8]) -> Result<Vec<u8>, AllocError>
 fn likely_judgement(alloc: Global, pattern: &[u8]) -> Result<Judgement, AllocError>
     ensures { IfOk result (λ told. told ≡ Mends.likely_judgement pattern.now) }
 {
-    let judged = judge_both(alloc, pattern)?;
-    Ok(judged.likely)
+    judge_likely(alloc, pattern)
 }
 
 /// A pattern that goes wrong at a place, as it was likely meant there.
