@@ -569,7 +569,7 @@ def devices_of(text):
 FAULT_HINTS = {
     1: b"put a match line above it, with no empty line between them",
     2: b"put a property below it, on a line that begins with a space, or take the match line away",
-    3: b"put an empty line above it, and its properties below it",
+    3: b"put an empty line above it and its properties below it; a property begins with a space",
     4: b"write it as KEY=VALUE; a match line begins without a space",
     5: b"put a key in front of the =",
     6: b"take the byte away, or save the file as text without bytes 0, as UTF-8",

@@ -13,7 +13,7 @@ use Rattle.hwdb_spec_commands.specs.Kinds.{warning_name}
 use Rattle.hwdb_spec_commands.specs.Warnings.{gets, line_kinds, line_warnings, warns}
 use Rattle.hwdb_spec.specs.Lines.{Line, clean_line, is_dropped}
 use Rattle.hwdb_spec_commands.specs.declared.WarningKind.{WarningKind}
-use Rattle.hwdb_spec_commands.specs.declared.WarningKind.TheVariants.{ByteOrderMark, CarriageReturn, CutValue, EmptyRange, LeadingTab, MayBeTooDeep, Misused, OpenBracket, RepeatedMatch, Replaced, SpacedEquals, TooLongForUdev, Unlikely, Unmatched, Unpaired, Unread}
+use Rattle.hwdb_spec_commands.specs.declared.WarningKind.TheVariants.{ByteOrderMark, CarriageReturn, CutValue, EmptyRange, Fragile, LeadingTab, MayBeTooDeep, Misused, OpenBracket, RepeatedMatch, Replaced, SpacedEquals, TooLongForUdev, Unlikely, Unmatched, Unpaired, Unread}
 use Rattle.hwdb_spec_commands.specs.declared.kinds.TheConstants.{KINDS}
 use Rattle.hwdb_spec_commands.specs.declared.vocabulary.Misuse.TheVariants.{NearName, OldName, ScanCode, SingularMatrix, TwoDefaults, UnfitValue, UnknownKey, ZeroRow}
 use Rattle.hwdb_check.specs.Kept.{AreAlike, is_named, kept, kept_of}
@@ -30,7 +30,7 @@ AreOne (k ∷ ks) = (names_in k ≡ k ∷ []) × AreOne ks
 
 kinds_are_one : AreOne kinds
 unfolding pieces trimmed
-kinds_are_one = (refl, (refl, (refl, (refl, (refl, (refl, (refl, (refl, (refl, (refl, (refl, (refl, (refl, (refl, (refl, (refl, (refl, (refl, (refl, (refl, (refl, (refl, (refl, (refl, refl))))))))))))))))))))))))
+kinds_are_one = (refl, (refl, (refl, (refl, (refl, (refl, (refl, (refl, (refl, (refl, (refl, (refl, (refl, (refl, (refl, (refl, (refl, (refl, (refl, (refl, (refl, (refl, (refl, (refl, (refl, refl)))))))))))))))))))))))))
 
 or_false : (b : Bool) → (b || false) ≡ b
 or_false true = refl
@@ -96,6 +96,7 @@ known (Unmatched (Dead place)) = refl
 known (Unlikely told) = refl
 known TooLongForUdev = refl
 known MayBeTooDeep = refl
+known Fragile = refl
 
 -- what is kept lets the same kinds pass
 pub kept_alike : (ts : List (List ℕ)) → AreAlike (kept ts) (flat_map names_in ts)

@@ -9,6 +9,7 @@ use Rattle.std.proofs.lemmas.Bool.{le-ltb}
 use Rattle.std.proofs.lemmas.Cmp.{nat_list_cmp_total, tied_itself}
 use Rattle.hwdb_spec.specs.Folders.{same}
 use Rattle.hwdb_spec.specs.Forms.{CanMatch, Form, all_bytes_from, can_match, is_unknown, judged}
+use Rattle.hwdb_spec_commands.specs.Fragile.{fragile_place, is_fragile, outlasting}
 use Rattle.hwdb_spec_commands.specs.Kinds.{warning_name}
 use Rattle.hwdb_spec.specs.Lines.{begins_with, byte, is, is_none, max_pattern, pieces}
 use Rattle.hwdb_spec_commands.specs.Mends.{begins_field, follow, is_field_after, is_fine, likely_after, likely_judgement, mended_in, moved, moved_before, ordered, start_of, step}
@@ -20,10 +21,10 @@ use Rattle.hwdb_spec.specs.Patterns.{tokens}
 use Rattle.hwdb_forms.specs.Laws.{FormsAreTested}
 use Rattle.hwdb_spec.specs.declared.Judgement.{Judgement}
 use Rattle.hwdb_spec.specs.declared.Judgement.TheVariants.{Dead, Fine, UnknownPrefix}
-use Rattle.hwdb_spec_commands.specs.declared.WarningKind.TheVariants.{ByteOrderMark, CarriageReturn, CutValue, EmptyRange, LeadingTab, MayBeTooDeep, Misused, OpenBracket, RepeatedMatch, Replaced, SpacedEquals, TooLongForUdev, Unlikely, Unmatched, Unpaired, Unread}
+use Rattle.hwdb_spec_commands.specs.declared.WarningKind.TheVariants.{ByteOrderMark, CarriageReturn, CutValue, EmptyRange, Fragile, LeadingTab, MayBeTooDeep, Misused, OpenBracket, RepeatedMatch, Replaced, SpacedEquals, TooLongForUdev, Unlikely, Unmatched, Unpaired, Unread}
 use Rattle.hwdb_spec_commands.specs.declared.WarningKind.{WarningKind}
 use Rattle.hwdb_spec_commands.specs.declared.vocabulary.Misuse.TheVariants.{NearName, OldName, ScanCode, SingularMatrix, TwoDefaults, UnfitValue, UnknownKey, ZeroRow}
-use Rattle.hwdb_check.specs.Laws.{FieldRows, KindsAreNamed, LikelihoodIsJudged, MendRows, MendsAreLikely, PatternsAreJudged, RunsAreAll, TooDeepRows, TooLongRows, UnmatchedRows, kind_number, kinds, run_bytes}
+use Rattle.hwdb_check.specs.Laws.{FieldRows, FragileRows, KindsAreNamed, LikelihoodIsJudged, MendRows, MendsAreLikely, PatternsAreJudged, RunsAreAll, TooDeepRows, TooLongRows, UnmatchedRows, kind_number, kinds, run_bytes}
 
 -- ---- runs
 one_more : (n first : ℕ) → all_bytes_from (suc n) first ≡ all_bytes_from n first ++ (n + first) ∷ []
@@ -256,6 +257,9 @@ mend_rows = record {
   small = refl;
   letter = refl;
   blanks = refl;
+  underlined = refl;
+  kept = refl;
+  no_underline = refl;
   colon = refl;
   other = refl;
   end = refl;
@@ -272,6 +276,8 @@ mend_rows = record {
   is_letter = refl;
   is_blank = refl;
   is_colon = refl;
+  is_underlined = refl;
+  is_letter_led = refl;
   is_missing = refl;
   is_replaced = refl;
   is_too_much = refl;
@@ -285,7 +291,7 @@ mend_rows = record {
 }
 
 pub unmatched_rows : UnmatchedRows
-unfolding runs_from all_bytes_from
+unfolding runs_from all_bytes_from pieces
 unmatched_rows = record {
   fine = refl;
   unknown = refl;
@@ -301,6 +307,10 @@ unmatched_rows = record {
   meant = refl;
   other = refl;
   nothing = refl;
+  property = refl;
+  alike = refl;
+  no_bus = refl;
+  other_bus = refl;
 }
 
 -- ---- names
@@ -338,7 +348,7 @@ names = kinds ++ [] ∷ []
 
 -- where a kind's name is
 abbrev IsAt : WarningKind → Type 0
-IsAt kind = (kind_number kind < 25) × (warning_name kind ≡ get_or names (kind_number kind) [])
+IsAt kind = (kind_number kind < 26) × (warning_name kind ≡ get_or names (kind_number kind) [])
 
 are_distinct : distinct names ≡ true
 unfolding distinct pieces
@@ -372,16 +382,17 @@ at (Unmatched Fine) = (omega arith, refl)
 at (Unlikely told) = (omega arith, refl)
 at TooLongForUdev = (omega arith, refl)
 at MayBeTooDeep = (omega arith, refl)
+at Fragile = (omega arith, refl)
 
-long : length names ≡ 25
+long : length names ≡ 26
 unfolding pieces
 long = refl
 
-among : (n : ℕ) (name : List ℕ) → n < 25 → name ≡ get_or names n [] → (n ≡ 24) ⊎ Contains kinds name
+among : (n : ℕ) (name : List ℕ) → n < 26 → name ≡ get_or names n [] → (n ≡ 25) ⊎ Contains kinds name
 unfolding pieces
-among n name lt is = by (n == 24) refl
+among n name lt is = by (n == 25) refl
   where
-    short : length kinds ≡ 24
+    short : length kinds ≡ 25
     short = refl
 
     in_front : (xs : List (List ℕ)) (i : ℕ) → i < length xs → get_or (xs ++ [] ∷ []) i [] ≡ get_or xs i name
@@ -389,10 +400,10 @@ among n name lt is = by (n == 24) refl
     in_front (x ∷ xs) zero h = refl
     in_front (x ∷ xs) (suc i) h = in_front xs i (omega (arith, h))
 
-    by : (c : Bool) → (n == 24) ≡ c → (n ≡ 24) ⊎ Contains kinds name
-    by true e = inl (eqb-true n 24 e)
+    by : (c : Bool) → (n == 25) ≡ c → (n ≡ 25) ⊎ Contains kinds name
+    by true e = inl (eqb-true n 25 e)
     by false e =
-        let other : n ≡ 24 → ⊥ = λ k. (let t : (n == 24) ≡ true = ap (λ (m : ℕ). m == 24) k in let both : true ≡ false = sym t ∙ e in cc) in
+        let other : n ≡ 25 → ⊥ = λ k. (let t : (n == 25) ≡ true = ap (λ (m : ℕ). m == 25) k in let both : true ≡ false = sym t ∙ e in cc) in
         let h : n < length kinds = subst (λ (m : ℕ). n < m) (sym short) (omega (arith, lt, other)) in
         inr (n, h, sym (in_front kinds n h) ∙ sym is)
 
@@ -419,6 +430,26 @@ too_deep_rows = record {
   place = refl;
 }
 
+pub fragile_rows : FragileRows
+unfolding is_fragile fragile_place outlasting pieces
+fragile_rows = record {
+  whole = refl;
+  date = refl;
+  releases = refl;
+  any = refl;
+  wildcard = refl;
+  empty = refl;
+  without = refl;
+  unfilled = refl;
+  before = refl;
+  elsewhere = refl;
+  places = refl;
+  at = refl;
+  written = refl;
+  colon = refl;
+  mended = refl;
+}
+
 pub named_kinds : KindsAreNamed
 unfolding pieces
 named_kinds = record {
@@ -426,7 +457,7 @@ named_kinds = record {
   all = (
     ByteOrderMark ∷ LeadingTab ∷ CarriageReturn ∷ OpenBracket ∷ EmptyRange ∷ SpacedEquals ∷ CutValue ∷ RepeatedMatch ∷ Replaced 0 ∷ Misused NearName ∷ Misused OldName
         ∷ Misused ScanCode ∷ Misused UnknownKey ∷ Misused UnfitValue ∷ Misused ZeroRow ∷ Misused SingularMatrix ∷ Misused TwoDefaults
-        ∷ Unread true ∷ Unread false ∷ Unpaired ∷ Unmatched UnknownPrefix ∷ Unmatched (Dead 0) ∷ Unlikely Fine ∷ TooLongForUdev ∷ [],
+        ∷ Unread true ∷ Unread false ∷ Unpaired ∷ Unmatched UnknownPrefix ∷ Unmatched (Dead 0) ∷ Unlikely Fine ∷ TooLongForUdev ∷ Fragile ∷ [],
     refl,
   );
   own = λ one two e.

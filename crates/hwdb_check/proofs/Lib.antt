@@ -10,6 +10,7 @@ pub mod AscendLemmas
 pub mod RunLemmas
 pub mod SoughtLemmas
 pub mod FieldLemmas
+pub mod FragileLemmas
 pub mod LawLemmas
 pub mod CommentLaws
 pub mod BracketLemmas
@@ -30,3 +31,4 @@ pub mod EditLemmas
 pub mod EditRecordLemmas
 pub mod HunkLemmas
 pub mod SureLaws
+pub mod AmongLemmas

@@ -4,7 +4,7 @@ use Rattle.hwdb_spec_commands.specs.Findings.{fix_for}
 use Rattle.hwdb_spec_commands.specs.Fixes.{fix}
 use Rattle.hwdb_spec_commands.specs.Warnings.{warning_hint}
 use Rattle.hwdb_spec_commands.specs.declared.WarningKind.{WarningKind}
-use Rattle.hwdb_spec_commands.specs.declared.WarningKind.TheVariants.{ByteOrderMark, CarriageReturn, CutValue, EmptyRange, LeadingTab, MayBeTooDeep, Misused, OpenBracket, RepeatedMatch, Replaced, SpacedEquals, TooLongForUdev, Unlikely, Unmatched, Unpaired, Unread}
+use Rattle.hwdb_spec_commands.specs.declared.WarningKind.TheVariants.{ByteOrderMark, CarriageReturn, CutValue, EmptyRange, Fragile, LeadingTab, MayBeTooDeep, Misused, OpenBracket, RepeatedMatch, Replaced, SpacedEquals, TooLongForUdev, Unlikely, Unmatched, Unpaired, Unread}
 use Rattle.hwdb_spec_commands.specs.declared.vocabulary.Misuse.TheVariants.{NearName, OldName, ScanCode, SingularMatrix, TwoDefaults, UnfitValue, UnknownKey, ZeroRow}
 use Rattle.hwdb_spec_commands.specs.declared.formats.Format.{Format}
 use Rattle.hwdb_spec_commands.specs.declared.formats.Format.TheVariants.{Github, Json as JsonLines, Patch, Sarif, Text as Reports}
@@ -32,6 +32,7 @@ same_hint (Unmatched told) n m t = refl
 same_hint (Unlikely told) n m t = refl
 same_hint TooLongForUdev n m t = refl
 same_hint MayBeTooDeep n m t = refl
+same_hint Fragile n m t = refl
 
 same_fix : (kind : WarningKind) (n m : ℕ) (t source : List ℕ) → fix kind (line_of n t) source ≡ fix kind (line_of m t) source
 same_fix ByteOrderMark n m t source = refl
@@ -57,6 +58,7 @@ same_fix (Unmatched told) n m t source = refl
 same_fix (Unlikely told) n m t source = refl
 same_fix TooLongForUdev n m t source = refl
 same_fix MayBeTooDeep n m t source = refl
+same_fix Fragile n m t source = refl
 
 pub same_fix_for : (format : Format) (kind : WarningKind) (n m : ℕ) (t source : List ℕ) → fix_for format kind (line_of n t) source ≡ fix_for format kind (line_of m t) source
 same_fix_for Reports kind n m t source = refl

@@ -197,7 +197,7 @@ module _ (file : List ℕ) (f : IsFlat file) (l : Line) where
 
   silent_empty : Silent []
   silent_empty =
-      (refl, (refl, (refl, (refl, (refl, (refl, (refl, (not_repeated, (not_replaced, (refl, (f.unread l.number, (f.unpaired l.number, (judged_none, (likely_none, (refl, (refl, tt))))))))))))))))
+      (refl, (refl, (refl, (refl, (refl, (refl, (refl, (not_repeated, (not_replaced, (refl, (f.unread l.number, (f.unpaired l.number, (judged_none, (likely_none, (refl, (refl, (refl, tt)))))))))))))))))
 
   silent_property : (t : List ℕ) → has 13 (32 ∷ t) ≡ false → is_cut l (line_of l.number (32 ∷ t)) ≡ false → IsGiven own IsOwn (line_of l.number (32 ∷ t)) → Silent (32 ∷ t)
   silent_property t h c g =
@@ -224,7 +224,7 @@ module _ (file : List ℕ) (f : IsFlat file) (l : Line) where
                         not_replaced,
                         (
                           misused_by true (has_equals clean) (has_key clean) (is_spaced clean) (misuse (key clean) (value clean)) (p.common.any (value clean)),
-                          (f.unread l.number, (f.unpaired l.number, (judged_property t, (likely_property t, (refl, (refl, tt)))))),
+                          (f.unread l.number, (f.unpaired l.number, (judged_property t, (likely_property t, (refl, (refl, (refl, tt))))))),
                         ),
                       ),
                     ),
@@ -260,7 +260,7 @@ module _ (file : List ℕ) (f : IsFlat file) (l : Line) where
                         not_replaced,
                         (
                           no_misuse (is_property clean) _ n,
-                          (f.unread l.number, (f.unpaired l.number, (p.judged, (p.likely, (p.short, (p.shallow, tt)))))),
+                          (f.unread l.number, (f.unpaired l.number, (p.judged, (p.likely, (p.short, (p.shallow, (p.lasting, tt))))))),
                         ),
                       ),
                     ),

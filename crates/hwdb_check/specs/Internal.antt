@@ -19,7 +19,7 @@ use Rattle.hwdb_spec_commands.specs.Surroundings.{companions_text, is_alone, is_
 use Rattle.hwdb_spec_commands.specs.Unmatched.{judgement_of, likelihood_of}
 use Rattle.hwdb_spec_commands.specs.Warnings.{gives_value, greatest, last_with, misused, repeated_from, repeated_lines, replaces, replacing}
 use Rattle.hwdb_spec_commands.specs.declared.WarningKind.{WarningKind}
-use Rattle.hwdb_spec_commands.specs.declared.WarningKind.TheVariants.{Misused, Replaced, SpacedEquals, Unlikely, Unmatched, Unpaired, Unread}
+use Rattle.hwdb_spec_commands.specs.declared.WarningKind.TheVariants.{Fragile, Misused, Replaced, SpacedEquals, Unlikely, Unmatched, Unpaired, Unread}
 use Rattle.hwdb_spec.specs.Lines.{Line, byte, clean_line, has, is, is_none, lines, numbered, pieces}
 use Rattle.hwdb_spec_commands.specs.Reports.{text_of_line}
 use Rattle.hwdb_text.specs.declared.outcome.Given.{Given}
@@ -63,6 +63,7 @@ IsPlain (Unread known) = ⊥
 IsPlain Unpaired = ⊥
 IsPlain (Unmatched told) = ⊥
 IsPlain (Unlikely told) = ⊥
+IsPlain Fragile = ⊥
 IsPlain kind = Unit {0}
 
 -- what is printed of a warning from the number in it on

@@ -5,13 +5,14 @@ use Rattle.hwdb_spec.specs.Patterns.{tokens}
 use Rattle.hwdb_spec_commands.specs.FormTable.{asked}
 use Rattle.hwdb_spec_commands.specs.LikelyForms.{likely}
 use Rattle.hwdb_spec_commands.specs.Fields.{odd_field, with_fields}
+use Rattle.hwdb_spec_commands.specs.Fragile.{fragile_hint, fragile_place, is_fragile, outlasting}
 use Rattle.hwdb_spec_commands.specs.Kinds.{warning_name}
 use Rattle.hwdb_spec.specs.Lines.{begins_with, byte, is, is_none, max_pattern, pieces}
 use Rattle.hwdb_spec_commands.specs.Mends.{begins_field, led_rest, meant_rest, mend_hint, mended, moved, ordered, reason, start_of}
-use Rattle.hwdb_spec_commands.specs.Unmatched.{compare_hint, is_unmatched, judgement_hint, judgement_of, judgement_place, judgement_text, likelihood_hint, likelihood_of, likely_place_hint, place_hint, prefix_hint, runs, runs_hint}
+use Rattle.hwdb_spec_commands.specs.Unmatched.{compare_hint, dead_hint, is_like_property, is_unmatched, judgement_hint, judgement_of, judgement_place, judgement_text, lacks_bus, likelihood_hint, likelihood_of, likely_place_hint, place_hint, prefix_hint, runs, runs_hint}
 use Rattle.hwdb_spec_commands.specs.Warnings.{is_too_long, may_be_too_deep, warning_place}
 use Rattle.hwdb_spec.specs.declared.Judgement.TheVariants.{Dead, Fine, UnknownPrefix}
-use Rattle.hwdb_spec_commands.specs.declared.WarningKind.TheVariants.{ByteOrderMark, CarriageReturn, CutValue, EmptyRange, LeadingTab, MayBeTooDeep, Misused, OpenBracket, RepeatedMatch, Replaced, SpacedEquals, TooLongForUdev, Unlikely, Unmatched, Unpaired, Unread}
+use Rattle.hwdb_spec_commands.specs.declared.WarningKind.TheVariants.{ByteOrderMark, CarriageReturn, CutValue, EmptyRange, Fragile, LeadingTab, MayBeTooDeep, Misused, OpenBracket, RepeatedMatch, Replaced, SpacedEquals, TooLongForUdev, Unlikely, Unmatched, Unpaired, Unread}
 use Rattle.hwdb_spec_commands.specs.declared.WarningKind.{WarningKind}
 use Rattle.hwdb_spec_commands.specs.declared.vocabulary.Misuse.TheVariants.{NearName, OldName, ScanCode, SingularMatrix, TwoDefaults, UnfitValue, UnknownKey, ZeroRow}
 use Rattle.hwdb_spec_commands.specs.declared.vocabulary.Misuse.{Misuse}
@@ -82,6 +83,10 @@ pub record UnmatchedRows : Type 0 where
   pub meant : prefix_hint (Some (codes "evdev:")) ≡ codes "did you mean evdev:?"
   pub other : prefix_hint None ≡ codes "begin it as udev's strings do, with evdev: or mouse: or usb: and the like"
   pub nothing : judgement_hint Fine (codes "usb:") ≡ []
+  pub property : dead_hint (codes "KEYBOARD_KEY_70039=leftmeta") 0 ≡ codes "a property? begin it with a space"
+  pub alike : map is_like_property (codes "MOUSE_DPI=800@125" ∷ codes "MOUSE_DPI" ∷ codes "WORKSHOP_LIGHT=1" ∷ codes "a=MOUSE_DPI" ∷ []) ≡ true ∷ false ∷ false ∷ false ∷ []
+  pub no_bus : dead_hint (codes "mouse:v046dpc077:*") 6 ≡ codes "after mouse: comes usb:, bluetooth: or ps2:, as in mouse:usb:v046dpc077:*"
+  pub other_bus : map lacks_bus (codes "mouse:usb:v046d*" ∷ codes "mouse:v" ∷ codes "touchpad:v046d*" ∷ []) ≡ false ∷ true ∷ false ∷ []
 
 -- ---- patterns as they were likely meant
 -- a pattern that a hint writes is one that udev likely asks
@@ -95,6 +100,9 @@ pub record MendRows : Type 0 where
   pub small : meant_rest (codes "0123456789abcdef") (codes "Dp4041:") ≡ Some (codes "dp4041:")
   pub letter : meant_rest (codes "v") (codes "V046D") ≡ Some (codes "v046D")
   pub blanks : meant_rest (codes "0") (codes " \tx y") ≡ Some (codes "x y")
+  pub underlined : meant_rest (codes ":_") (codes "(HK)X*") ≡ Some (codes "_HK)X*")
+  pub kept : meant_rest (codes ":_") (codes "@X*") ≡ Some (codes ":@X*")
+  pub no_underline : meant_rest (codes ":a") (codes "(HK)X*") ≡ Some (codes ":(HK)X*")
   pub colon : meant_rest (codes ":") (codes "rvn*") ≡ Some (codes ":rvn*")
   pub other : meant_rest (codes "0123456789abcdef") (codes "rvn*") ≡ None
   pub end : meant_rest (codes ":") [] ≡ None
@@ -111,6 +119,8 @@ pub record MendRows : Type 0 where
   pub is_letter : reason (codes "V") (codes "v") ≡ codes "letters are lower case here"
   pub is_blank : reason (codes " x") (codes "x") ≡ codes "no blank is here"
   pub is_colon : reason (codes "r") (codes ":r") ≡ codes "a colon is here"
+  pub is_underlined : reason (codes "(HK)X*") (codes "_HK)X*") ≡ codes "udev makes _ of ("
+  pub is_letter_led : reason (codes "HK") (codes "_HK") ≡ codes "only _ can be here"
   pub is_missing : reason (codes "04D9*") (codes "v04D9*") ≡ codes "only v can be here"
   pub is_replaced : reason (codes ":0024*") (codes "p0024*") ≡ codes "only p can be here"
   pub is_too_much : reason (codes ":p0024*") (codes "p0024*") ≡ codes "no colon is here"
@@ -152,6 +162,26 @@ pub record TooDeepRows : Type 0 where
   pub left_out : is_deep_with (codes "usb:") 4093 ≡ false
   pub place : warning_place MayBeTooDeep (codes "usb:") (codes "usb:") ≡ 2047
 
+-- ---- what an update of the firmware ends
+-- A version, a date or a release without a wildcard, beside a vendor and a product that are named. All of it is after `dmi:`.
+pub record FragileRows : Type 0 where
+  pub whole : is_fragile (codes "evdev:atkbd:dmi:bvnWORK:bvr1.49:bd08/05/2020:svnWORK:pnBench1:*") ≡ true
+  pub date : is_fragile (codes "evdev:name:Bench:dmi:*bd08/05/2020:*svnWORK*:*pnBench*") ≡ true
+  pub releases : map is_fragile (codes "dmi:*:br1.49:svnWORK:pnB:*" ∷ codes "dmi:*:efr1.1:svnWORK:pnB:*" ∷ []) ≡ true ∷ true ∷ []
+  pub any : is_fragile (codes "evdev:atkbd:dmi:bvn*:bvr*:bd*:svnWORK*:pnBench1*:pvr*") ≡ false
+  pub wildcard : map is_fragile (codes "dmi:*:bvr1.?9:svnWORK:pnB:*" ∷ codes "dmi:*:bvr1.[45]:svnWORK:pnB:*" ∷ []) ≡ false ∷ false ∷ []
+  pub empty : is_fragile (codes "dmi:bvn:bvr:bd:svnWORK:pnB:*") ≡ false
+  pub without : map is_fragile (codes "dmi:*:bvr1.49:*:svnWORK:*" ∷ codes "dmi:*:bvr1.49:*:pnB:*" ∷ codes "dmi:*:bvr1.49:svn*:pn*:*" ∷ []) ≡ false ∷ false ∷ false ∷ []
+  pub unfilled : map is_fragile (codes "dmi:*:bvr5.11:svnDefaultstring:pnB:*" ∷ codes "dmi:*:bvr5.11:svnWORK:pnDefaultstring*:*" ∷ []) ≡ false ∷ false ∷ []
+  pub before : is_fragile (codes "evdev:name:bd08:svnWORK:pnBench1:dmi:*") ≡ false
+  pub elsewhere : is_fragile (codes "evdev:name:bvr1.49:svnWORK:pnBench1:*") ≡ false
+  pub places : map fragile_place (codes "evdev:atkbd:dmi:bvnWORK:bvr1.49:*" ∷ codes "dmi:*bd08/05/2020:*" ∷ codes "dmi:bvr*:br1.49:*" ∷ []) ≡ 24 ∷ 4 ∷ 9 ∷ []
+  pub at : warning_place Fragile (codes "dmi:bvr1.49:*") (codes "dmi:bvr1.49:*") ≡ 4
+  pub written : fragile_hint (codes "evdev:atkbd:dmi:bvnW:bvr1.49:bd08/05/2020:br1.49:efr1.1:svnWORK:pnB:*")
+      ≡ codes "after an update of the firmware it matches no more: write evdev:atkbd:dmi:bvnW:bvr*:bd*:br*:efr*:svnWORK:pnB:*"
+  pub colon : outlasting (codes "dmi:*bd08/05/2020:svnWORK:pnB:") ≡ codes "dmi:*bd*:svnWORK:pnB:"
+  pub mended : is_fragile (outlasting (codes "dmi:bvnW:bvr1.49:bd08/05/2020:br1.49:svnWORK:pnB:")) ≡ false
+
 -- ---- names
 -- the names of all kinds of warnings, as `--allow` takes them
 abbrev pub kinds : List (List ℕ)
@@ -188,11 +218,12 @@ kind_number (Unmatched (Dead place)) = 21
 kind_number (Unlikely told) = 22
 kind_number TooLongForUdev = 23
 kind_number MayBeTooDeep = 23
-kind_number (Unmatched Fine) = 24
+kind_number Fragile = 24
+kind_number (Unmatched Fine) = 25
 
 -- Each kind of warning has its own name among these, and each of them is the name of one kind. Both kinds of what udev can't take count
 -- as one.
 pub record KindsAreNamed : Type 0 where
-  pub each : (kind : WarningKind) → (kind_number kind ≡ 24) ⊎ Contains kinds (warning_name kind)
+  pub each : (kind : WarningKind) → (kind_number kind ≡ 25) ⊎ Contains kinds (warning_name kind)
   pub all : (some : List WarningKind) × (map warning_name some ≡ kinds)
   pub own : (one two : WarningKind) → warning_name one ≡ warning_name two → kind_number one ≡ kind_number two

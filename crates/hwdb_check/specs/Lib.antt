@@ -16,3 +16,5 @@ pub mod Patching
 pub mod Places
 pub mod Summed
 pub mod Sure
+pub mod Among
+pub mod Trials

@@ -2,9 +2,10 @@
 use Rattle.std.specs.Prelude.{true, false, ℕ, List, [], ◌∷◌, ◌-◌, ◌<◌, ◌≡◌, if◌then◌else◌, drop, flat_map, length, nat_eq, take}
 use Rattle.std.specs.List.{list_any, starts_with}
 use Rattle.hwdb_spec.specs.Assignment.{Assignment}
-use Rattle.hwdb_spec.specs.Lines.{Line, begins_with, byte, clean_line, has, is_blank, is_dropped, is_indent, lines}
+use Rattle.hwdb_spec.specs.Lines.{Line, begins_with, byte, clean_line, has, is_blank, is_dropped, is_indent, is_match, lines}
 use Rattle.hwdb_spec.specs.Records.{faults}
 use Rattle.hwdb_spec_commands.specs.Findings.{Finding, found_warnings}
+use Rattle.hwdb_spec_commands.specs.Fragile.{is_fragile}
 use Rattle.hwdb_spec_commands.specs.Surroundings.{is_unpaired, is_unread}
 use Rattle.hwdb_spec_commands.specs.Unmatched.{is_unmatched, judgement_of, likelihood_of}
 use Rattle.hwdb_spec_commands.specs.Warnings.{all_warnings, greatest, is_cut, is_too_long, may_be_too_deep, repeated_lines, replacing}
@@ -20,6 +21,7 @@ pub record IsPlainPattern (pattern : List ℕ) : Type 0 where
   pub likely : is_unmatched (likelihood_of pattern) ≡ false
   pub short : is_too_long (record { number = 0; text = pattern }) ≡ false
   pub shallow : may_be_too_deep (record { number = 0; text = pattern }) ≡ false
+  pub lasting : (if is_match (record { number = 0; text = pattern }) then is_fragile pattern else false) ≡ false
 
 -- a common property with no blank beside its `=`
 pub record IsPlainProperty (key value : List ℕ) : Type 0 where

@@ -1,11 +1,13 @@
 //! Lines as they were likely meant, of which a warning is told.
-ghost use Rattle.std.specs.Prelude.{◌≡◌, Option, IfOk};
+ghost use Rattle.std.specs.Prelude.{◌≡◌, ◌++◌, Option, IfOk, drop};
 ghost use Rattle.std.specs.Option.{option_map};
 ghost use Rattle.hwdb_spec_commands.specs.Fixes;
 ghost use Rattle.hwdb_spec_commands.specs.Findings;
 ghost use Rattle.hwdb_check.specs.Internal.{line_of};
+ghost use Rattle.hwdb_check.specs.Mending;
 
 use crate::fields::meant_field;
+use crate::line_warnings::Read;
 use crate::mends::{front_of, mended, rest_of};
 use crate::misuses::{key_of, value_of};
 use hwdb_properties::{meant_value, push_meant_key, push_meant_name};
@@ -157,36 +159,68 @@ fn likely_meant(
     }
 }
 
-/// A clean line, as it was likely meant.
-fn meant(alloc: Global, kind: WarningKind, clean: &[u8]) -> Result<Option<Vec<u8>>, AllocError>
+/// A pattern as it was likely meant, of which a warning is told; nothing for other warnings.
+pub fn pattern_mend(
+    alloc: Global,
+    kind: WarningKind,
+    pattern: &[u8],
+) -> Result<Option<Vec<u8>>, AllocError>
+    ensures { IfOk result
+        (λ found. option_map (λ t. t.items) found ≡ Mending.pattern_mend kind pattern.now) }
+{
+    match kind {
+        WarningKind::Unmatched(told) => pattern_meant(alloc, told, pattern),
+        WarningKind::Unlikely(told) => likely_meant(alloc, told, pattern),
+        _ => Ok(None),
+    }
+}
+
+/// A clean line, as it was likely meant. `mend` is the pattern that was.
+fn meant(
+    alloc: Global,
+    kind: WarningKind,
+    clean: &[u8],
+    mend: Option<Vec<u8>>,
+) -> Result<Option<Vec<u8>>, AllocError>
+    requires { option_map (λ t. t.items) mend ≡ Mending.pattern_mend kind clean.now }
     ensures { IfOk result (λ found. option_map (λ t. t.items) found
         ≡ Fixes.meant kind (line_of 0 clean.now)) }
 {
     match kind {
         WarningKind::SpacedEquals => unspaced(alloc, clean),
         WarningKind::Misused(misuse) => property_meant(alloc, misuse, clean),
-        WarningKind::Unmatched(told) => pattern_meant(alloc, told, clean),
-        WarningKind::Unlikely(told) => likely_meant(alloc, told, clean),
+        WarningKind::Unmatched(_) => Ok(mend),
+        WarningKind::Unlikely(_) => Ok(mend),
         _ => Ok(None),
     }
 }
 
-/// A whole line, as it was likely meant.
-fn fix(
-    alloc: Global,
-    kind: WarningKind,
-    source: &[u8],
-    clean: &[u8],
-) -> Result<Option<Vec<u8>>, AllocError>
+/// A line as it was likely meant, with what comes in it after its clean text.
+fn whole(meant: Option<Vec<u8>>, source: &[u8], size: usize) -> Result<Option<Vec<u8>>, AllocError>
     ensures { IfOk result (λ found. option_map (λ t. t.items) found
-        ≡ Fixes.fix kind (line_of 0 clean.now) source.now) }
+        ≡ option_map (λ text. text ++ drop size source.now) (option_map (λ t. t.items) meant)) }
 {
-    let Some(text) = meant(alloc, kind, clean)? else {
+    let Some(text) = meant else {
         return Ok(None);
     };
     let mut line = text;
-    line.extend_from_slice(rest_of(source, clean.len()))?;
+    line.extend_from_slice(rest_of(source, size))?;
     Ok(Some(line))
+}
+
+/// A line that is read, as it was likely meant. `mend` is the pattern that was.
+fn fix(
+    alloc: Global,
+    kind: WarningKind,
+    line: &Read<'_>,
+    mend: Option<Vec<u8>>,
+) -> Result<Option<Vec<u8>>, AllocError>
+    requires { option_map (λ t. t.items) mend ≡ Mending.pattern_mend kind line.now.clean.now }
+    ensures { IfOk result (λ found. option_map (λ t. t.items) found
+        ≡ Fixes.fix kind (line_of 0 line.now.clean.now) line.now.text.now) }
+{
+    let text = meant(alloc, kind, line.clean, mend)?;
+    whole(text, line.text, line.clean.len())
 }
 
 /// The same for a format that has it; nothing for any other.
@@ -194,14 +228,15 @@ pub fn fix_for(
     alloc: Global,
     format: Format,
     kind: WarningKind,
-    source: &[u8],
-    clean: &[u8],
+    line: &Read<'_>,
+    mend: Option<Vec<u8>>,
 ) -> Result<Option<Vec<u8>>, AllocError>
+    requires { option_map (λ t. t.items) mend ≡ Mending.pattern_mend kind line.now.clean.now }
     ensures { IfOk result (λ found. option_map (λ t. t.items) found
-        ≡ Findings.fix_for format kind (line_of 0 clean.now) source.now) }
+        ≡ Findings.fix_for format kind (line_of 0 line.now.clean.now) line.now.text.now) }
 {
     match format {
-        Format::Json | Format::Sarif => fix(alloc, kind, source, clean),
+        Format::Json | Format::Sarif => fix(alloc, kind, line, mend),
         Format::Text | Format::Github | Format::Patch => Ok(None),
     }
 }

@@ -1,17 +1,21 @@
 //! Patterns that match no text that udev asks.
-ghost use Rattle.std.specs.Prelude.{◌≡◌, ◌++◌, List, ℕ, ◌∷◌, drop, filter, if◌then◌else◌, map, take, IfOk, OnOk};
+ghost use Rattle.std.specs.Prelude.{◌≡◌, ◌++◌, List, ℕ, ◌∷◌, codes, drop, filter, if◌then◌else◌, map, take, IfOk, OnOk};
 ghost use Rattle.std.specs.Option.{option_map};
 ghost use Rattle.hwdb_spec_commands.specs.FormTable.{asked};
 ghost use Rattle.hwdb_spec_commands.specs.LikelyForms.{likely};
 ghost use Rattle.hwdb_spec.specs.Forms.{all_bytes_from, is_expected, judged};
 ghost use Rattle.hwdb_spec_commands.specs.Mends.{likely_after, mend_hint, mended};
 ghost use Rattle.hwdb_spec_commands.specs.Fields;
+ghost use Rattle.hwdb_spec_commands.specs.Fixes;
+ghost use Rattle.hwdb_spec_commands.specs.Reports.{shown};
 ghost use Rattle.hwdb_spec_commands.specs.Unmatched;
 
 use crate::fields::{meant_field, odd_field};
-use crate::mends::{front_of, likely_after, mended, push_mend, rest_of};
+use crate::fragile::push_before;
+use crate::mends::{front_of, has, likely_after, push_mend, rest_of};
 use crate::runs::{push_compare, push_runs, runs_of};
 use hwdb_forms::{Judged, expected, judge_both, likely_prefix};
+use hwdb_properties::{before, is_known};
 use hwdb_spec::Judgement;
 use hwdb_text::{LONGEST_MATCH, begins_with};
 use std::alloc::{AllocError, Global};
@@ -204,37 +208,84 @@ fn push_prefix_hint(alloc: Global, text: &mut Vec<u8>, pattern: &[u8]) -> Result
     push_prefix(text, found)
 }
 
-/// Adds what to do about a pattern that goes wrong at a place: it is written as it was likely meant, or the bytes are named that could be
-/// there.
-fn push_dead_hint(
+/// Whether a match line is likely a property that begins in the first column.
+fn is_like_property(text: &[u8]) -> bool
+    ensures { result ≡ Unmatched.is_like_property text.now }
+{
+    has(b'=', text) && is_known(before(b'=', text))
+}
+
+/// Whether a pattern of a mouse has a vendor in place of its bus.
+fn lacks_bus(pattern: &[u8]) -> bool
+    ensures { result ≡ Unmatched.lacks_bus pattern.now }
+{
+    pattern.starts_with(b"mouse:v")
+}
+
+/// Adds which bus a pattern of a mouse lacks.
+fn push_bus_hint(text: &mut Vec<u8>, pattern: &[u8]) -> Result<(), AllocError>
+    ensures { OnOk result (text.new.items ≡ text.old.items
+        ++ (codes "after mouse: comes usb:, bluetooth: or ps2:, as in mouse:usb:"
+        ++ shown (drop 6 pattern.now))) }
+{
+    let words = "after mouse: comes usb:, bluetooth: or ps2:, as in mouse:usb:";
+    push_before(text, words, rest_of(pattern, 6))
+}
+
+/// Adds what to do about a pattern that goes wrong at a place, if it isn't known how it was meant.
+fn push_other_hint(
     alloc: Global,
     text: &mut Vec<u8>,
     pattern: &[u8],
     place: usize,
 ) -> Result<(), AllocError>
-    ensures { OnOk result (text.new.items ≡ text.old.items ++ mend_hint pattern.now place
-        (Unmatched.place_hint (take place pattern.now)) (mended pattern.now place)) }
+    ensures { OnOk result
+        (text.new.items ≡ text.old.items ++ Unmatched.dead_hint pattern.now place) }
 {
-    match mended(alloc, pattern, place)? {
-        Some(meant) => push_mend(text, pattern, place, &meant),
-        None => push_place_hint(alloc, text, front_of(pattern, place)),
+    if is_like_property(pattern) {
+        return text.extend_from_slice(b"a property? begin it with a space");
+    }
+    if lacks_bus(pattern) {
+        return push_bus_hint(text, pattern);
+    }
+    push_place_hint(alloc, text, front_of(pattern, place))
+}
+
+/// Adds what to do about a pattern that goes wrong at a place: it is written as it was likely meant, or the bytes are named that could be
+/// there. `mend` is what was meant.
+fn push_dead_hint(
+    alloc: Global,
+    text: &mut Vec<u8>,
+    pattern: &[u8],
+    place: usize,
+    mend: &Option<Vec<u8>>,
+) -> Result<(), AllocError>
+    requires { option_map (λ t. t.items) mend.now ≡ mended pattern.now place }
+    ensures { OnOk result (text.new.items ≡ text.old.items ++ mend_hint pattern.now place
+        (Unmatched.dead_hint pattern.now place) (mended pattern.now place)) }
+{
+    match mend {
+        Some(meant) => push_mend(text, pattern, place, meant),
+        None => push_other_hint(alloc, text, pattern, place),
     }
 }
 
-/// Adds what to do about a pattern with this judgement.
+/// Adds what to do about a pattern with this judgement. `mend` is what was meant.
 pub fn push_judgement_hint(
     alloc: Global,
     text: &mut Vec<u8>,
     judgement: Judgement,
     pattern: &[u8],
+    mend: &Option<Vec<u8>>,
 ) -> Result<(), AllocError>
+    requires { option_map (λ t. t.items) mend.now ≡ Fixes.pattern_meant judgement pattern.now }
     ensures { OnOk result (text.new.items
         ≡ text.old.items ++ Unmatched.judgement_hint judgement pattern.now) }
 {
     match judgement {
         Judgement::Fine => Ok(()),
         Judgement::UnknownPrefix => push_prefix_hint(alloc, text, pattern),
-        Judgement::Dead(place) => push_dead_hint(alloc, text, pattern, place),
+        Judgement::Dead(place) => push_dead_hint(alloc, text, pattern, place, mend),
     }
 }
 
@@ -265,12 +316,14 @@ fn push_likely_hint(
     text: &mut Vec<u8>,
     pattern: &[u8],
     place: usize,
+    mend: &Option<Vec<u8>>,
 ) -> Result<(), AllocError>
+    requires { option_map (λ t. t.items) mend.now ≡ mended pattern.now place }
     ensures { OnOk result (text.new.items ≡ text.old.items ++ mend_hint pattern.now place
         (Unmatched.likely_place_hint (take place pattern.now)) (mended pattern.now place)) }
 {
-    match mended(alloc, pattern, place)? {
-        Some(meant) => push_mend(text, pattern, place, &meant),
+    match mend {
+        Some(meant) => push_mend(text, pattern, place, meant),
         None => push_likely_place_hint(alloc, text, front_of(pattern, place)),
     }
 }
@@ -282,50 +335,41 @@ fn field_at(pattern: &[u8], place: usize) -> &'static [u8]
     meant_field(rest_of(pattern, place))
 }
 
-/// Adds which field was likely meant, or what to do without that.
-fn push_field_hint(
-    alloc: Global,
-    text: &mut Vec<u8>,
-    field: &[u8],
-    pattern: &[u8],
-    place: usize,
-) -> Result<(), AllocError>
-    ensures { OnOk result (text.new.items
-        ≡ text.old.items ++ Unmatched.unlikely_hint field.now pattern.now place) }
-{
-    if field.is_empty() {
-        push_likely_hint(alloc, text, pattern, place)
-    } else {
-        push_meant(text, field)
-    }
-}
-
-/// Adds what to do about a pattern that likely goes wrong at a place.
+/// Adds what to do about a pattern that likely goes wrong at a place: which field was likely meant there, or what to do without that.
 fn push_unlikely_hint(
     alloc: Global,
     text: &mut Vec<u8>,
     pattern: &[u8],
     place: usize,
+    mend: &Option<Vec<u8>>,
 ) -> Result<(), AllocError>
+    requires { option_map (λ t. t.items) mend.now
+        ≡ Fixes.likely_meant (Judgement.Dead place) pattern.now }
     ensures { OnOk result (text.new.items
         ≡ text.old.items ++ Unmatched.likelihood_hint (Judgement.Dead place) pattern.now) }
 {
-    push_field_hint(alloc, text, field_at(pattern, place), pattern, place)
+    let field = field_at(pattern, place);
+    if !field.is_empty() {
+        return push_meant(text, field);
+    }
+    push_likely_hint(alloc, text, pattern, place, mend)
 }
 
-/// Adds what to do about a pattern of which this is said.
+/// Adds what to do about a pattern of which this is said. `mend` is what was meant.
 pub fn push_likelihood_hint(
     alloc: Global,
     text: &mut Vec<u8>,
     likelihood: Judgement,
     pattern: &[u8],
+    mend: &Option<Vec<u8>>,
 ) -> Result<(), AllocError>
+    requires { option_map (λ t. t.items) mend.now ≡ Fixes.likely_meant likelihood pattern.now }
     ensures { OnOk result (text.new.items
         ≡ text.old.items ++ Unmatched.likelihood_hint likelihood pattern.now) }
 {
     match likelihood {
         Judgement::Fine => Ok(()),
         Judgement::UnknownPrefix => push_compare(text),
-        Judgement::Dead(place) => push_unlikely_hint(alloc, text, pattern, place),
+        Judgement::Dead(place) => push_unlikely_hint(alloc, text, pattern, place, mend),
     }
 }

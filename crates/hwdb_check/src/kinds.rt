@@ -95,6 +95,7 @@ pub fn warning_name(kind: WarningKind) -> &'static str
         WarningKind::Unmatched(judgement) => judgement_name(judgement),
         WarningKind::Unlikely(_) => "unlikely-pattern",
         WarningKind::TooLongForUdev | WarningKind::MayBeTooDeep => "too-long-for-udev",
+        WarningKind::Fragile => "fragile-pattern",
     }
 }
 

@@ -2,7 +2,7 @@
 ghost use Rattle.hwdb_check.specs.Comments.{BareAreTold, CommentRows, FaultsStay, LeftAreTold, LinesAreMarked, RecordsAreApart};
 ghost use Rattle.hwdb_check.specs.Passing.{AsManyPass, BaselineRows, NothingPasses};
 ghost use Rattle.hwdb_check.specs.Sure.{LinesStay, MendsAreSure, PatchRows, SaidRows, TriedRows, WorseRows};
-ghost use Rattle.hwdb_check.specs.Laws.{FieldRows, KindsAreNamed, LikelihoodIsJudged, MendRows, MendsAreLikely, PatternsAreJudged, RunsAreAll, TooDeepRows, TooLongRows, UnmatchedRows};
+ghost use Rattle.hwdb_check.specs.Laws.{FieldRows, FragileRows, KindsAreNamed, LikelihoodIsJudged, MendRows, MendsAreLikely, PatternsAreJudged, RunsAreAll, TooDeepRows, TooLongRows, UnmatchedRows};
 
 use hwdb_forms::forms_are_tested;
 
@@ -43,6 +43,12 @@ pub fn long_lines_are_told()
 #[tactic(auto, using(crate::proofs::LawLemmas::too_deep_rows))]
 pub fn deep_lines_are_told()
     ensures { TooDeepRows }
+{}
+
+/// Which patterns name the firmware of a machine beside its model, where, and what they are with any firmware.
+#[tactic(auto, using(crate::proofs::LawLemmas::fragile_rows))]
+pub fn fragile_patterns_are_told()
+    ensures { FragileRows }
 {}
 
 /// Each kind of warning has its own name, but both of what udev can't take have one.

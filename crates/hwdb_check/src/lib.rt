@@ -25,6 +25,7 @@
 //! | `annotations` | a finding as GitHub shows it beside its line |
 //! | `findings` | what is found in a line, in each format |
 //! | `fixes` | lines as they were likely meant, of which a warning is told |
+//! | `fragile` | patterns that name the firmware of a machine beside its model |
 //! | `logs` | findings as a log in SARIF |
 //! | `repeats` | match lines that their record has already |
 //! | `replacements` | assignments that a later line of the same file replaces |
@@ -37,6 +38,7 @@
 //! | `files` | text files that are checked, one after another |
 //! | `edits` | the lines of a file, some of which are mended |
 //! | `edit_records` | the same, record by record |
+//! | `among` | whether some findings are all among others |
 //! | `sure` | which mends of a file are sure |
 //! | `hunks` | a unified patch of a file |
 //! | `patched` | the patch of text files, and what is said of some in a format |
@@ -44,6 +46,7 @@
 #![tactic(auto)]
 
 mod allowed;
+mod among;
 mod annotations;
 mod baselines;
 mod companions;
@@ -53,6 +56,7 @@ mod fields;
 mod files;
 mod findings;
 mod fixes;
+mod fragile;
 mod hunks;
 mod judgements;
 mod kinds;

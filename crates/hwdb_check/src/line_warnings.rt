@@ -10,6 +10,7 @@ ghost use Rattle.hwdb_spec_commands.specs.Warnings;
 ghost use Rattle.hwdb_spec_commands.specs.Warnings.{warns};
 ghost use Rattle.hwdb_check.specs.Internal.{clean_of, line_of, read_line, IsRead};
 
+use crate::fragile::is_fragile_line;
 use crate::judgements::is_unmatched;
 use crate::misuses::has_known_key;
 use hwdb_pattern::{open_place, range_place};
@@ -73,7 +74,7 @@ pub fn is_property(clean: &[u8]) -> bool
 }
 
 /// Whether a clean line is a match line.
-fn is_match(clean: &[u8]) -> bool
+pub fn is_match(clean: &[u8]) -> bool
     ensures { result ≡ Lines.is_match (line_of 0 clean.now) }
 {
     !clean.is_empty() && clean[0] != b' '
@@ -296,6 +297,7 @@ pub fn is_warned(kind: WarningKind, line: &Read<'_>) -> bool
         WarningKind::Unlikely(_) => is_unmatched(line.likelihood),
         WarningKind::TooLongForUdev => is_too_long(line.clean),
         WarningKind::MayBeTooDeep => may_be_too_deep(line.clean),
+        WarningKind::Fragile => is_fragile_line(line.clean),
     }
 }
 
@@ -351,11 +353,11 @@ pub fn is_warned_at_all(line: &Read<'_>) -> bool
     if may_be_too_deep(line.clean) {
         return true;
     }
-    false
+    is_fragile_line(line.clean)
 }
 
 /// The kinds of warnings that a line may get.
-pub fn kinds_of(line: &Read<'_>) -> [WarningKind; 16]
+pub fn kinds_of(line: &Read<'_>) -> [WarningKind; 17]
     requires { IsRead line.now }
     ensures { result ≡ Warnings.line_kinds line.now.bytes.now (clean_of line.now) }
 {
@@ -376,5 +378,6 @@ pub fn kinds_of(line: &Read<'_>) -> [WarningKind; 16]
         WarningKind::Unlikely(line.likelihood),
         WarningKind::TooLongForUdev,
         WarningKind::MayBeTooDeep,
+        WarningKind::Fragile,
     ]
 }

@@ -4,13 +4,14 @@ ghost use Rattle.std.specs.List.{prefix_len};
 ghost use Rattle.std.specs.Option.{option_map, option_or};
 ghost use Rattle.hwdb_spec.specs.Lines.{byte, has, is_indent};
 ghost use Rattle.hwdb_spec_commands.specs.Mends;
+ghost use Rattle.hwdb_spec_commands.specs.Near;
 ghost use Rattle.hwdb_check.specs.Mending.{outcome};
 ghost use Rattle.hwdb_spec_commands.specs.Properties.{is_hex_digit, lower};
 
 use crate::fields::field_row;
-use hwdb_forms::{expected_likely, judge_both};
+use hwdb_forms::{expected_likely, judge_likely};
 use hwdb_properties::same;
-use hwdb_show::push_shown;
+use hwdb_show::{push_byte, push_shown};
 use hwdb_spec::Judgement;
 use hwdb_text::{begins_with, end_of, unindented};
 use std::alloc::{AllocError, Global};
@@ -167,6 +168,28 @@ fn after_colon(alloc: Global, text: &[u8]) -> Result<Vec<u8>, AllocError>
     Ok(copy)
 }
 
+/// Whether udev always keeps a byte.
+fn is_kept(byte: u8) -> bool
+    ensures { result ≡ Near.is_kept byte }
+{
+    matches!(byte, b'0'..=b'9' | b'A'..=b'Z' | b'a'..=b'z')
+        || matches!(byte, b'#' | b'+' | b'-' | b'.' | b':' | b'=' | b'@' | b'_')
+}
+
+/// Whether udev may write `_` for a byte of a pattern.
+fn is_replaced(byte: u8) -> bool
+    ensures { result ≡ Near.is_replaced byte }
+{
+    !is_kept(byte) && !matches!(byte, b'*' | b'?' | b'[')
+}
+
+/// Whether udev writes `_` in place of a byte that can't be here, if these could be.
+fn is_underlined(next: &[u8], byte: u8) -> bool
+    ensures { result ≡ Mends.is_underlined next.now byte }
+{
+    is_replaced(byte) && has(b'_', next)
+}
+
 /// The rest of a pattern from the byte on with which it goes wrong, as it was likely meant, if one of these bytes could be there.
 fn meant_rest(alloc: Global, next: &[u8], rest: &[u8]) -> Result<Option<Vec<u8>>, AllocError>
     ensures { IfOk result
@@ -180,6 +203,9 @@ fn meant_rest(alloc: Global, next: &[u8], rest: &[u8]) -> Result<Option<Vec<u8>>
     }
     if has(turned(*first, *first), next) {
         return Ok(Some(recased(alloc, *first, more)?));
+    }
+    if is_underlined(next, *first) {
+        return Ok(Some(joined(alloc, b"_", more)?));
     }
     if has(b':', next) {
         return Ok(Some(after_colon(alloc, rest)?));
@@ -222,7 +248,7 @@ fn led_by(alloc: Global, own: u8, first: u8, more: &[u8]) -> Result<Vec<u8>, All
 }
 
 /// The last byte of a text, as a text.
-fn last_of(text: &[u8]) -> &[u8]
+pub fn last_of(text: &[u8]) -> &[u8]
     ensures { result.now ≡ Mends.last_of text.now }
 {
     rest_of(text, text.len().saturating_sub(1))
@@ -297,8 +323,7 @@ pub fn likely_after(alloc: Global, front: &[u8]) -> Result<Vec<u8>, AllocError>
 fn likely_judgement(alloc: Global, pattern: &[u8]) -> Result<Judgement, AllocError>
     ensures { IfOk result (λ told. told ≡ Mends.likely_judgement pattern.now) }
 {
-    let judged = judge_both(alloc, pattern)?;
-    Ok(judged.likely)
+    judge_likely(alloc, pattern)
 }
 
 /// A pattern that goes wrong at a place, as it was likely meant there.
@@ -590,6 +615,21 @@ fn push_lead_reason(
     push_only(text, now)
 }
 
+/// Whether udev wrote `_` in place of a byte, by the rest that was meant from there on.
+fn is_underline(byte: u8, now: &[u8]) -> bool
+    ensures { result ≡ Mends.is_underline byte now.now }
+{
+    is_replaced(byte) && begins_with(b'_', now)
+}
+
+/// Adds what is wrong with a byte that udev doesn't write.
+fn push_underline_reason(text: &mut Vec<u8>, byte: u8) -> Result<(), AllocError>
+    ensures { OnOk result (text.new.items ≡ text.old.items ++ Mends.underline_words byte) }
+{
+    text.extend_from_slice(b"udev makes _ of ")?;
+    push_byte(text, byte)
+}
+
 /// Adds what is wrong with the rest of a pattern that was meant so.
 fn push_reason(text: &mut Vec<u8>, was: &[u8], now: &[u8]) -> Result<(), AllocError>
     ensures { OnOk result (text.new.items ≡ text.old.items ++ Mends.reason was.now now.now) }
@@ -607,6 +647,9 @@ fn push_reason(text: &mut Vec<u8>, was: &[u8], now: &[u8]) -> Result<(), AllocEr
     }
     if begins_with(turned(*first, *first), now) {
         return push_case_reason(text, *first);
+    }
+    if is_underline(*first, now) {
+        return push_underline_reason(text, *first);
     }
     push_lead_reason(text, *first, more, now)
 }

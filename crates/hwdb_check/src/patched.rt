@@ -200,8 +200,8 @@ fn findings_of(
 /// What is said of some text files: a patch of what can be mended surely, or the findings as `check_files` tells them.
 ///
 /// A patch has lines in place of others, as `patch` and `git apply` take it. The patched files have no finding that they don't have now, and
-/// none that was mended: they are checked again before. The status is 1 if there is something to mend. It takes as long as six checks of the
-/// files, and the memory of one file's lines beside that.
+/// none that was mended: they are checked again before. The status is 1 if there is something to mend. It takes as long as two checks of the
+/// files, and a further one for each further step of mends, up to six; and the memory of one file's lines and findings beside that.
 pub fn say_files(
     alloc: Global,
     telling: &Telling<'_>,

@@ -12,6 +12,7 @@ ghost use Rattle.hwdb_text.specs.Views.{given_in};
 ghost use Rattle.hwdb_check.specs.Internal.{own};
 ghost use Rattle.hwdb_check.specs.Plain.{AreSteady, IsPlainAssignment, IsPlainFile, IsPlainPattern, IsPlainProperty, IsTame};
 
+use crate::fragile::is_fragile_line;
 use crate::judgements::{is_unmatched, said_of};
 use crate::line_warnings::{
     begins_with_mark, begins_with_tab, has_return, holds_bracket, is_spaced, is_too_long,
@@ -40,6 +41,9 @@ fn is_plain_pattern(alloc: Global, pattern: &[u8]) -> Result<bool, AllocError>
         return Ok(false);
     }
     if may_be_too_deep(pattern) {
+        return Ok(false);
+    }
+    if is_fragile_line(pattern) {
         return Ok(false);
     }
     let said = said_of(alloc, pattern)?;

@@ -20,7 +20,8 @@ fn hint_of(kind: FaultKind) -> &'static str
         FaultKind::NoProperty => {
             "put a property below it, on a line that begins with a space, or take the match line away"
         }
-        FaultKind::StrayMatch => "put an empty line above it, and its properties below it",
+        FaultKind::StrayMatch =>
+            "put an empty line above it and its properties below it; a property begins with a space",
         FaultKind::NoEquals => "write it as KEY=VALUE; a match line begins without a space",
         FaultKind::EmptyKey => "put a key in front of the =",
         FaultKind::ZeroByte => {

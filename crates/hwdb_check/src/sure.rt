@@ -7,13 +7,16 @@ ghost use Rattle.hwdb_spec_commands.specs.Patches;
 ghost use Rattle.hwdb_check.specs.Found.{finds, kept_of};
 ghost use Rattle.hwdb_check.specs.Patching.{IsMended, edits_of};
 ghost use Rattle.hwdb_check.specs.Places.{told_at};
+ghost use Rattle.hwdb_check.specs.Trials.{IsTrial};
 
+use crate::among::{are_among, own_source};
 use crate::baselines::{mark_of, new_findings};
 use crate::edit_records::record_by_record;
 use crate::edits::{Change, Edit, first_mend, is_ended, line_by_line, text_of, unmended};
 use crate::files::look_over;
 use crate::findings::{Found, copy_of, push_count};
 use crate::kinds::Telling;
+use hwdb_properties::same;
 use hwdb_text::ScanError;
 use std::alloc::{AllocError, Global};
 
@@ -47,9 +50,7 @@ fn number_text(alloc: Global, found: &Found) -> Result<Vec<u8>, AllocError>
     let mut text = Vec::new(alloc);
     push_count(&mut text, found.line)?;
     text.push(b' ')?;
-    if found.fix.is_some() {
-        text.extend_from_slice(&found.source)?;
-    }
+    text.extend_from_slice(own_source(found))?;
     Ok(text)
 }
 
@@ -104,8 +105,8 @@ fn number_marks(alloc: Global, found: &[Found]) -> Result<Vec<Vec<u8>>, AllocErr
     Ok(all)
 }
 
-/// The findings of a patched text that aren't those of the old one.
-fn worse(alloc: Global, before: &[Found], now: &[Found]) -> Result<Vec<Found>, AllocError>
+/// As `worse`, of any findings: it takes a look among the old ones for each.
+fn worse_by_marks(alloc: Global, before: &[Found], now: &[Found]) -> Result<Vec<Found>, AllocError>
     ensures { IfOk result
         (λ new. finds new.items ≡ Patches.worse (finds before.now) (finds now.now)) }
 {
@@ -114,33 +115,88 @@ fn worse(alloc: Global, before: &[Found], now: &[Found]) -> Result<Vec<Found>, A
     new_findings(alloc, &known, now)
 }
 
-/// What is found in a file with some mends. Its text has as many lines as the file, so that only want of memory can stop this.
-fn found_with(
-    alloc: Global,
-    place: &Place<'_>,
-    edits: &[Edit<'_>],
-) -> Result<Vec<Found>, AllocError>
-    ensures { IfOk result (λ all. finds all.items
-        ≡ told_at place.now (Patches.text_of place.now.ended (edits_of edits.now))) }
+/// The findings of a patched text that aren't those of the old one. Mostly there are none, which is seen in one walk along both.
+fn worse(alloc: Global, before: &[Found], now: &[Found]) -> Result<Vec<Found>, AllocError>
+    ensures { IfOk result
+        (λ new. finds new.items ≡ Patches.worse (finds before.now) (finds now.now)) }
 {
-    let text = text_of(alloc, place.ended, edits)?;
-    match look_over(alloc, place.telling, place.path, &text) {
+    if are_among(before, now) {
+        return Ok(Vec::new(alloc));
+    }
+    worse_by_marks(alloc, before, now)
+}
+
+/// Lines that are tried.
+#[derive(Drop)]
+struct Trial<'f> {
+    /// The lines.
+    edits: Vec<Edit<'f>>,
+    /// The text of the file with them.
+    text: Vec<u8>,
+    /// What is found in it.
+    found: Vec<Found>,
+}
+
+/// What is found in a text that has as many lines as the file, so that only want of memory can stop this.
+fn found_in(alloc: Global, place: &Place<'_>, text: &[u8]) -> Result<Vec<Found>, AllocError>
+    ensures { IfOk result (λ all. finds all.items ≡ told_at place.now text.now) }
+{
+    match look_over(alloc, place.telling, place.path, text) {
         Ok(seen) => Ok(seen.found),
         Err(_) => Err(AllocError),
     }
+}
+
+/// Lines, and what is found with them.
+fn try_lines<'f>(
+    alloc: Global,
+    place: &Place<'_>,
+    edits: Vec<Edit<'f>>,
+) -> Result<Trial<'f>, AllocError>
+    ensures edits { IfOk result (λ t. edits_of t.edits.items ≡ edits_of edits.entry.items) }
+    ensures trial { IfOk result (IsTrial place.now) }
+{
+    let text = text_of(alloc, place.ended, &edits)?;
+    let found = found_in(alloc, place, &text)?;
+    Ok(Trial { edits, text, found })
+}
+
+/// Other lines, and what is found with them. A text that was read before isn't read again.
+fn try_next<'f>(
+    alloc: Global,
+    place: &Place<'_>,
+    before: Trial<'f>,
+    edits: Vec<Edit<'f>>,
+) -> Result<Trial<'f>, AllocError>
+    requires { IsTrial place.now before }
+    ensures edits { IfOk result (λ t. edits_of t.edits.items ≡ edits_of edits.entry.items) }
+    ensures trial { IfOk result (IsTrial place.now) }
+{
+    let text = text_of(alloc, place.ended, &edits)?;
+    if same(&text, &before.text) {
+        return Ok(Trial {
+            edits,
+            text,
+            found: before.found,
+        });
+    }
+    let found = found_in(alloc, place, &text)?;
+    Ok(Trial { edits, text, found })
 }
 
 /// What is mended already, mended by what is found then.
 fn once_more<'f>(
     alloc: Global,
     place: &Place<'_>,
-    edits: &[Edit<'f>],
-) -> Result<Vec<Edit<'f>>, AllocError>
-    ensures { IfOk result (λ all. edits_of all.items ≡ Patches.once_more
-        (told_at place.now) place.now.ended (edits_of edits.now)) }
+    trial: Trial<'f>,
+) -> Result<Trial<'f>, AllocError>
+    requires { IsTrial place.now trial }
+    ensures edits { IfOk result (λ t. edits_of t.edits.items ≡ Patches.once_more
+        (told_at place.now) place.now.ended (edits_of trial.entry.edits.items)) }
+    ensures trial { IfOk result (IsTrial place.now) }
 {
-    let found = found_with(alloc, place, edits)?;
-    line_by_line(alloc, Change::MendAgain, &found, edits)
+    let edits = line_by_line(alloc, Change::MendAgain, &trial.found, &trial.edits)?;
+    try_next(alloc, place, trial, edits)
 }
 
 /// The lines in which nothing new is found; the others stay as they were.
@@ -148,14 +204,17 @@ fn not_worse<'f>(
     alloc: Global,
     place: &Place<'_>,
     before: &[Found],
-    edits: &[Edit<'f>],
-) -> Result<Vec<Edit<'f>>, AllocError>
-    ensures { IfOk result (λ all. edits_of all.items ≡ Patches.not_worse
-        (told_at place.now) place.now.ended (finds before.now) (edits_of edits.now)) }
+    trial: Trial<'f>,
+) -> Result<Trial<'f>, AllocError>
+    requires { IsTrial place.now trial }
+    ensures edits { IfOk result (λ t. edits_of t.edits.items ≡ Patches.not_worse
+        (told_at place.now) place.now.ended (finds before.now)
+        (edits_of trial.entry.edits.items)) }
+    ensures trial { IfOk result (IsTrial place.now) }
 {
-    let now = found_with(alloc, place, edits)?;
-    let new = worse(alloc, before, &now)?;
-    line_by_line(alloc, Change::TakeBack, &new, edits)
+    let new = worse(alloc, before, &trial.found)?;
+    let edits = line_by_line(alloc, Change::TakeBack, &new, &trial.edits)?;
+    try_next(alloc, place, trial, edits)
 }
 
 /// The records in which nothing new is found; the others stay as they were.
@@ -163,14 +222,17 @@ fn whole_records<'f>(
     alloc: Global,
     place: &Place<'_>,
     before: &[Found],
-    edits: &[Edit<'f>],
-) -> Result<Vec<Edit<'f>>, AllocError>
-    ensures { IfOk result (λ all. edits_of all.items ≡ Patches.whole_records
-        (told_at place.now) place.now.ended (finds before.now) (edits_of edits.now)) }
+    trial: Trial<'f>,
+) -> Result<Trial<'f>, AllocError>
+    requires { IsTrial place.now trial }
+    ensures edits { IfOk result (λ t. edits_of t.edits.items ≡ Patches.whole_records
+        (told_at place.now) place.now.ended (finds before.now)
+        (edits_of trial.entry.edits.items)) }
+    ensures trial { IfOk result (IsTrial place.now) }
 {
-    let now = found_with(alloc, place, edits)?;
-    let new = worse(alloc, before, &now)?;
-    record_by_record(alloc, &new, edits)
+    let new = worse(alloc, before, &trial.found)?;
+    let edits = record_by_record(alloc, &new, &trial.edits)?;
+    try_next(alloc, place, trial, edits)
 }
 
 /// A file of which each line stays.
@@ -194,18 +256,18 @@ fn all_or_none<'f>(
     place: &Place<'_>,
     bytes: &'f [u8],
     before: &[Found],
-    edits: Vec<Edit<'f>>,
+    trial: Trial<'f>,
 ) -> Result<Mended<'f>, AllocError>
+    requires { IsTrial place.now trial }
     ensures { IfOk result (IsMended (Patches.all_or_none (told_at place.now) place.now.ended
-        bytes.now (finds before.now) (edits_of edits.entry.items))) }
+        bytes.now (finds before.now) (edits_of trial.entry.edits.items))) }
 {
-    let left = found_with(alloc, place, &edits)?;
-    let new = worse(alloc, before, &left)?;
+    let new = worse(alloc, before, &trial.found)?;
     if new.is_empty() {
         return Ok(Mended {
-            edits,
+            edits: trial.edits,
             before: before.len(),
-            left: left.len(),
+            left: trial.found.len(),
         });
     }
     nothing_mended(alloc, bytes, before)
@@ -217,14 +279,16 @@ fn all_tried<'f>(
     place: &Place<'_>,
     bytes: &'f [u8],
     before: &[Found],
-) -> Result<Vec<Edit<'f>>, AllocError>
-    ensures { IfOk result (λ all. edits_of all.items ≡ Patches.all_tried
+) -> Result<Trial<'f>, AllocError>
+    ensures edits { IfOk result (λ t. edits_of t.edits.items ≡ Patches.all_tried
         (told_at place.now) place.now.ended bytes.now (finds before.now)) }
+    ensures trial { IfOk result (IsTrial place.now) }
 {
     let lines = unmended(alloc, bytes)?;
-    let first = line_by_line(alloc, Change::Mend, before, &lines)?;
-    let second = once_more(alloc, place, &first)?;
-    once_more(alloc, place, &second)
+    let edits = line_by_line(alloc, Change::Mend, before, &lines)?;
+    let first = try_lines(alloc, place, edits)?;
+    let second = once_more(alloc, place, first)?;
+    once_more(alloc, place, second)
 }
 
 /// Those of them that are sure.
@@ -241,9 +305,9 @@ fn tried<'f>(
         return nothing_mended(alloc, bytes, before);
     }
     let all = all_tried(alloc, place, bytes, before)?;
-    let lines = not_worse(alloc, place, before, &all)?;
-    let edits = whole_records(alloc, place, before, &lines)?;
-    all_or_none(alloc, place, bytes, before, edits)
+    let lines = not_worse(alloc, place, before, all)?;
+    let records = whole_records(alloc, place, before, lines)?;
+    all_or_none(alloc, place, bytes, before, records)
 }
 
 /// The lines of a file with its sure mends. `telling` has lines of JSON, which have mends.

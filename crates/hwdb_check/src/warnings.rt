@@ -1,5 +1,6 @@
 //! Warnings: lines that are read, but likely not as they were meant.
 ghost use Rattle.std.specs.Prelude.{◌≡◌, ◌++◌, ◌∷◌, [], codes, filter, flat_map, map, take, IfOk, OnOk};
+ghost use Rattle.std.specs.Option.{option_map};
 ghost use Rattle.hwdb_spec.specs.Lines.{Line, clean_line};
 ghost use Rattle.hwdb_spec.specs.Records;
 ghost use Rattle.hwdb_spec_commands.specs.Findings.{bare_findings, found_warnings, one_warning};
@@ -11,9 +12,11 @@ ghost use Rattle.hwdb_check.specs.Leaving.{names_of};
 ghost use Rattle.hwdb_spec_commands.specs.AllowedKinds.{names_in};
 ghost use Rattle.hwdb_check.specs.Plain.{IsPlainFile, IsQuiet, IsTame, plain_findings};
 ghost use Rattle.hwdb_check.specs.Found.{finds};
+ghost use Rattle.hwdb_check.specs.Mending.{pattern_mend};
 
 use crate::findings::{Finding, Found, put_found};
-use crate::fixes::fix_for;
+use crate::fixes::{fix_for, pattern_mend};
+use crate::fragile::{fragile_place, push_fragile_hint};
 use crate::judgements::{
     judgement_place, judgement_text, push_judgement_hint, push_likelihood_hint, said_of,
 };
@@ -62,6 +65,7 @@ fn text_of(kind: WarningKind) -> &'static str
         WarningKind::MayBeTooDeep => {
             "with other lines, more than 2047 bytes may be too deep for udev"
         }
+        WarningKind::Fragile => "a version or a date of the firmware beside the model",
     }
 }
 
@@ -101,7 +105,8 @@ fn hint_of(kind: WarningKind) -> &'static str
         | WarningKind::Unread(_)
         | WarningKind::Unpaired
         | WarningKind::Unmatched(_)
-        | WarningKind::Unlikely(_) => "",
+        | WarningKind::Unlikely(_)
+        | WarningKind::Fragile => "",
     }
 }
 
@@ -113,13 +118,15 @@ fn push_words(text: &mut Vec<u8>, words: &str) -> Result<(), AllocError>
     Ok(())
 }
 
-/// Adds what to do about a warning of a line with this clean text.
+/// Adds what to do about a warning of a line with this clean text. `mend` is the pattern that was likely meant.
 fn push_hint(
     alloc: Global,
     text: &mut Vec<u8>,
     kind: WarningKind,
     clean: &[u8],
+    mend: &Option<Vec<u8>>,
 ) -> Result<(), AllocError>
+    requires { option_map (λ t. t.items) mend.now ≡ pattern_mend kind clean.now }
     ensures { OnOk result
         (text.new.items ≡ text.old.items ++ warning_hint kind (line_of 0 clean.now)) }
 {
@@ -128,8 +135,9 @@ fn push_hint(
         WarningKind::Misused(misuse) => push_hint_of_misuse(text, misuse, clean),
         WarningKind::Unread(known) => push_unread_hint(text, known, clean),
         WarningKind::Unpaired => push_unpaired_hint(text, clean),
-        WarningKind::Unmatched(judgement) => push_judgement_hint(alloc, text, judgement, clean),
-        WarningKind::Unlikely(told) => push_likelihood_hint(alloc, text, told, clean),
+        WarningKind::Unmatched(told) => push_judgement_hint(alloc, text, told, clean, mend),
+        WarningKind::Unlikely(told) => push_likelihood_hint(alloc, text, told, clean, mend),
+        WarningKind::Fragile => push_fragile_hint(alloc, text, clean),
         _ => push_words(text, hint_of(kind)),
     }
 }
@@ -156,6 +164,7 @@ fn warning_place(kind: WarningKind, line: &[u8], clean: &[u8]) -> usize
         }
         WarningKind::TooLongForUdev => wild_place(clean),
         WarningKind::MayBeTooDeep => LONGEST_LINE,
+        WarningKind::Fragile => fragile_place(clean),
     }
 }
 
@@ -205,8 +214,9 @@ fn put_told<'a>(
 {
     let words = words_of(alloc, kind)?;
     let mut hint = Vec::new(alloc);
-    push_hint(alloc, &mut hint, kind, line.clean)?;
-    let fix = fix_for(alloc, format, kind, line.text, line.clean)?;
+    let mend = pattern_mend(alloc, kind, line.clean)?;
+    push_hint(alloc, &mut hint, kind, line.clean, &mend)?;
+    let fix = fix_for(alloc, format, kind, line, mend)?;
     let warning = Finding {
         path,
         line: line.number,

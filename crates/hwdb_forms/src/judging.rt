@@ -182,6 +182,15 @@ pub fn judge(alloc: Global, pattern: &[u8]) -> Result<Judgement, AllocError>
     judge_by(alloc, Table::Asked, pattern)
 }
 
+/// What is said of a pattern: whether it matches a text that udev likely asks, and else why not.
+///
+/// The only error is want of memory.
+pub fn judge_likely(alloc: Global, pattern: &[u8]) -> Result<Judgement, AllocError>
+    ensures { IfOk result (λ told. told ≡ judged likely_forms pattern.now) }
+{
+    judge_by(alloc, Table::Likely, pattern)
+}
+
 /// What is said of a pattern, by the texts that udev asks and by those that it likely asks.
 #[derive(Clone, Copy)]
 pub struct Judged {

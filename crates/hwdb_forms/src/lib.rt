@@ -49,7 +49,7 @@ mod walks;
 
 pub use beginnings::is_asked;
 pub use expecting::{expected, expected_likely};
-pub use judging::{Judged, judge, judge_both, prefix_of};
+pub use judging::{Judged, judge, judge_both, judge_likely, prefix_of};
 pub use laws::{
     examples_fit, forms_are_tested, fronts_are_longest, fronts_are_tested, likely_texts_are_asked,
     narrow_examples_fit,

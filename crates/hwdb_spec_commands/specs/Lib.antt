@@ -10,6 +10,7 @@ pub mod Reports
 pub mod Properties
 pub mod Mends
 pub mod Fields
+pub mod Fragile
 pub mod Unmatched
 pub mod Surroundings
 pub mod Kinds

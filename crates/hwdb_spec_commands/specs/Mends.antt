@@ -10,7 +10,8 @@ use Rattle.hwdb_spec.specs.declared.Judgement.{Judgement}
 use Rattle.hwdb_spec.specs.declared.Judgement.TheVariants.{Dead, Fine, UnknownPrefix}
 use Rattle.hwdb_spec_commands.specs.LikelyForms.{likely}
 use Rattle.hwdb_spec_commands.specs.Properties.{is_hex_digit, lower, row_for}
-use Rattle.hwdb_spec_commands.specs.Reports.{shown}
+use Rattle.hwdb_spec_commands.specs.Near.{is_replaced}
+use Rattle.hwdb_spec_commands.specs.Reports.{shown, shown_byte}
 use Rattle.hwdb_spec_commands.specs.declared.vocabulary.TheConstants.{MACHINE_FIELDS}
 
 -- whether a byte is a small letter
@@ -33,14 +34,19 @@ digits_after first more = if is_hex_digit first then prefix_len is_hex_digit mor
 abbrev pub recased : (first : ℕ) → List ℕ → List ℕ
 recased first more = map (turned first) (first ∷ take (digits_after first more) more) ++ drop (digits_after first more) more
 
+-- whether udev writes `_` in place of a byte that can't be here, if these could be
+abbrev pub is_underlined : (next : List ℕ) → ℕ → Bool
+is_underlined next b = if is_replaced b then has (byte "_") next else false
+
 -- The rest of a pattern from the byte on with which it goes wrong, as it was likely meant, if one of these bytes could be there: without
--- its blanks, in the other case, or after a colon.
+-- its blanks, in the other case, with `_` as udev writes it, or after a colon.
 abbrev pub meant_rest : (next : List ℕ) → List ℕ → Option (List ℕ)
 meant_rest next [] = None
 meant_rest next (b ∷ more) =
     if is_indent b then Some (drop (prefix_len is_indent more) more) else
     (if has (turned b b) next then Some (recased b more) else
-    (if has (byte ":") next then Some (byte ":" ∷ b ∷ more) else None))
+    (if is_underlined next b then Some (byte "_" ∷ more) else
+    (if has (byte ":") next then Some (byte ":" ∷ b ∷ more) else None)))
 
 -- the only byte of some
 abbrev pub only_byte : List ℕ → Option ℕ
@@ -167,13 +173,22 @@ only_words now = codes "only " ++ (take 1 now ++ codes " can be here")
 abbrev pub lead_words : (first : ℕ) (more now : List ℕ) → List ℕ
 lead_words first more now = if is_colon_gone first more now then codes "no colon is here" else only_words now
 
+-- whether udev wrote `_` in place of a byte, by the rest that was meant from there on
+abbrev pub is_underline : (b : ℕ) (now : List ℕ) → Bool
+is_underline b now = if is_replaced b then begins_with (byte "_") now else false
+
+-- what is wrong with a byte that udev doesn't write
+abbrev pub underline_words : ℕ → List ℕ
+underline_words b = codes "udev makes _ of " ++ shown_byte b
+
 -- what is wrong with the rest of a pattern that was meant so
 abbrev pub reason : (was now : List ℕ) → List ℕ
 reason [] now = []
 reason (b ∷ more) now =
     if is_indent b then codes "no blank is here" else
     (if begins_with (byte ":") now then codes "a colon is here" else
-    (if begins_with (turned b b) now then letter_words b ++ case_words b else lead_words b more now))
+    (if begins_with (turned b b) now then letter_words b ++ case_words b else
+    (if is_underline b now then underline_words b else lead_words b more now)))
 
 -- what is wrong with a pattern that goes wrong at a place and was meant so: only an order changes what is before the place
 abbrev pub mend_reason : (pattern : List ℕ) (place : ℕ) (text : List ℕ) → List ℕ

@@ -72,7 +72,7 @@ fault_place LongMatch text = max_pattern
 abbrev pub fault_hint : FaultKind → List ℕ
 fault_hint StrayProperty = codes "put a match line above it, with no empty line between them"
 fault_hint NoProperty = codes "put a property below it, on a line that begins with a space, or take the match line away"
-fault_hint StrayMatch = codes "put an empty line above it, and its properties below it"
+fault_hint StrayMatch = codes "put an empty line above it and its properties below it; a property begins with a space"
 fault_hint NoEquals = codes "write it as KEY=VALUE; a match line begins without a space"
 fault_hint EmptyKey = codes "put a key in front of the ="
 fault_hint ZeroByte = codes "take the byte away, or save the file as text without bytes 0, as UTF-8"

@@ -1,13 +1,15 @@
 -- What is said of a pattern that matches no text that udev asks, or none that it likely asks: where it goes wrong, and what could be there.
 -- Our choice.
-use Rattle.std.specs.Prelude.{Bool, true, false, ℕ, List, [], ◌∷◌, ◌++◌, ◌+◌, ◌==◌, Option, None, Some, if◌then◌else◌, codes, drop, flat_map, length, nat_lt, take}
+use Rattle.std.specs.Prelude.{Bool, true, false, ℕ, List, [], ◌∷◌, ◌++◌, ◌+◌, ◌==◌, Option, None, Some, if◌then◌else◌, codes, drop, flat_map, length, nat_eq, nat_lt, not, take}
+use Rattle.std.specs.List.{starts_with}
 use Rattle.hwdb_spec.specs.Forms.{expected, judged}
 use Rattle.hwdb_spec_commands.specs.FormTable.{asked, likely_prefix}
 use Rattle.hwdb_spec_commands.specs.LikelyForms.{likely}
-use Rattle.hwdb_spec.specs.Lines.{begins_with, byte, is_none, max_pattern}
+use Rattle.hwdb_spec.specs.Lines.{begins_with, byte, has, is_none, max_pattern}
 use Rattle.hwdb_spec_commands.specs.Fields.{meant_field, with_fields}
 use Rattle.hwdb_spec_commands.specs.Mends.{likely_after, mend_hint, mended}
-use Rattle.hwdb_spec_commands.specs.Reports.{shown_byte}
+use Rattle.hwdb_spec_commands.specs.Properties.{before, property_row}
+use Rattle.hwdb_spec_commands.specs.Reports.{shown, shown_byte}
 use Rattle.hwdb_spec.specs.declared.Judgement.{Judgement}
 use Rattle.hwdb_spec.specs.declared.Judgement.TheVariants.{Dead, Fine, UnknownPrefix}
 
@@ -95,11 +97,27 @@ abbrev pub prefix_hint : Option (List ℕ) → List ℕ
 prefix_hint None = codes "begin it as udev's strings do, with evdev: or mouse: or usb: and the like"
 prefix_hint (Some prefix) = codes "did you mean " ++ (prefix ++ byte "?" ∷ [])
 
+-- whether a match line is likely a property that begins in the first column: the name of one is before its first `=`
+abbrev pub is_like_property : List ℕ → Bool
+is_like_property text =
+    if has (byte "=") text then not (is_none (property_row (before (byte "=") text))) else false
+
+-- whether a pattern of a mouse has a vendor in place of its bus
+abbrev pub lacks_bus : List ℕ → Bool
+lacks_bus pattern = starts_with nat_eq pattern (codes "mouse:v")
+
+-- what to do about a pattern that goes wrong after this many bytes, if it isn't known how it was meant
+abbrev pub dead_hint : (pattern : List ℕ) (place : ℕ) → List ℕ
+dead_hint pattern place =
+    if is_like_property pattern then codes "a property? begin it with a space" else
+    (if lacks_bus pattern then codes "after mouse: comes usb:, bluetooth: or ps2:, as in mouse:usb:" ++ shown (drop 6 pattern)
+    else place_hint (take place pattern))
+
 -- what to do about a pattern with this judgement
 abbrev pub judgement_hint : Judgement → List ℕ → List ℕ
 judgement_hint Fine pattern = []
 judgement_hint UnknownPrefix pattern = prefix_hint (meant_prefix pattern)
-judgement_hint (Dead place) pattern = mend_hint pattern place (place_hint (take place pattern)) (mended pattern place)
+judgement_hint (Dead place) pattern = mend_hint pattern place (dead_hint pattern place) (mended pattern place)
 
 -- what to do about a pattern that likely goes wrong after this front
 abbrev pub likely_place_hint : List ℕ → List ℕ

@@ -13,6 +13,7 @@ use Rattle.hwdb_spec.specs.Patterns.{is_reversed, range_place, tokens}
 use Rattle.hwdb_spec.specs.Tree.{closed_part, is_open}
 use Rattle.hwdb_spec.specs.Texts.{place_text}
 use Rattle.hwdb_spec_commands.specs.Properties.{misuse, misuse_hint, misuse_text, property_row}
+use Rattle.hwdb_spec_commands.specs.Fragile.{fragile_hint, fragile_place, is_fragile}
 use Rattle.hwdb_spec_commands.specs.Kinds.{is_told}
 use Rattle.hwdb_spec_commands.specs.Reports.{shown}
 use Rattle.hwdb_spec_commands.specs.Surroundings.{is_unpaired, is_unread, unpaired_hint, unread_hint}
@@ -20,7 +21,7 @@ use Rattle.hwdb_spec_commands.specs.Unmatched.{is_unmatched, judgement_hint, jud
 use Rattle.hwdb_spec_commands.specs.declared.WarningKind.{WarningKind}
 use Rattle.hwdb_spec_commands.specs.declared.vocabulary.Misuse.{Misuse}
 use Rattle.hwdb_spec_commands.specs.declared.vocabulary.Misuse.TheVariants.{NearName, OldName, ScanCode, SingularMatrix, TwoDefaults, UnfitValue, UnknownKey, ZeroRow}
-use Rattle.hwdb_spec_commands.specs.declared.WarningKind.TheVariants.{ByteOrderMark, CarriageReturn, CutValue, EmptyRange, LeadingTab, MayBeTooDeep, Misused, OpenBracket, RepeatedMatch, Replaced, SpacedEquals, TooLongForUdev, Unlikely, Unmatched, Unpaired, Unread}
+use Rattle.hwdb_spec_commands.specs.declared.WarningKind.TheVariants.{ByteOrderMark, CarriageReturn, CutValue, EmptyRange, Fragile, LeadingTab, MayBeTooDeep, Misused, OpenBracket, RepeatedMatch, Replaced, SpacedEquals, TooLongForUdev, Unlikely, Unmatched, Unpaired, Unread}
 
 -- whether the key of a property ends with a space or a tab, or its value begins with one
 abbrev pub is_spaced : Line → Bool
@@ -114,7 +115,7 @@ is_known l = not (is_none (property_row (key l)))
 -- key: a blank is beside its first `=`. Of a property with a `=`: a `#` cuts it, before which no blank is. It is a match line that
 -- is in its record already. Lines after it replace what it gives. What is known of properties doesn't fit it, or the patterns of
 -- its record don't, or the other properties that these are given. It is a pattern that matches no text that udev asks, or none that it
--- likely asks, or one that udev can't take, or with which a database may be too deep.
+-- likely asks, or one that udev can't take, or with which a database may be too deep. Or it names a machine's firmware beside its model.
 abbrev pub warns : (file : List ℕ) → WarningKind → (line clean : Line) → Bool
 warns file ByteOrderMark line l = starts_with nat_eq l.text (239 ∷ 187 ∷ 191 ∷ [])
 warns file LeadingTab line l = begins_with (byte "\t") l.text
@@ -133,6 +134,7 @@ warns file (Unmatched told) line l = is_unmatched (judgement_of l.text)
 warns file (Unlikely told) line l = is_unmatched (likelihood_of l.text)
 warns file TooLongForUdev line l = is_too_long l
 warns file MayBeTooDeep line l = may_be_too_deep l
+warns file Fragile line l = if is_match l then is_fragile l.text else false
 
 -- The kinds of warnings that a line may get. That of a replaced one names the last line that replaces. That of a misused one says
 -- how, that of an unread one whether it is known, and those of a pattern what is said of it.
@@ -140,7 +142,7 @@ abbrev pub line_kinds : (file : List ℕ) → (clean : Line) → List WarningKin
 line_kinds file clean =
     ByteOrderMark ∷ LeadingTab ∷ CarriageReturn ∷ OpenBracket ∷ EmptyRange ∷ SpacedEquals ∷ CutValue ∷ RepeatedMatch
     ∷ Replaced (greatest (replacing file clean.number)) ∷ Misused (unwrap_or (misused clean) NearName) ∷ Unread (is_known clean) ∷ Unpaired
-    ∷ Unmatched (judgement_of clean.text) ∷ Unlikely (likelihood_of clean.text) ∷ TooLongForUdev ∷ MayBeTooDeep ∷ []
+    ∷ Unmatched (judgement_of clean.text) ∷ Unlikely (likelihood_of clean.text) ∷ TooLongForUdev ∷ MayBeTooDeep ∷ Fragile ∷ []
 
 -- whether a line gets a warning that is told
 abbrev pub gets : (allowed : List (List ℕ)) → (file : List ℕ) → (line clean : Line) → WarningKind → Bool
@@ -177,6 +179,7 @@ warning_text (Unmatched told) = judgement_text told
 warning_text (Unlikely told) = codes "a string that udev asks hardly goes on like this"
 warning_text TooLongForUdev = codes "udev takes at most 2046 bytes from the first *, ? or [ on"
 warning_text MayBeTooDeep = codes "with other lines, more than 2047 bytes may be too deep for udev"
+warning_text Fragile = codes "a version or a date of the firmware beside the model"
 
 -- after how many bytes of its line a warning is, of a line with this text and this clean text
 abbrev pub warning_place : WarningKind → (text clean : List ℕ) → ℕ
@@ -203,6 +206,7 @@ warning_place (Unmatched told) text clean = judgement_place told
 warning_place (Unlikely told) text clean = judgement_place told
 warning_place TooLongForUdev text clean = position_or_len is_wild clean
 warning_place MayBeTooDeep text clean = longest_line
+warning_place Fragile text clean = fragile_place clean
 
 -- how a property is written that has a blank beside its `=`
 abbrev pub spaced_hint : Line → List ℕ
@@ -226,6 +230,7 @@ warning_hint (Unmatched told) clean = judgement_hint told clean.text
 warning_hint (Unlikely told) clean = likelihood_hint told clean.text
 warning_hint TooLongForUdev clean = codes "shorten it: systemd 252 and 257 crash at it, and 262 finds nothing"
 warning_hint MayBeTooDeep clean = codes "shorten it: systemd 262 refuses a depth of more than 2048, which hwdb verify tells"
+warning_hint Fragile clean = fragile_hint clean.text
 
 -- the line of a warning as `update` prints it: where it is, `: warning: `, what is unusual
 abbrev pub warning_line : (path : List ℕ) (number : ℕ) → WarningKind → List ℕ

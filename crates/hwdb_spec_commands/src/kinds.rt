@@ -24,4 +24,5 @@ unpaired
 unknown-prefix
 dead-pattern
 unlikely-pattern
-too-long-for-udev";
+too-long-for-udev
+fragile-pattern";

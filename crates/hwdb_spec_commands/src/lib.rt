@@ -16,6 +16,7 @@
 //! | `Properties` | which properties are known, which values they take, and what is said of others |
 //! | `Mends` | what a pattern was likely meant to be that no string of udev matches |
 //! | `Fields` | where a pattern has what is nearly the name of a field of the machine |
+//! | `Fragile` | patterns that name the firmware of a machine beside its model |
 //! | `Unmatched` | what is said of a pattern that matches no text that udev asks, or none that it likely asks |
 //! | `Surroundings` | what is said of a property because of the patterns and properties around it |
 //! | `Kinds` | the names of faults and warnings, and which warnings are told |
@@ -127,7 +128,7 @@ pub use refusals::Refusal;
 pub use unread::Unread;
 pub use vocabulary::{
     AXIS_CODES, COMPANIONS, KEY_HINT, KEY_NAMES, KEY_WORDS, KNOWN_BELOW, MACHINE_FIELDS, Misuse,
-    OLD_PROPERTIES, PROPERTIES, Sign, SignRow, VALUE_WORDS, ValueForm,
+    OLD_PROPERTIES, PLACEHOLDERS, PROPERTIES, Sign, SignRow, VALUE_WORDS, ValueForm,
 };
 
 /// What is unusual in a line that is read.
@@ -165,6 +166,8 @@ pub enum WarningKind {
     TooLongForUdev,
     /// It is a match line with which a database may be too deep for udev.
     MayBeTooDeep,
+    /// It is a pattern that names a machine's firmware beside its model.
+    Fragile,
 }
 
 /// How many files were checked, and how much was found in them.

@@ -273,6 +273,20 @@ pub const COMPANIONS: &str = "\
 pub const MACHINE_FIELDS: &str =
     "svn\nsku\npvr\nbvn\nbvr\nrvn\nrvr\ncvn\ncvr\nefr\ncat\npn\nrn\nbd\nbr\nct\n";
 
+/// What a machine's DMI has for a vendor or a product that its maker didn't fill in, as Linux shows it. A name a line. The first ones are
+/// of 60-sensor.hwdb, whose records name the firmware for that reason; the others are our choice.
+pub const PLACEHOLDERS: &str = "\
+    Defaultstring\n\
+    Insyde\n\
+    TobefilledbyO.E.M.\n\
+    ToBeFilledByO.E.M.\n\
+    Systemmanufacturer\n\
+    SystemProductName\n\
+    NotApplicable\n\
+    NotSpecified\n\
+    None\n\
+    OEM\n";
+
 /// Which texts are values of a property.
 #[derive(Clone, Copy, Debug, PartialEq, Eq)]
 pub enum ValueForm {

@@ -10,5 +10,5 @@ returns-in-Some c =
     let other = likely_place_hint (take c.args.place c.args.pattern.now) in
     on_ok_weaker c.push_mend.result
     (λ pushed. pushed ∙ ap (λ (m : Option (List ℕ)). c.args.text.now.items ++ mend_hint c.args.pattern.now c.args.place other m)
-    (ap Some c.deref.ensures.value ∙ sym (ap items_of c.in-Some.is) ∙ c.in_ok-meant.ensures))
+    (ap Some c.deref.ensures.value ∙ sym (ap items_of c.in-Some.is) ∙ c.requires))
     (c.push_mend.ensures other)

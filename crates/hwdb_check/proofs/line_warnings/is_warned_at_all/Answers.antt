@@ -41,7 +41,7 @@ returns c = λ e allowed.
                               ap (λ (t : List ℕ). is_unmatched (judgement_of t)) c.requires.clean ∙ ap is_unmatched (sym c.requires.judgement) ∙ sym c.is_unmatched.ensures ∙ c.if-is_unmatched.false,
                               (
                                 ap (λ (t : List ℕ). is_unmatched (likelihood_of t)) c.requires.clean ∙ ap is_unmatched (sym c.requires.likelihood) ∙ sym c.is_unmatched-2.ensures ∙ c.if-is_unmatched-2.false,
-                                (sym c.is_too_long.ensures ∙ c.if-is_too_long.false, (sym c.may_be_too_deep.ensures ∙ c.if-may_be_too_deep.false, tt)),
+                                (sym c.is_too_long.ensures ∙ c.if-is_too_long.false, (sym c.may_be_too_deep.ensures ∙ c.if-may_be_too_deep.false, (sym c.is_fragile_line.ensures ∙ e, tt))),
                               ),
                             ),
                           ),
