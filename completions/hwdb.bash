@@ -69,7 +69,7 @@ _hwdb() {
         [near]='-r --root --color --limit --text --json -h --help'
         [device]='-r --root --color --from --text --strings --json --pattern --all -h --help'
         [check]='-s --strict -r --root --color --allow --baseline --name --diff --format --json -h --help'
-        [test]='-r --root --color --database --text --json -h --help'
+        [test]='-r --root --color --record --database --text --json -h --help'
         [diff]='-r --root --color --devices --stat --json -h --help'
         [verify]='-r --root --color --text -h --help'
         [dump]='-r --root --color --text -h --help'

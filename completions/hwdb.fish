@@ -154,6 +154,7 @@ complete -c hwdb -n '__hwdb_at check' -l baseline -x -a '(__hwdb_file)' -d 'Leav
 complete -c hwdb -n '__hwdb_at check' -l name -x -a '(__hwdb_file)' -d 'The path that findings of standard input have'
 complete -c hwdb -n '__hwdb_at check' -l diff -d 'Print a patch of all sure mends instead, as patch -p0 and git apply -p0 take it'
 complete -c hwdb -n '__hwdb_at check' -l format -x -a 'text json github sarif' -d 'Print findings as text, json, github (annotations) or sarif; --json is --format json'
+complete -c hwdb -n '__hwdb_at test' -l record -d 'Print a test file of what the devices have, which holds'
 complete -c hwdb -n '__hwdb_at test' -l database -x -a '(__hwdb_database)' -d 'Ask this database, in place of that of /etc/udev or /usr/lib/udev'
 complete -c hwdb -n '__hwdb_at diff' -l devices -x -a '(__hwdb_file)' -d 'Compare what the devices of a file get, a line each, or of - for standard input; may come more than once'
 complete -c hwdb -n '__hwdb_at diff' -l stat -d 'Print how many assignments came, went and changed, by file and by key'

@@ -771,6 +771,7 @@ def checked(files, strict):
 UNKNOWN = (
     b"no string that udev asks goes on like this",
     b"no string that udev asks begins like this",
+    b"a string that udev asks hardly goes on like this",
     b"a property that nothing is known to read",
     b"a property that is no longer read",
     b"a code that its property doesn't take",
@@ -781,6 +782,7 @@ UNKNOWN = (
     b"more than one resolution is the default",
     b"a property that isn't read below its patterns",
     b"a property that is read with others alone",
+    b"a version or a date of the firmware beside the model",
 )
 
 

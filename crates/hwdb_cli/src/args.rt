@@ -15,7 +15,7 @@ ghost use Rattle.hwdb_spec_commands.specs.declared.job.WordsFault.TheVariants.{M
 use crate::command::hwdb_command;
 use crate::help::{fitting_help, short_help};
 use crate::matched::{copied, has_flag, text_of};
-use crate::tips::{with_command_tip, with_fitting_tip};
+use crate::tips::{with_command_tip, with_device_words, with_fitting_tip};
 use crate::{
     ask, check, device, diff, dump, explain, keys, list, near, query, scan, status, test, update,
     verify,
@@ -157,6 +157,7 @@ fn text_of_fault(alloc: Global, error: &Error, words: &[String]) -> Result<Strin
     let told = match error.kind() {
         ErrorKind::DisplayHelp => fitting_help(alloc, text.as_str())?,
         ErrorKind::MissingSubcommand => short_help(alloc)?,
+        ErrorKind::MissingRequiredArgument => with_device_words(alloc, text.as_str())?,
         ErrorKind::UnknownArgument => with_fitting_tip(alloc, text.as_str(), words)?,
         ErrorKind::InvalidSubcommand => with_command_tip(alloc, text.as_str())?,
         _ => text,

@@ -1,4 +1,4 @@
-//! `test`: its words, and its task.
+//! `test`: its words, and its task; and that of `test --record`.
 ghost use Rattle.std.specs.Prelude.{◌≡◌, IfOk, codes, option_map};
 ghost use Rattle.clap.specs.Walk.{rows_of};
 ghost use Rattle.clap.specs.Matches.{found_of};
@@ -6,10 +6,12 @@ ghost use Rattle.hwdb_cli.specs.Drafts.{IsArgument, IsDraft};
 ghost use Rattle.hwdb_spec_commands.specs.Jobs.{HasValue, IsTask, option_misfit};
 ghost use Rattle.hwdb_spec_commands.specs.CommandLine.{database_option_rule, test_app};
 
-use crate::drafts::{Draft, json_option, needed_word, option, shared, text_option, with_argument};
+use crate::drafts::{
+    Draft, flag, json_option, needed_word, option, shared, text_option, with_argument,
+};
 use crate::matched::{copied, has_flag, text_of, values_of};
 use clap::{Arg, ArgAction, ArgMatches};
-use hwdb_spec_commands::{Task, TestArgs};
+use hwdb_spec_commands::{RecordArgs, Task, TestArgs};
 use std::alloc::{AllocError, Global};
 
 /// What the short help says of it.
@@ -20,15 +22,17 @@ const ABOUT: &str = "Says whether a database gives devices the properties that t
 
 /// What help ends with.
 const AFTER: &str =
-    "Exit status: 0 if each wanted line holds; 1 if one doesn't, and on errors.\nExample: hwdb test --database new.bin keyboard.test";
+    "With --record the words are device strings. A lone - stands for those of standard input, a line each.\nExit status: 0 if each wanted line holds; 1 if one doesn't, and on errors.\nExample: hwdb test --database new.bin keyboard.test";
 
 /// The command.
 pub fn command<'a>(alloc: Global) -> Draft<'a>
     ensures { IsDraft test_app result }
 {
     let help = "A test file, or - for standard input";
+    let record_help = "Print a test file of what the devices have, which holds";
     let command = shared(alloc, "test", ABOUT, AFTER);
-    let with_database = with_argument(command, database_option(alloc));
+    let with_record = with_argument(command, flag(alloc, "record", record_help));
+    let with_database = with_argument(with_record, database_option(alloc));
     let with_text = with_argument(with_database, text_option(alloc));
     let with_json = with_argument(with_text, json_option(alloc));
     let files = needed_word(alloc, "FILE", help, ArgAction::Append);
@@ -43,16 +47,23 @@ fn database_option<'a>(alloc: Global) -> Arg<'a>
     option(alloc, "database", "DATABASE", help)
 }
 
-/// The task of `test`.
+/// The task of `test`, or of `test --record`.
 pub fn task(alloc: Global, inner: &ArgMatches<'_>) -> Result<Task, AllocError>
     requires { HasValue (codes "FILE") (rows_of (found_of inner.now)) }
     ensures { IfOk result (IsTask (codes "test") (rows_of (found_of inner.now))) }
 {
-    let files = values_of(alloc, inner, "FILE")?;
+    let words = values_of(alloc, inner, "FILE")?;
     let database = copied(alloc, text_of(inner, "database"))?;
     let json = has_flag(inner, "json");
+    if has_flag(inner, "record") {
+        return Ok(Task::Record(RecordArgs {
+            devices: words,
+            database,
+            json,
+        }));
+    }
     Ok(Task::Test(TestArgs {
-        files,
+        files: words,
         database,
         json,
     }))

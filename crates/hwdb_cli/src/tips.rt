@@ -15,6 +15,9 @@ const LIKE_TIP: &str = "  tip: a similar argument exists: ";
 /// How any advice begins.
 const TIP: &str = "  tip: ";
 
+/// The option with which the words of `test` are device strings.
+const RECORD: &str = " --record ";
+
 /// Where the commands are, for whoever named one that isn't there.
 const COMMANDS_TIP: &str = "  tip: to see all commands, use 'hwdb help'";
 
@@ -50,6 +53,25 @@ pub fn with_command_tip(alloc: Global, text: &str) -> Result<String, AllocError>
         }
         _ => String::from_str(alloc, text),
     }
+}
+
+/// The text of a missing argument's fault. With `--record` the words of `test` are device strings: they are called as those of `query` are.
+///
+/// The only error is want of memory.
+pub fn with_device_words(alloc: Global, text: &str) -> Result<String, AllocError> {
+    if !text.contains(RECORD) {
+        return String::from_str(alloc, text);
+    }
+    let mut told = String::new(alloc);
+    let mut is_first = true;
+    for piece in text.split("<FILE>") {
+        if !is_first {
+            told.push_str("<MODALIAS>")?;
+        }
+        told.push_str(piece)?;
+        is_first = false;
+    }
+    Ok(told)
 }
 
 /// Whether a paragraph is a tip or the usage.

@@ -5,7 +5,8 @@ use Rattle.hex.specs.Hex.{encode_with}
 use Rattle.hwdb_spec.specs.Lines.{pieces}
 use Rattle.hwdb_spec.specs.Visible.{visible_after}
 use Rattle.hwdb_spec_commands.specs.DeviceTree.{last_after}
-use Rattle.hwdb_laws.specs.PlanRows.{AfterRows, BaselineRows, BesidesRows, CheckRows, DeviceRows, DiffRows, FreshRows, InputRows, KeysRows, ListRows, MisuseRows, NamedRows, NearRows, NoneRows, QueryRows, ScanRows, StatusRows, SysfsRows, TextRows, NoUpdateRows, UpdateRows}
+use Rattle.hwdb_laws.specs.PlanRows.{AfterRows, BaselineRows, BesidesRows, CheckRows, DeviceRows, DiffRows, FreshRows, InputRows, KeysRows, ListRows, MisuseRows, NamedRows, NearRows, NoneRows, QueryRows, RecordRows, ScanRows, StatusRows, SysfsRows, TextRows, NoUpdateRows, UpdateRows}
+use Rattle.hwdb_plan.specs.Files.{read_files}
 use Rattle.hwdb_plan.specs.OverText.{said_after}
 use Rattle.std.specs.Char.{encode_utf8}
 use Rattle.std.specs.Fmt.{digits}
@@ -31,6 +32,10 @@ device_rows = λ a. refl
 pub named_rows : NamedRows
 unfolding pieces visible_after is_utf8 chars encode_utf8 encode_with digits bundle_met walked flags_fault walk_fault defaults_fault last_after
 named_rows = λ a. refl
+
+pub record_rows : RecordRows
+unfolding pieces visible_after is_utf8 chars encode_utf8 encode_with digits bundle_met walked flags_fault walk_fault defaults_fault last_after read_files
+record_rows = λ a. refl
 
 pub check_rows : CheckRows
 unfolding pieces visible_after is_utf8 chars encode_utf8 encode_with digits bundle_met walked flags_fault walk_fault defaults_fault last_after

@@ -44,7 +44,7 @@ read_rows = refl
 pub dash_rows : DashRows
 dash_rows word other words w o ws =
     (λ i.
-    is_input (ws i) ∷ is_dash (w i) ∷ is_dash (w i) ∷ is_dash (o i) ∷ false ∷ any_dash (ws i) ∷ any_dash (ws i) ∷ any_dash (ws i) ∷ is_dash (w i) ∷ is_dash (w i)
+    is_input (ws i) ∷ is_dash (w i) ∷ is_dash (w i) ∷ is_dash (o i) ∷ false ∷ any_dash (ws i) ∷ any_dash (ws i) ∷ any_dash (ws i) ∷ is_input (ws i) ∷ is_dash (w i) ∷ is_dash (w i)
     ∷ is_input (ws i) ∷ is_input (w i ∷ []) ∷ false ∷ [])
     ∙ refl
 
@@ -54,7 +54,7 @@ scan_rows word other w o = (λ i. not (is_dash (w i)) ∷ not (is_dash (o i)) �
 pub other_rows : OtherRows
 other_rows word words w ws =
     (λ i.
-    is_input (ws i) ∷ is_dash (w i) ∷ is_dash (w i) ∷ any_dash (ws i) ∷ any_dash (ws i) ∷ any_dash (ws i) ∷ any_dash (w i ∷ w i ∷ ws i) ∷ is_dash (w i) ∷ is_dash (w i)
+    is_input (ws i) ∷ is_dash (w i) ∷ is_dash (w i) ∷ any_dash (ws i) ∷ any_dash (ws i) ∷ any_dash (ws i) ∷ is_input (ws i) ∷ any_dash (w i ∷ w i ∷ ws i) ∷ is_dash (w i) ∷ is_dash (w i)
     ∷ is_input (ws i) ∷ is_input (w i ∷ []) ∷ [])
     ∙ refl
 
@@ -64,7 +64,7 @@ diff_rows word other words others w o ws os =
 
 pub named_rows : NamedRows
 named_rows word words none w n =
-    (λ i. (w i == 0) ∷ (n i == 0) ∷ (w i == 0) ∷ (n i == 0) ∷ false ∷ true ∷ false ∷ false ∷ false ∷ false ∷ false ∷ true ∷ []) ∙ refl
+    (λ i. (w i == 0) ∷ (n i == 0) ∷ (w i == 0) ∷ (n i == 0) ∷ false ∷ true ∷ false ∷ true ∷ false ∷ false ∷ false ∷ false ∷ false ∷ true ∷ []) ∙ refl
 
 pub status_rows : StatusRows
 status_rows word words = refl

@@ -1,6 +1,6 @@
 -- What a terminal changes of a run.
 use Rattle.std.proofs.Common.{◌≡◌, ap, refl, subst, sym, true, false, List, None, Option, Some, ℕ}
-use Rattle.std.specs.Prelude.{codes, option_map}
+use Rattle.std.specs.Prelude.{option_map}
 use Rattle.std.specs.Char.{encode_utf8}
 use Rattle.std.specs.Fmt.{digits}
 use Rattle.std.specs.Str.{chars, is_utf8}

@@ -34,6 +34,8 @@ use Rattle.hwdb_plan.specs.Plans.End.{Answers, Scans, Stops}
 use Rattle.hwdb_plan.specs.Plans.Plan.{Database, Done}
 use Rattle.hwdb_plan.specs.Sides.{made_of, taken_from}
 use Rattle.hwdb_plan.specs.Status.{status_plan}
+use Rattle.hwdb_plan.specs.Asking.{named}
+use Rattle.hwdb_plan.specs.Record.{devices_plan, recorded}
 use Rattle.hwdb_plan.specs.Test.{test_plan}
 use Rattle.hwdb_plan.specs.Verify.{verify_plan}
 use Rattle.hwdb_spec_commands.specs.declared.formats.Format.TheVariants.{Json as JsonLines, Patch, Sarif, Text as Reports}
@@ -81,6 +83,15 @@ NamedRows =
     ∷ asked a (codes "test" ∷ codes "--database" ∷ codes "d" ∷ codes "f" ∷ codes "g" ∷ []) ∷ []
     ≡ Some (ask_plan (codes "f") (codes "a") (codes "f")) ∷ Some (verify_plan (Some (codes "d")) []) ∷ Some (dump_plan None (codes "/r"))
     ∷ Some (test_plan a.input (codes "f" ∷ codes "g" ∷ []) (Some (codes "d")) [] false) ∷ []
+
+-- With `--record` the words of `test` are devices, and a lone `-` is standard input. JSON is an error before anything is asked.
+abbrev pub RecordRows : Type 0
+RecordRows =
+    (a : Around)
+    → asked a (codes "test" ∷ codes "--record" ∷ codes "f" ∷ codes "-" ∷ []) ∷ asked a (codes "-r/r" ∷ codes "test" ∷ codes "--database=d" ∷ codes "-" ∷ codes "--record" ∷ [])
+    ∷ asked a (codes "test" ∷ codes "--record" ∷ codes "--json" ∷ codes "-" ∷ []) ∷ []
+    ≡ Some (named None [] (recorded (codes "f" ∷ codes "-" ∷ []))) ∷ Some (devices_plan a.input (codes "-" ∷ []) (Some (codes "d")) (codes "/r"))
+    ∷ Some (Done (Stops (Says (codes "--record prints a test file, which is never JSON: leave out --json")))) ∷ []
 
 -- Kinds that are allowed are told as they are given, and `--strict` may stand before the command's word.
 abbrev pub CheckRows : Type 0

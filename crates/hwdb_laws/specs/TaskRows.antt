@@ -14,7 +14,7 @@ use Rattle.hwdb_spec.specs.Store.{Contents, database_file}
 use Rattle.hwdb_spec_program.specs.TaskRefusals.{refused_status, with_err}
 use Rattle.hwdb_spec_commands.specs.declared.job.Job.{Job}
 use Rattle.hwdb_spec_commands.specs.declared.job.Task.{Task}
-use Rattle.hwdb_spec_commands.specs.declared.job.Task.TheVariants.{Ask, Check, Device, Diff, Dump, Explain, Keys, List as ListHits, Near, Query, Scan, Status, Test, Update, Verify}
+use Rattle.hwdb_spec_commands.specs.declared.job.Task.TheVariants.{Ask, Check, Device, Diff, Dump, Explain, Keys, List as ListHits, Near, Query, Record, Scan, Status, Test, Update, Verify}
 
 -- ---- tasks, by what their words ask for
 
@@ -41,6 +41,9 @@ near files device = Near (record { files = files; device = device; limit = None;
 
 abbrev pub test : Vec (String Global) Global → Option (String Global) → Task
 test files database = Test (record { files = files; database = database; json = false })
+
+abbrev pub recording : Vec (String Global) Global → Option (String Global) → Task
+recording devices database = Record (record { devices = devices; database = database; json = false })
 
 abbrev pub devices : Task
 devices = Device (record { path = None; strings = false; json = false; pattern = false; all = false; from = None })
@@ -80,9 +83,9 @@ abbrev pub DashRows : Type 0
 DashRows =
     (word other : String Global) (words : Vec (String Global) Global) → string_bytes word ≡ codes "-" → string_bytes other ≡ codes "f" → map string_bytes words.items ≡ codes "-" ∷ []
     → reads_input (query words false) ∷ reads_input (explain word false) ∷ reads_input (ask word other) ∷ reads_input (ask other word) ∷ reads_input (list_all word) ∷ reads_input (check words words)
-    ∷ reads_input (near words other) ∷ reads_input (test words None) ∷ reads_input (verify (Some word)) ∷ reads_input (dump (Some word)) ∷ streams (query words true) ∷ streams (explain word true)
+    ∷ reads_input (near words other) ∷ reads_input (test words None) ∷ reads_input (recording words None) ∷ reads_input (verify (Some word)) ∷ reads_input (dump (Some word)) ∷ streams (query words true) ∷ streams (explain word true)
     ∷ streams (ask word other) ∷ []
-    ≡ true ∷ true ∷ true ∷ false ∷ false ∷ true ∷ true ∷ true ∷ true ∷ true ∷ true ∷ true ∷ false ∷ []
+    ≡ true ∷ true ∷ true ∷ false ∷ false ∷ true ∷ true ∷ true ∷ true ∷ true ∷ true ∷ true ∷ true ∷ false ∷ []
 
 -- Of `scan` the device below the root is read in place of standard input. With `-` it is none below the root.
 abbrev pub ScanRows : Type 0
@@ -95,8 +98,8 @@ abbrev pub OtherRows : Type 0
 OtherRows =
     (word : String Global) (words : Vec (String Global) Global) → string_bytes word ≡ codes "f" → map string_bytes words.items ≡ codes "f" ∷ codes "g" ∷ []
     → reads_input (query words false) ∷ reads_input (explain word false) ∷ reads_input (ask word word) ∷ reads_input (check words words) ∷ reads_input (near words word)
-    ∷ reads_input (test words None) ∷ reads_input (diff word word words) ∷ reads_input (verify (Some word)) ∷ reads_input (dump (Some word)) ∷ streams (query words true) ∷ streams (explain word true) ∷ []
-    ≡ false ∷ false ∷ false ∷ false ∷ false ∷ false ∷ false ∷ false ∷ false ∷ false ∷ false ∷ []
+    ∷ reads_input (test words None) ∷ reads_input (recording words None) ∷ reads_input (diff word word words) ∷ reads_input (verify (Some word)) ∷ reads_input (dump (Some word)) ∷ streams (query words true) ∷ streams (explain word true) ∷ []
+    ≡ false ∷ false ∷ false ∷ false ∷ false ∷ false ∷ false ∷ false ∷ false ∷ false ∷ false ∷ false ∷ []
 
 -- Each of the three of `diff` may be it.
 abbrev pub DiffRows : Type 0
@@ -110,9 +113,9 @@ abbrev pub NamedRows : Type 0
 NamedRows =
     (word : String Global) (words none : Vec (String Global) Global) → length words.items ≡ 1 → length none.items ≡ 0
     → (looks_below_root (check words words) ∷ looks_below_root (check none words) ∷ looks_below_root (near words word) ∷ looks_below_root (near none word)
-    ∷ looks_below_root (test words (Some word)) ∷ looks_below_root (test words None) ∷ looks_below_root (verify (Some word)) ∷ looks_below_root (dump (Some word)) ∷ looks_below_root (ask word word)
+    ∷ looks_below_root (test words (Some word)) ∷ looks_below_root (test words None) ∷ looks_below_root (recording words (Some word)) ∷ looks_below_root (recording words None) ∷ looks_below_root (verify (Some word)) ∷ looks_below_root (dump (Some word)) ∷ looks_below_root (ask word word)
     ∷ looks_below_root (diff word word words) ∷ looks_below_root (keys words) ∷ looks_below_root (query words false) ∷ [])
-    ≡ false ∷ true ∷ false ∷ true ∷ false ∷ true ∷ false ∷ false ∷ false ∷ false ∷ false ∷ true ∷ []
+    ≡ false ∷ true ∷ false ∷ true ∷ false ∷ true ∷ false ∷ true ∷ false ∷ false ∷ false ∷ false ∷ false ∷ true ∷ []
 
 abbrev pub StatusRows : Type 0
 StatusRows =

@@ -10,7 +10,7 @@
 //! | `FormRows` | the forms of strings that udev asks |
 //! | `CheckRows` | what `check` says |
 //! | `ChangeRows` | what `diff` says |
-//! | `WantedRows` | what `test` says |
+//! | `WantedRows` | what `test` says, and what `test --record` prints |
 //! | `StatusRows` | what `status` says, and `update` without text files |
 //! | `OverTextRows` | which words don't fit `--text` |
 //! | `SaidRows` | what `verify`, `update --verbose`, `explain` and `near` say |

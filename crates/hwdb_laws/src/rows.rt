@@ -106,11 +106,15 @@ pub fn change_rows()
     ensures files { ChangeRows.FileRows }
 {}
 
-/// What `test` says.
+/// What `test` says, and what `test --record` prints.
 pub fn wanted_rows()
     ensures held { WantedRows.HeldRows }
     ensures status { WantedRows.StatusRows }
     ensures text { WantedRows.TestRows }
+    ensures records { WantedRows.RecordRows }
+    ensures said { WantedRows.SaidRows }
+    ensures unsaid { WantedRows.UnsaidRows }
+    ensures why { WantedRows.WhyRows }
 {}
 
 /// What `verify` says.
@@ -319,6 +323,7 @@ pub fn plan_rows()
     ensures check { PlanRows.CheckRows }
     ensures baseline { PlanRows.BaselineRows }
     ensures named { PlanRows.NamedRows }
+    ensures recorded { PlanRows.RecordRows }
     ensures diff { PlanRows.DiffRows }
     ensures fresh { PlanRows.FreshRows }
     ensures keys { PlanRows.KeysRows }

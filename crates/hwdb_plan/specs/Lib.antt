@@ -18,6 +18,7 @@ pub mod Baseline
 pub mod Sysfs
 pub mod Requests
 pub mod Test
+pub mod Record
 pub mod Near
 pub mod Diff
 pub mod Check

@@ -46,13 +46,17 @@ old_database_rule = record (new_rule (codes "OLD")) { required = true; action = 
 abbrev pub new_database_rule : Rule
 new_database_rule = record (new_rule (codes "NEW")) { required = true; action = Some Set }
 
--- test files, one or more
+-- test files, or with `--record` devices, one or more
 abbrev pub test_files_rule : Rule
 test_files_rule = record (new_rule (codes "FILE")) { required = true; action = Some Append }
 
 -- the database that is asked in place of that of both folders
 abbrev pub database_option_rule : Rule
 database_option_rule = record (new_rule (codes "database")) { value_names = 1; long = Some (codes "database"); action = Some Set }
+
+-- `--record`
+abbrev pub record_rule : Rule
+record_rule = record (new_rule (codes "record")) { long = Some (codes "record"); action = Some SetTrue }
 
 -- files that name devices, or none
 abbrev pub devices_option_rule : Rule
@@ -195,7 +199,8 @@ check_app =
 
 -- `test`
 abbrev pub test_app : App
-test_app = with_rule (with_rule (with_rule (with_rule (with_shared (new_app (codes "test"))) database_option_rule) text_rule) json_rule) test_files_rule
+test_app =
+    with_rule (with_rule (with_rule (with_rule (with_rule (with_shared (new_app (codes "test"))) record_rule) database_option_rule) text_rule) json_rule) test_files_rule
 
 -- `diff`
 abbrev pub diff_app : App

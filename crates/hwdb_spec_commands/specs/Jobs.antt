@@ -9,7 +9,7 @@ use Rattle.clap.specs.Walk.{Row, Rule, Text, all_of, first_of, one_of}
 use Rattle.clap.specs.declared.builder.value_parser.ValueParser.{ValueParser}
 use Rattle.clap.specs.declared.builder.value_parser.ValueParser.TheVariants as vp
 use Rattle.hwdb_spec_commands.specs.CommandLine.{hwdb_app}
-use Rattle.hwdb_spec_commands.specs.declared.job.Task.TheVariants.{Ask, Check, Device, Diff, Dump, Explain, Fresh, Keys, List as ListHits, Near, Query, Scan, Status, Test, Update, Verify}
+use Rattle.hwdb_spec_commands.specs.declared.job.Task.TheVariants.{Ask, Check, Device, Diff, Dump, Explain, Fresh, Keys, List as ListHits, Near, Query, Record, Scan, Status, Test, Update, Verify}
 use Rattle.hwdb_spec_commands.specs.declared.job.Task.{Task}
 use Rattle.hwdb_spec_commands.specs.declared.job.Job.{Job}
 
@@ -51,8 +51,10 @@ IsTask name inner (Check c) = (name ≡ codes "check") × AreAnyValues (codes "F
     × AreAnyValues (codes "allow") inner (map string_bytes c.allowed.items) × (c.json ≡ has_flag (codes "json") inner)
     × (option_map string_bytes c.format ≡ first_of (codes "format") inner) × (option_map string_bytes c.name ≡ first_of (codes "name") inner)
     × (option_map string_bytes c.baseline ≡ first_of (codes "baseline") inner) × (c.diff ≡ has_flag (codes "diff") inner)
-IsTask name inner (Test t) = (name ≡ codes "test") × (t.json ≡ has_flag (codes "json") inner) × (option_map string_bytes t.database ≡ first_of (codes "database") inner)
+IsTask name inner (Test t) = (name ≡ codes "test") × (has_flag (codes "record") inner ≡ false) × (t.json ≡ has_flag (codes "json") inner) × (option_map string_bytes t.database ≡ first_of (codes "database") inner)
     × AreValues (codes "FILE") inner (map string_bytes t.files.items)
+IsTask name inner (Record r) = (name ≡ codes "test") × (has_flag (codes "record") inner ≡ true) × (r.json ≡ has_flag (codes "json") inner) × (option_map string_bytes r.database ≡ first_of (codes "database") inner)
+    × AreValues (codes "FILE") inner (map string_bytes r.devices.items)
 IsTask name inner (Diff d) = (name ≡ codes "diff") × (d.json ≡ has_flag (codes "json") inner) × (d.stat ≡ has_flag (codes "stat") inner) × AreAnyValues (codes "devices") inner (map string_bytes d.devices.items)
     × IsValue (codes "OLD") inner (string_bytes d.old) × IsValue (codes "NEW") inner (string_bytes d.new)
 IsTask name inner (Verify v) = (name ≡ codes "verify") × (option_map string_bytes v.database ≡ first_of (codes "DATABASE") inner)

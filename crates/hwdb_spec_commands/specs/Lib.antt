@@ -46,6 +46,7 @@ pub mod Near
 pub mod NearAsked
 pub mod NearPrefixes
 pub mod Wanted
+pub mod Recorded
 pub mod Colours
 pub mod Inputs
 pub mod Lookups

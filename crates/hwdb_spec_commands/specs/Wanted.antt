@@ -1,6 +1,6 @@
 -- A test file: devices, and what is wanted of each; whether a database gives it, and what `test` prints. A test file looks like the
 -- text files of hwdb(7). Our choice.
-use Rattle.std.specs.Prelude.{Bool, true, false, ℕ, List, [], ◌∷◌, ◌++◌, ◌==◌, if◌then◌else◌, Option, None, Some, codes, drop, filter, flat_map, length, map, not, take}
+use Rattle.std.specs.Prelude.{Bool, true, false, ℕ, List, [], ◌∷◌, ◌++◌, ◌==◌, ◌||◌, if◌then◌else◌, Option, None, Some, codes, drop, filter, flat_map, length, map, not, take}
 use Rattle.std.specs.List.{list_any}
 use Rattle.std.specs.Fmt.{decimal}
 use Rattle.json.specs.Json.{Json}
@@ -11,9 +11,9 @@ use Rattle.hwdb_spec.specs.Explanations.{explained}
 use Rattle.hwdb_spec_commands.specs.Findings.{format_if, told_fault}
 use Rattle.hwdb_spec.specs.Folders.{Source, same}
 use Rattle.hwdb_spec_commands.specs.Json.{array_of, json_line, number_json, object_of, text_json}
-use Rattle.hwdb_spec.specs.Lines.{Line, begins_with, byte, clean, has_equals, has_key, is_blank, is_empty, is_none, is_property, key, lines, property, value}
+use Rattle.hwdb_spec.specs.Lines.{Line, begins_with, byte, clean, has, has_equals, has_key, is_blank, is_empty, is_none, is_property, key, lines, property, value}
 use Rattle.hwdb_spec.specs.Records.{faults}
-use Rattle.hwdb_spec_commands.specs.Reports.{text_of_line}
+use Rattle.hwdb_spec_commands.specs.Reports.{hint_line, text_of_line}
 use Rattle.hwdb_spec.specs.Texts.{place_text}
 use Rattle.hwdb_spec.specs.Tree.{Tree, answers}
 use Rattle.hwdb_spec.specs.declared.Fault.{Fault}
@@ -135,9 +135,21 @@ given_text (Some g) = g.key ++ byte "=" ∷ (g.value ++ (codes " by " ++ place_t
 abbrev pub given_line : Option GivenValue → List ℕ
 given_line given = codes "    given: " ++ (given_text given ++ byte "\n" ∷ [])
 
--- three lines on a line that doesn't hold: what it wants, of which device, and what that device has
+-- whether a device looks like a pattern: it has a `*` or a `?`
+abbrev pub is_like_pattern : (device : List ℕ) → Bool
+is_like_pattern device = has (byte "*") device || has (byte "?") device
+
+-- what is said of such a device
+abbrev pub device_hint : List ℕ
+device_hint = codes "a match line of a test file is a device string, not a pattern: * and ? stand for themselves"
+
+-- the line of that; nothing of another device
+abbrev pub device_hint_line : (device : List ℕ) → List ℕ
+device_hint_line device = if is_like_pattern device then hint_line device_hint else []
+
+-- three lines on a line that doesn't hold: what it wants, of which device, and what that device has; a fourth if that looks like a pattern
 abbrev pub failure_text : (path device : List ℕ) → Line → Option GivenValue → List ℕ
-failure_text path device l given = wanted_line path l ++ (device_line device ++ given_line given)
+failure_text path device l given = wanted_line path l ++ (device_line device ++ (given_line given ++ device_hint_line device))
 
 -- what a device has instead, as members of an object; none if it has nothing
 abbrev pub given_members : Option GivenValue → List (List ℕ × Json)
@@ -169,11 +181,15 @@ others_member others = (codes "others", array_of (map given_json others)) ∷ []
 abbrev pub instead_members : Line → List GivenValue → List (List ℕ × Json)
 instead_members l instead = if wants_no_others l then others_member instead else given_members (first_given instead)
 
+-- the hint on a device that looks like a pattern, as a member of an object; none of another device
+abbrev pub hint_members : (device : List ℕ) → List (List ℕ × Json)
+hint_members device = if is_like_pattern device then (codes "hint", text_json device_hint) ∷ [] else []
+
 -- a line that doesn't hold, as an object
 abbrev pub failure_json : (path device : List ℕ) → Line → List GivenValue → Json
-failure_json path device l instead = object_of (wanted_members path device l ++ instead_members l instead)
+failure_json path device l instead = object_of (wanted_members path device l ++ (instead_members l instead ++ hint_members device))
 
--- what is printed of a line that doesn't hold, as text: three lines for each property that is given instead, or once if there is none
+-- what is printed of a line that doesn't hold, as text: these lines for each property that is given instead, or once if there is none
 abbrev pub failure_texts : (path device : List ℕ) → Line → List GivenValue → List ℕ
 failure_texts path device l instead =
     if is_none instead then failure_text path device l None

@@ -79,6 +79,17 @@ pub struct TestArgs {
     pub json: bool,
 }
 
+/// What the words of `test --record` ask for.
+#[derive(Debug, Drop)]
+pub struct RecordArgs {
+    /// The device strings, one or more; a lone `-` stands for those of standard input.
+    pub devices: Vec<String>,
+    /// The database's path; none if that of `/etc/udev` or `/usr/lib/udev` is meant.
+    pub database: Option<String>,
+    /// Whether `--json` is given, which doesn't fit.
+    pub json: bool,
+}
+
 /// What the words of `near` ask for.
 #[derive(Debug, Drop)]
 pub struct NearArgs {

@@ -4,7 +4,7 @@ ghost use Rattle.hwdb_spec_commands.specs.declared.job.WordsFault.TheVariants.{M
 
 use crate::args::{
     AskArgs, CheckArgs, DeviceArgs, DiffArgs, DumpArgs, ExplainArgs, KeysArgs, ListArgs, NearArgs,
-    QueryArgs, ScanArgs, StatusArgs, TestArgs, UpdateArgs, VerifyArgs,
+    QueryArgs, RecordArgs, ScanArgs, StatusArgs, TestArgs, UpdateArgs, VerifyArgs,
 };
 use std::alloc::AllocError;
 use thiserror::Error;
@@ -26,6 +26,8 @@ pub enum Task {
     Check(CheckArgs),
     /// Say whether a database gives devices what test files want.
     Test(TestArgs),
+    /// Print a test file that holds of a database: `test --record`.
+    Record(RecordArgs),
     /// Print the patterns that almost matched the device.
     Near(NearArgs),
     /// Print what udev asks for a device, and what it gets.

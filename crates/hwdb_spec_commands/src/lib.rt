@@ -52,6 +52,7 @@
 //! | `NearAsked` | which patterns `near` compares with a device: those of text files, or of a database |
 //! | `NearPrefixes` | of some strings with a prefix and of some patterns with it the two that are nearest |
 //! | `Wanted` | test files, whether a database gives what they want, and what `test` prints |
+//! | `Recorded` | a test file that holds of a database, as `test --record` prints it, and what none can say |
 //! | `Colours` | how a text is shown in colour |
 //! | `Inputs` | what kinds of input device udev sees in one |
 //! | `Lookups` | the strings that udev's rules ask for a device, in their order |
@@ -112,7 +113,7 @@ mod vocabulary;
 
 pub use args::{
     AskArgs, CheckArgs, DeviceArgs, DiffArgs, DumpArgs, ExplainArgs, KeysArgs, ListArgs, NearArgs,
-    QueryArgs, ScanArgs, StatusArgs, TestArgs, UpdateArgs, VerifyArgs,
+    QueryArgs, RecordArgs, ScanArgs, StatusArgs, TestArgs, UpdateArgs, VerifyArgs,
 };
 pub use attributes::ATTRIBUTES;
 pub use colours::{LinePart, Style, TextKind};

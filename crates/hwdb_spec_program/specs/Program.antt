@@ -9,7 +9,7 @@ use Rattle.hwdb_spec_commands.specs.Given.{is_dash, any_dash, is_input}
 use Rattle.hwdb_spec_program.specs.GivenDatabases.{names_input}
 use Rattle.hwdb_spec_commands.specs.Runs.{AreKept, HasTaken, World}
 use Rattle.hwdb_spec.specs.Store.{Contents, Outcomes}
-use Rattle.hwdb_spec_commands.specs.declared.job.Task.TheVariants.{Ask, Check, Device, Diff, Dump, Explain, Keys, Near, Query, Scan, Test, Update, Verify}
+use Rattle.hwdb_spec_commands.specs.declared.job.Task.TheVariants.{Ask, Check, Device, Diff, Dump, Explain, Keys, Near, Query, Record, Scan, Test, Update, Verify}
 use Rattle.hwdb_spec_commands.specs.declared.job.Task.{Task}
 use Rattle.hwdb_spec_commands.specs.declared.job.Job.{Job}
 use Rattle.hwdb_spec_commands.specs.declared.args.UpdateArgs.{UpdateArgs}
@@ -28,6 +28,7 @@ looks_below_root (Near n) = length n.files.items == 0
 looks_below_root (Verify v) = not (is_some v.database)
 looks_below_root (Dump d) = not (is_some d.database)
 looks_below_root (Test t) = not (is_some t.database)
+looks_below_root (Record r) = not (is_some r.database)
 looks_below_root (Keys k) = false
 looks_below_root (Scan s) = not (is_dash (string_bytes s.device))
 looks_below_root _ = true
@@ -64,6 +65,7 @@ reads_input (Ask a) = is_dash (string_bytes a.file)
 reads_input (Check c) = any_dash (map string_bytes c.files.items)
 reads_input (Near n) = any_dash (map string_bytes n.files.items)
 reads_input (Test t) = any_dash (map string_bytes t.files.items)
+reads_input (Record r) = is_input (map string_bytes r.devices.items)
 reads_input (Diff d) = any_dash (string_bytes d.old ∷ string_bytes d.new ∷ map string_bytes d.devices.items)
 reads_input (Verify v) = names_input (option_map string_bytes v.database)
 reads_input (Dump d) = names_input (option_map string_bytes d.database)

@@ -42,6 +42,7 @@ use Rattle.hwdb_plan.specs.OverText.{if_fit, replaced_of, text_plan}
 use Rattle.hwdb_plan.specs.Plans.{Plan}
 use Rattle.hwdb_plan.specs.Report.{report_answer}
 use Rattle.hwdb_plan.specs.Putting.{OldOrPut}
+use Rattle.hwdb_plan.specs.Record.{record_request}
 use Rattle.hwdb_plan.specs.Requests.{Around, Command, Request, Search, plan_of}
 use Rattle.hwdb_plan.specs.Requests.Command.{OfDevices, OfFiles}
 use Rattle.hwdb_plan.specs.Requests.Request.{Alone, AtPath, Fit, OfBase}
@@ -117,6 +118,14 @@ check_of root strict rows =
 abbrev pub ask_of : List Row → Request
 ask_of rows = let file = value_of (codes "FILE") rows in AtPath file (lone_answer file (value_of (codes "MODALIAS") rows))
 
+-- `test`: whether devices get what test files want, or with `--record` a test file that holds
+abbrev pub test_of : (root : List ℕ) → List Row → Request
+test_of root rows =
+    let words = values_of (codes "FILE") rows in
+    let database = first_of (codes "database") rows in
+    let json = has_flag (codes "json") rows in
+    if has_flag (codes "record") rows then record_request json words database root else test_request words database root json
+
 -- `diff`. That standard input is read once is from POSIX, Utility Syntax Guidelines, 13.
 abbrev pub diff_of : List Row → Request
 diff_of rows =
@@ -141,7 +150,7 @@ commands sight root strict rows =
     ∷ (codes "near", OfFiles (near_of root rows))
     ∷ (codes "device", device_command sight root rows (first_of (codes "from") rows))
     ∷ (codes "check", OfFiles (check_of root strict rows))
-    ∷ (codes "test", OfFiles (test_request (values_of (codes "FILE") rows) (first_of (codes "database") rows) root json))
+    ∷ (codes "test", OfFiles (test_of root rows))
     ∷ (codes "verify", OfFiles (OfBase (first_of (codes "DATABASE") rows) root summary))
     ∷ (codes "dump", OfFiles (OfBase (first_of (codes "DATABASE") rows) root text_form))
     ∷ (codes "diff", OfFiles (diff_of rows))

@@ -10,7 +10,7 @@ use Rattle.hwdb_spec_commands.specs.Json.{json_text}
 use Rattle.hwdb_spec.specs.Lines.{Line}
 use Rattle.hwdb_spec.specs.Texts.{place_text}
 use Rattle.hwdb_spec.specs.Visible.{shown_name}
-use Rattle.hwdb_spec_commands.specs.Wanted.{GivenValue, about, counting, device_line, failed, failure_json, failure_text, failures, given_line, held, holds, wanted_line, wanted_text}
+use Rattle.hwdb_spec_commands.specs.Wanted.{GivenValue, about, counting, device_hint_line, device_line, failed, failure_json, failure_text, failures, given_line, held, holds, wanted_line, wanted_text}
 use Rattle.hwdb_test.specs.Laws.{FailingIsTold, HoldingIsSilent, ZeroIfAllHold}
 
 -- a text with a byte in it isn't empty
@@ -24,7 +24,7 @@ some_before (x ∷ before) after h = λ e. cc
 
 text_is_some : (path device : List ℕ) (l : Line) (given : Option GivenValue) → failure_text path device l given ≢ []
 text_is_some path device l given =
-    some_before (wanted_line path l) (device_line device ++ given_line given)
+    some_before (wanted_line path l) (device_line device ++ (given_line given ++ device_hint_line device))
     (some_before (place_text path l.number) (codes ": wanted " ++ (wanted_text l ++ 10 ∷ [])) (some_more (shown_name path) 58 (decimal l.number)))
 
 failures_are_some : (json : Bool) (path device : List ℕ) (l : Line) (instead : List GivenValue) → failures json path device l instead ≢ []

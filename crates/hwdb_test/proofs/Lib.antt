@@ -6,3 +6,6 @@ pub mod ComputedRows
 pub mod FileLemmas
 pub mod AboutLemmas
 pub mod TrialLemmas
+pub mod RecordedLemmas
+pub mod RecordedLaws
+pub mod RecordedSteps

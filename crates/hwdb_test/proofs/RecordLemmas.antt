@@ -6,7 +6,7 @@ use Rattle.hwdb_check.specs.Internal.{line_of}
 use Rattle.hwdb_check.specs.Lemmas.Lines.{cleaned}
 
 -- what is read of a clean line
-read_by : (e : Bool) (r : Record) (l : Line) (m : List Line) → is_empty l ≡ e → records_from r (l ∷ m) ≡ cond e (r ∷ records_from no_record m) (records_from (with_line r l) m)
+pub read_by : (e : Bool) (r : Record) (l : Line) (m : List Line) → is_empty l ≡ e → records_from r (l ∷ m) ≡ cond e (r ∷ records_from no_record m) (records_from (with_line r l) m)
 unfolding records_from
 read_by e r l m h = ap (λ (t : Bool). cond t (r ∷ records_from no_record m) (records_from (with_line r l) m)) h
 
@@ -27,7 +27,7 @@ match_is_none number (b ∷ more) e = go (is_property (line_of number (b ∷ mor
     go false e = refl
 
 -- a record with one line more, if that is a property, and if it is a device
-with_by : (p : Bool) (r : Record) (l : Line) → is_property l ≡ p
+pub with_by : (p : Bool) (r : Record) (l : Line) → is_property l ≡ p
     → with_line r l ≡ cond p (record { devices = r.devices; lines = r.lines ++ l ∷ [] }) (record { devices = r.devices ++ l.text ∷ []; lines = r.lines })
 with_by p r l e = ap (λ (t : Bool). cond t (record { devices = r.devices; lines = r.lines ++ l ∷ [] }) (record { devices = r.devices ++ l.text ∷ []; lines = r.lines })) e
 

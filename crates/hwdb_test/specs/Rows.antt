@@ -58,13 +58,15 @@ MalformedRows =
 abbrev pub given : List ℕ → List ℕ → GivenValue
 given key value = record { key = key; value = value; path = codes "/f"; line = 7 }
 
--- What is printed of a line that wants a value, of one that wants a key away, and of one that wants nothing else. Then the
--- last line.
+-- What is printed of a line that wants a value, of one that wants a key away, and of one that wants nothing else. Between them a device
+-- looks like a pattern. Then the last line.
 abbrev pub TextRows : Type 0
 TextRows =
     failures false (codes "t") (codes "d") (at_two (codes " A=1")) []
     ∷ failures false (codes "t") (codes "d") (at_two (codes " A=1")) (about some_lines (given (codes "A") (codes "2") ∷ given (codes "C") [] ∷ []) (at_two (codes " A=1")))
     ∷ failures false (codes "t") (codes "d") (at_two (codes " !B")) (given (codes "B") (codes "x=y") ∷ [])
+    ∷ failures false (codes "t") (codes "d?") (at_two (codes " A=1")) []
+    ∷ failures false (codes "t") (codes "d*") (at_two (codes " A=1")) []
     ∷ failures false (codes "t") (codes "d") (at_two (codes " =")) (about some_lines (given (codes "A") (codes "2") ∷ given (codes "C") [] ∷ []) (at_two (codes " =")))
     ∷ end_text false (true ∷ [])
     ∷ end_text false (true ∷ false ∷ false ∷ [])
@@ -73,6 +75,8 @@ TextRows =
     ≡ codes "t:2: wanted A=1\n    device: d\n    given: nothing\n"
     ∷ codes "t:2: wanted A=1\n    device: d\n    given: A=2 by /f:7\n"
     ∷ codes "t:2: wanted !B\n    device: d\n    given: B=x=y by /f:7\n"
+    ∷ codes "t:2: wanted A=1\n    device: d?\n    given: nothing\n    hint: a match line of a test file is a device string, not a pattern: * and ? stand for themselves\n"
+    ∷ codes "t:2: wanted A=1\n    device: d*\n    given: nothing\n    hint: a match line of a test file is a device string, not a pattern: * and ? stand for themselves\n"
     ∷ codes "t:2: wanted nothing else\n    device: d\n    given: C= by /f:7\n"
     ∷ codes "1 wanted line, 0 failed\n"
     ∷ codes "3 wanted lines, 2 failed\n"
@@ -83,10 +87,12 @@ TextRows =
 abbrev pub JsonRows : Type 0
 JsonRows =
     failures true (codes "t") (codes "d") (at_two (codes " A=1")) []
+    ∷ failures true (codes "t") (codes "d?") (at_two (codes " A=1")) []
     ∷ failures true (codes "t") (codes "d") (at_two (codes " !B")) (given (codes "B") (codes "x") ∷ [])
     ∷ failures true (codes "t") (codes "d") (at_two (codes " =")) (given (codes "B") (codes "x") ∷ given (codes "C") [] ∷ [])
     ∷ []
     ≡ codes "{\"path\":\"t\",\"line\":2,\"device\":\"d\",\"wanted\":\"A=1\"}\n"
+    ∷ codes "{\"path\":\"t\",\"line\":2,\"device\":\"d?\",\"wanted\":\"A=1\",\"hint\":\"a match line of a test file is a device string, not a pattern: * and ? stand for themselves\"}\n"
     ∷ codes "{\"path\":\"t\",\"line\":2,\"device\":\"d\",\"wanted\":\"!B\",\"key\":\"B\",\"value\":\"x\",\"given_path\":\"/f\",\"given_line\":7}\n"
     ∷ codes "{\"path\":\"t\",\"line\":2,\"device\":\"d\",\"wanted\":\"nothing else\",\"others\":[{\"key\":\"B\",\"value\":\"x\",\"given_path\":\"/f\",\"given_line\":7},{\"key\":\"C\",\"value\":\"\",\"given_path\":\"/f\",\"given_line\":7}]}\n"
     ∷ []

@@ -1,6 +1,8 @@
 //! What is printed of a line that doesn't hold.
 ghost use Rattle.std.specs.Prelude.{◌≡◌, ◌++◌, flat_map, map, option_map, OnOk, Some};
 ghost use Rattle.hwdb_spec.specs.Texts.{place_text};
+ghost use Rattle.hwdb_spec.specs.Lines.{has};
+ghost use Rattle.hwdb_spec_commands.specs.Reports.{hint_line};
 ghost use Rattle.hwdb_spec_commands.specs.Wanted;
 ghost use Rattle.hwdb_test.specs.Views.{given_at, line_at};
 
@@ -10,6 +12,10 @@ use crate::wanted_lines::{WantedLine, property_of, wants_no_others};
 use hwdb_show::push_name;
 use itoa::Buffer;
 use std::alloc::{AllocError, Global};
+
+/// What is said of a device that looks like a pattern.
+pub const DEVICE_HINT: &[u8] =
+    b"a match line of a test file is a device string, not a pattern: * and ? stand for themselves";
 
 /// A line that doesn't hold of a device.
 #[derive(Clone, Copy)]
@@ -36,7 +42,7 @@ pub fn wanted_text<'b>(line: &WantedLine<'b>) -> &'b [u8]
 }
 
 /// Adds a place: a path, `:`, and a line. The only error, here and below, is `AllocError`.
-fn push_place(text: &mut Vec<u8>, path: &[u8], line: u64) -> Result<(), AllocError>
+pub fn push_place(text: &mut Vec<u8>, path: &[u8], line: u64) -> Result<(), AllocError>
     ensures { OnOk result (text.new.items ≡ text.old.items ++ place_text path.now line) }
 {
     let mut digits = Buffer::new();
@@ -103,7 +109,43 @@ fn push_given_line(text: &mut Vec<u8>, given: Option<GivenValue<'_>>) -> Result<
     Ok(())
 }
 
-/// Adds three lines on a line that doesn't hold: what it wants, of which device, and what that device has.
+/// Whether a text has a byte.
+pub fn holds_byte(byte: u8, text: &[u8]) -> bool
+    ensures { result ≡ has byte text.now }
+{
+    text.iter().any(|other| *other == byte)
+}
+
+/// Whether a device looks like a pattern.
+pub fn is_like_pattern(device: &[u8]) -> bool
+    ensures { result ≡ Wanted.is_like_pattern device.now }
+{
+    holds_byte(b'*', device) || holds_byte(b'?', device)
+}
+
+/// Adds the line of a hint.
+fn push_hint_line(text: &mut Vec<u8>, hint: &[u8]) -> Result<(), AllocError>
+    ensures { OnOk result (text.new.items ≡ text.old.items ++ hint_line hint.now) }
+{
+    text.extend_from_slice(b"    hint: ")?;
+    text.extend_from_slice(hint)?;
+    text.push(b'\n')?;
+    Ok(())
+}
+
+/// Adds the hint on a device that looks like a pattern.
+fn push_device_hint(text: &mut Vec<u8>, device: &[u8]) -> Result<(), AllocError>
+    ensures { OnOk result (text.new.items ≡ text.old.items ++ Wanted.device_hint_line device.now) }
+{
+    if is_like_pattern(device) {
+        push_hint_line(text, DEVICE_HINT)
+    } else {
+        Ok(())
+    }
+}
+
+/// Adds three lines on a line that doesn't hold: what it wants, of which device, and what that device has. A hint comes after them if
+/// the device looks like a pattern.
 fn push_text(
     text: &mut Vec<u8>,
     failure: Failure<'_>,
@@ -115,7 +157,8 @@ fn push_text(
 {
     push_wanted_line(text, failure.path, failure.line)?;
     push_device_line(text, failure.device)?;
-    push_given_line(text, given)
+    push_given_line(text, given)?;
+    push_device_hint(text, failure.device)
 }
 
 /// Adds the same for each property that is given instead.
@@ -143,7 +186,7 @@ fn push_texts(text: &mut Vec<u8>, failure: Failure<'_>) -> Result<(), AllocError
     }
 }
 
-/// Adds what is printed of a line that doesn't hold: a line of JSON, or three lines for each property that is given instead.
+/// Adds what is printed of a line that doesn't hold: a line of JSON, or some lines for each property that is given instead.
 pub fn push_failure(
     alloc: Global,
     json: bool,

@@ -20,7 +20,7 @@ use std::cmp::Ordering;
 use std::collections::BTreeSet;
 
 /// Whether a property is the one that a line `KEY=VALUE` wants.
-fn is_given(line: &WantedLine<'_>, given: &GivenValue<'_>) -> bool
+pub fn is_given(line: &WantedLine<'_>, given: &GivenValue<'_>) -> bool
     ensures { result ≡ Wanted.is_given (line_at line.now) (pair_at given.now) }
 {
     if names(given.key, line) {

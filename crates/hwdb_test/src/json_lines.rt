@@ -3,10 +3,10 @@ ghost use Rattle.std.specs.Prelude.{◌≡◌, ◌++◌, map, IfOk, OnOk, Some};
 ghost use Rattle.json.specs.Tree.{json_tokens};
 ghost use Rattle.hwdb_show.specs.JsonTokens.{tokens_of_members};
 ghost use Rattle.hwdb_spec_commands.specs.Json.{array_of, json_line};
-ghost use Rattle.hwdb_spec_commands.specs.Wanted.{failure_json, first_given, given_json, given_members, instead_members, others_member, wanted_members};
+ghost use Rattle.hwdb_spec_commands.specs.Wanted.{failure_json, first_given, given_json, given_members, hint_members, instead_members, others_member, wanted_members};
 ghost use Rattle.hwdb_test.specs.Views.{given_at, line_at};
 
-use crate::failures::{Failure, wanted_text};
+use crate::failures::{DEVICE_HINT, Failure, is_like_pattern, wanted_text};
 use crate::given_values::GivenValue;
 use crate::wanted_lines::{WantedLine, wants_no_others};
 use hwdb_show::{ended, put_count, put_member};
@@ -101,6 +101,19 @@ fn put_instead(
     }
 }
 
+/// Adds the hint on a device that looks like a pattern.
+fn put_hint(json: &mut Writer, device: &[u8]) -> Result<(), AllocError>
+    ensures before { json.new.before ≡ json.old.before }
+    ensures tokens { OnOk result
+        (json.new.tokens ≡ json.old.tokens ++ tokens_of_members (hint_members device.now)) }
+{
+    if is_like_pattern(device) {
+        put_member(json, "hint", DEVICE_HINT)
+    } else {
+        Ok(())
+    }
+}
+
 /// Adds the object.
 fn put_failure(json: &mut Writer, failure: Failure<'_>) -> Result<(), AllocError>
     ensures before { json.new.before ≡ json.old.before }
@@ -111,6 +124,7 @@ fn put_failure(json: &mut Writer, failure: Failure<'_>) -> Result<(), AllocError
     json.begin_object()?;
     put_wanted(json, failure)?;
     put_instead(json, failure.line, failure.instead)?;
+    put_hint(json, failure.device)?;
     json.end_object()
 }
 

@@ -1,5 +1,5 @@
 //! More about the definitions, in words of their own. These functions do nothing: what each of them ensures is a law.
-ghost use Rattle.hwdb_test.specs.Laws.{CountingAreEffective, FailingIsTold, HoldingIsSilent, ZeroIfAllHold};
+ghost use Rattle.hwdb_test.specs.Laws.{CountingAreEffective, FailingIsTold, HoldingIsSilent, RecordedHolds, RecordedIsRead, ZeroIfAllHold};
 ghost use Rattle.hwdb_test.specs.Rows.{AssignRows, FileRows, HoldRows, JsonRows, MalformedRows, TextRows};
 
 use hwdb_query::explained_are_effective;
@@ -23,6 +23,14 @@ pub fn failing_is_told()
 pub fn zero_if_all_hold()
     ensures { ZeroIfAllHold }
 {}
+
+/// A test file that says what a database gives some devices holds of it. What is read of it is a record for each device, in their order.
+pub fn recorded_holds()
+    ensures holds { RecordedHolds }
+    ensures read { RecordedIsRead }
+{
+    counting_are_effective();
+}
 
 /// The definitions at worked rows.
 pub fn worked_rows()

@@ -13,6 +13,8 @@
 //! | `failures` | what is printed of a line that doesn't hold |
 //! | `json_lines` | the same as a line of JSON |
 //! | `trials` | the lines of test files, each tried for each of its devices |
+//! | `sayable` | what a test file can say, and what is said of the rest |
+//! | `recording` | a test file that holds of a database |
 //! | `laws` | what is proved of the definitions alone |
 #![tactic(auto)]
 
@@ -22,8 +24,11 @@ mod holding;
 mod json_lines;
 mod laws;
 mod malformed_lines;
+mod recording;
 mod records;
+mod sayable;
 mod trials;
 mod wanted_lines;
 
+pub use recording::{RecordError, record};
 pub use trials::{Tested, test_files};

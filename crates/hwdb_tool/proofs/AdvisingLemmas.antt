@@ -1,5 +1,5 @@
 -- What is said on a terminal if a task prints nothing.
-use Rattle.std.proofs.Common.{◌≡◌, ◌∙◌, ◌⊎◌, ◌&&◌, ◌∷◌, inl, inr, ap, arith, refl, subst, sym, map, string_bytes, true≢false, Bool, IfSome, List, MatchResult, Option, None, Result, Some, Ok, Err, ℕ, [], true, false}
+use Rattle.std.proofs.Common.{◌≡◌, ◌∙◌, ◌⊎◌, ◌&&◌, ◌∷◌, inl, inr, ap, arith, refl, subst, sym, string_bytes, true≢false, Bool, IfSome, List, MatchResult, Option, None, Result, Some, Ok, Err, ℕ, [], true, false}
 use Rattle.std.specs.Prelude.{codes, if◌then◌else◌, is_some, option_map}
 use Rattle.std.specs.Io.KnownBytes.{Appends}
 use Rattle.std.specs.Result.{IsErrAnd}
@@ -32,6 +32,7 @@ use Rattle.hwdb_plan.specs.Advice.{AdvisedIsSaid, advice_of, advised, advised_if
 use Rattle.hwdb_plan.specs.Answers.{devices_plan}
 use Rattle.hwdb_plan.specs.Folders.{Texts}
 use Rattle.hwdb_plan.specs.Ended.{Outs, Prints, Shows, ShowsEnd, outs}
+use Rattle.hwdb_plan.specs.Lemmas.Ends.{answer_shows}
 use Rattle.hwdb_plan.specs.Lemmas.Answering.{IsWhole, OnlyAnswers, only_answer, only_choice, only_device, only_ends, only_near, only_report, only_text}
 use Rattle.hwdb_plan.specs.Plans.{End, Ends, Follows, Plan}
 use Rattle.hwdb_plan.specs.Plans.End.{Answers, Stops}
@@ -39,7 +40,7 @@ use Rattle.hwdb_plan.specs.Requests.{Around, plan_of}
 use Rattle.hwdb_tool.specs.Advising.{is_advised, task_advice}
 use Rattle.hwdb_tool.specs.Views.{end_of}
 use Rattle.hwdb_tool.specs.declared.answer.Answer.{Answer}
-use Rattle.hwdb_tool.proofs.ProgramPlanLemmas.{answered, around, command_plan, some_value}
+use Rattle.hwdb_tool.proofs.ProgramPlanLemmas.{around, command_plan, some_value}
 
 -- ---- the line, by words
 line_of_task : (task : Task) (word : Text) (rows : List Row) → IsTask word rows task → advice_of word (value_of (codes "MODALIAS") rows) ≡ task_advice task
@@ -75,10 +76,10 @@ both P Q R (Some p) step one other = step p one other
 
 -- ---- without a line
 untold : (at_terminal : Bool) (line : Option (List ℕ)) → (at_terminal && is_some line) ≡ false → (p : Plan) → advised_if at_terminal line p ≡ p
-untold true (Some line) no p = absurd (true≢false no)
-untold true None no p = refl
-untold false (Some line) no p = refl
-untold false None no p = refl
+untold true (Some line) none p = absurd (true≢false none)
+untold true None none p = refl
+untold false (Some line) none p = refl
+untold false None none p = refl
 
 module _ (words : List Text) (job : Job) (asked : AskFor words job) where
   abbrev Line : Option (List ℕ)
@@ -86,9 +87,9 @@ module _ (words : List Text) (job : Job) (asked : AskFor words job) where
 
   pub plainly_shown : (w : Reads) (sight : Sight) (input_before input_now : Told) (before now : Outs) (result : Result ℕ Refusal) (at_terminal : Bool) → (at_terminal && is_advised job.task) ≡ false
       → ShowsPlan (λ a. program_plan a words) w sight input_before input_now before now result → ShowsPlan (λ a. shown_plan at_terminal a words) w sight input_before input_now before now result
-  plainly_shown w sight input_before input_now before now result at_terminal no (told, so, (cause, one_line, shows)) =
+  plainly_shown w sight input_before input_now before now result at_terminal unasked (told, so, (cause, one_line, shows)) =
       let Shows : Plan → Type 0 = λ p. ShowsEnd w p input_before input_now before now result in
-      let none : (at_terminal && is_some Line) ≡ false = ap (λ (o : Option (List ℕ)). at_terminal && is_some o) (line_of words job asked) ∙ no in (
+      let none : (at_terminal && is_some Line) ≡ false = ap (λ (o : Option (List ℕ)). at_terminal && is_some o) (line_of words job asked) ∙ unasked in (
         told,
         so,
         (
@@ -151,6 +152,10 @@ AreNew o = (o.out.failures ≡ 0) × (o.err.failures ≡ 0)
 -- what is said of an error, by what the outputs tell then
 abbrev pub IsKeptError : Refusal → Outs → Refusal → Type 0
 IsKeptError r now x = ((x ≡ r) × AreNew now) ⊎ (x ≡ Plain Memory)
+
+pub kept_error : (r x : Refusal) (now : Outs) → ((x ≡ r) × (now.out.failures ≡ 0) × (now.err.failures ≡ 0)) ⊎ (x ≡ Plain Memory) → IsKeptError r now x
+kept_error r x now (inl (same, out, err)) = inl (same, (out, err))
+kept_error r x now (inr memory) = inr memory
 
 none_failed : (f g : ℕ) → f ≡ 0 → g ≡ 0 → OneFailed f g → ⊥
 none_failed f g zero none failed = let one : g ≡ 1 = failed ∙ ap after_failure zero in omega (arith, one, none)
@@ -281,7 +286,7 @@ module _ (w : Reads) (sight : Sight) (input_before input_now : Told) (words : Li
       cause,
       one_line,
       each (λ p. Follows end_of w p answer) (λ p. ShowsEnd w p input_before input_now before now result) (shown_plan true (around sight told cause) words)
-          (λ p f. answered w sight input_before input_now before now result answer prints p f) follows,
+          (λ p f. answer_shows (λ (x : Answer). x.status) (λ x. x.err.items) (λ x. x.out.items) answer result w p input_before input_now before now f prints) follows,
     ),
   )
 
@@ -292,4 +297,4 @@ both_are false b is = absurd (true≢false (sym is))
 
 -- an update has none
 pub no_update_has : (task : Task) → is_advised task ≡ true → IsUpdate task → ⊥
-no_update_has task some update = true≢false (sym some ∙ ap is_advised update.2)
+no_update_has task some update = true≢false (sym some ∙ ap is_advised update.1)

@@ -1,9 +1,9 @@
 -- What the words of `test` ask for is what its function follows.
-use Rattle.std.proofs.Common.{refl, subst, map, string_bytes, Bool, List, Option, Result, ℕ, []}
-use Rattle.std.specs.Prelude.{codes, option_map}
+use Rattle.std.proofs.Common.{refl, subst, sym, map, string_bytes, Bool, List, Option, Result, ℕ, []}
+use Rattle.std.specs.Prelude.{codes, if◌then◌else◌, option_map}
 use Rattle.clap.specs.Walk.{Row, Text, first_of}
 use Rattle.hwdb_spec_commands.specs.DeviceTree.{Sight}
-use Rattle.hwdb_spec_commands.specs.Jobs.{IsTask}
+use Rattle.hwdb_spec_commands.specs.Jobs.{IsTask, has_flag}
 use Rattle.hwdb_spec_commands.specs.Runs.{Told}
 use Rattle.hwdb_spec_commands.specs.Told.{Reads}
 use Rattle.hwdb_spec_commands.specs.declared.args.TestArgs.{TestArgs}
@@ -12,7 +12,9 @@ use Rattle.hwdb_spec_commands.specs.declared.refusals.Refusal.{Refusal}
 use Rattle.hwdb_spec_program.specs.ProgramPlan.{values_of}
 use Rattle.hwdb_plan.specs.Files.{OfInput}
 use Rattle.hwdb_plan.specs.Plans.{Follows, Plan}
-use Rattle.hwdb_plan.specs.Test.{test_plan}
+use Rattle.hwdb_plan.specs.Record.{record_request}
+use Rattle.hwdb_plan.specs.Requests.{told_plan}
+use Rattle.hwdb_plan.specs.Test.{test_plan, test_request}
 use Rattle.hwdb_tool.specs.Views.{end_of}
 use Rattle.hwdb_tool.specs.declared.answer.Answer.{Answer}
 use Rattle.hwdb_tool.proofs.ProgramPlanLemmas.{At, around, at_word, some_values}
@@ -23,16 +25,20 @@ module _ (w : Reads) (sight : Sight) (input_before input_now : Told) (root : Lis
 
   pub test_planned : (args : TestArgs) → IsTask word rows (Test args)
       → OfInput input_before.bytes input_before.failures input_now.failures (λ told. Follows end_of w (test_plan told (map string_bytes args.files.items) (option_map string_bytes args.database) root args.json) answer) → At sight input_before input_now Answers root strict word rows
-  test_planned args is (told, so, follows) = (
-    told,
-    so,
-    (
-      [],
-      refl,
-      at_word sight input_before input_now Answers root strict word rows (around sight told []) (codes "test") is.0
-          (subst (λ (j : Bool). Answers (test_plan told (values_of (codes "FILE") rows) (first_of (codes "database") rows) root j)) is.1
-          (subst (λ (d : Option Text). Answers (test_plan told (values_of (codes "FILE") rows) d root args.json)) is.2
-          (subst (λ (fs : List Text). Answers (test_plan told fs (option_map string_bytes args.database) root args.json)) (some_values (codes "FILE") rows _ is.3)
-          follows))),
-    ),
-  )
+  test_planned args is (told, so, follows) =
+      let words = values_of (codes "FILE") rows in
+      let database = first_of (codes "database") rows in
+      let json = has_flag (codes "json") rows in (
+        told,
+        so,
+        (
+          [],
+          refl,
+          at_word sight input_before input_now Answers root strict word rows (around sight told []) (codes "test") is.0
+              (subst (λ (b : Bool). Answers (told_plan told (if b then record_request json words database root else test_request words database root json))) (sym is.1)
+              (subst (λ (j : Bool). Answers (test_plan told words database root j)) is.2
+              (subst (λ (d : Option Text). Answers (test_plan told words d root args.json)) is.3
+              (subst (λ (fs : List Text). Answers (test_plan told fs (option_map string_bytes args.database) root args.json)) (some_values (codes "FILE") rows _ is.4)
+              follows)))),
+        ),
+      )

@@ -179,7 +179,7 @@ pub fn kind_of(task: &Task) -> TextKind {
         Task::Test(args) if !args.json => TextKind::Reports,
         Task::Diff(args) if !args.json && !args.stat => changes_kind(&args.devices),
         Task::Verify(_) => TextKind::Counts,
-        Task::Dump(_) => TextKind::Records,
+        Task::Dump(_) | Task::Record(_) => TextKind::Records,
         _ => TextKind::Plain,
     }
 }

@@ -199,7 +199,10 @@ fn push_devices<'a>(devices: &mut Vec<&'a [u8]>, text: &'a [u8]) -> Result<(), A
 }
 
 /// The devices of some files.
-fn devices_in<'a>(alloc: Global, files: &[TextFile<'a>]) -> Result<Vec<&'a [u8]>, AllocError>
+pub(crate) fn devices_in<'a>(
+    alloc: Global,
+    files: &[TextFile<'a>],
+) -> Result<Vec<&'a [u8]>, AllocError>
     ensures { IfOk result (λ devices. map (λ d. d.now) devices.items ≡ flat_map
         (λ (f : folders.Source). devices_of f.bytes) (map source_of files.now)) }
 {

@@ -137,6 +137,7 @@ fn looks_below_root(task: &Task) -> bool
         Task::Verify(args) => args.database.is_none(),
         Task::Dump(args) => args.database.is_none(),
         Task::Test(args) => args.database.is_none(),
+        Task::Record(args) => args.database.is_none(),
         _ => true,
     }
 }
@@ -284,6 +285,7 @@ pub fn run<D: Machine, I: Source, O: Sink, E: Sink>(
         Task::Check(args) => print_answer(alloc, job, args, system, input, out, err),
         Task::Near(args) => print_answer(alloc, job, args, system, input, out, err),
         Task::Test(args) => print_answer(alloc, job, args, system, input, out, err),
+        Task::Record(args) => print_answer(alloc, job, args, system, input, out, err),
         Task::Device(args) => print_answer(alloc, job, args, system, input, out, err),
         Task::Diff(args) => print_answer(alloc, job, args, system, input, out, err),
         Task::Status(args) => print_answer(alloc, job, args, system, input, out, err),

@@ -14,7 +14,7 @@
 //! | `input_devices` | `query -` and `explain -`: the devices that standard input names |
 //! | `reloading` | the database that answers them, and the one that replaces it |
 //! | `check_command` | `check` |
-//! | `test_command` | `test` |
+//! | `test_command` | `test`; `record_command`: `test --record` |
 //! | `near_command` | `near` |
 //! | `device_command` | `device`; `missing`: what is said if there is no sysfs, or no such device |
 //! | `every_device` | `device --all` |
@@ -68,6 +68,7 @@ mod over_text;
 mod printing;
 mod progress;
 mod query_command;
+mod record_command;
 mod reloading;
 mod reported;
 mod scan_command;
@@ -105,6 +106,7 @@ pub use near_command::near;
 pub use outlet::Outlet;
 pub use over_text::text_shows_over;
 pub use query_command::query;
+pub use record_command::record;
 pub use status_command::status;
 pub use test_command::test;
 pub use verb::root_of;

@@ -64,7 +64,7 @@ pub fn query<D: System, I: Source, O: Sink, E: Sink>(
 }
 
 /// Whether standard input names the devices: a lone `-` is in their place.
-fn is_input(devices: &[String]) -> bool
+pub(crate) fn is_input(devices: &[String]) -> bool
     ensures { result ≡ is_input (map string_bytes devices.now) }
 {
     match devices {

@@ -1,4 +1,4 @@
-use Rattle.hwdb_laws.proofs.ComputedPlanRows.{after_rows, baseline_rows, besides_rows, check_rows, device_rows, diff_rows, fresh_rows, input_rows, keys_rows, list_rows, misuse_rows, named_rows, near_rows, none_rows, query_rows, scan_rows, status_rows, sysfs_rows, text_rows, no_update_rows, update_rows}
+use Rattle.hwdb_laws.proofs.ComputedPlanRows.{after_rows, baseline_rows, besides_rows, check_rows, device_rows, diff_rows, fresh_rows, input_rows, keys_rows, list_rows, misuse_rows, named_rows, near_rows, none_rows, query_rows, record_rows, scan_rows, status_rows, sysfs_rows, text_rows, no_update_rows, update_rows}
 use Rattle.hwdb_laws.proofs.rows.plan_rows.Goals as goal
 
 pub returns : goal.returns
@@ -10,6 +10,7 @@ returns c = record {
   check = check_rows;
   baseline = baseline_rows;
   named = named_rows;
+  recorded = record_rows;
   diff = diff_rows;
   fresh = fresh_rows;
   keys = keys_rows;

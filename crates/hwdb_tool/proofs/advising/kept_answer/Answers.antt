@@ -2,7 +2,7 @@ use Rattle.std.proofs.Common.{Some, ap, sym}
 use Rattle.hwdb_plan.specs.Ended.{outs}
 use Rattle.hwdb_spec_commands.specs.Runs.{Told, told_by}
 use Rattle.hwdb_spec_commands.specs.SysfsAnswers.{sight_by}
-use Rattle.hwdb_tool.proofs.AdvisingLemmas.{kept_follows, kept_refused}
+use Rattle.hwdb_tool.proofs.AdvisingLemmas.{kept_error, kept_follows, kept_refused}
 use Rattle.hwdb_tool.proofs.advising.kept_answer.Goals as goal
 use Rattle.hwdb_tool.specs.declared.kept.Kept.{Kept}
 
@@ -25,4 +25,5 @@ returns-in-Err-clause-follows g c = λ tells words asked.
     let I = told_by g.I.Source.left g.I.Source.failures in
     kept_refused (g.D.System.reads c.args.system.now) (sight_by g.D.DeviceFiles.answers c.args.system.now) (I c.args.input.now) (I c.run_either.new.input) words c.args.job.now asked c.requires
     (outs (told c.new-err.result) (told c.new-out.result)) (outs (told c.run_either.new.err) (told c.run_either.new.out)) c.in-Err.refusal c.unkept.result
-    (c.new-out.ensures.failed, c.new-err.ensures.failed) c.unkept.ensures (c.in-Err.ensures.follows tells words asked)
+    (c.new-out.ensures.failed, c.new-err.ensures.failed)
+    (kept_error c.in-Err.refusal c.unkept.result (outs (told c.run_either.new.err) (told c.run_either.new.out)) c.unkept.ensures) (c.in-Err.ensures.follows tells words asked)

@@ -1,4 +1,4 @@
-use Rattle.std.proofs.Common.{◌≡◌, ◌&&◌, Bool, List, inl, subst, sym, ◌∙◌, true, ℕ}
+use Rattle.std.proofs.Common.{Bool, inl, subst, sym, ◌∙◌, true}
 use Rattle.hwdb_spec.specs.Store.{LeavesOnly}
 use Rattle.hwdb_spec_program.specs.Program.{OldOrDone}
 use Rattle.hwdb_spec_program.specs.ProgramPlan.{ShowsPlan, shown_plan}
@@ -39,12 +39,12 @@ returns-then-wants_advice-clause-follows g c = λ tells words asked.
     (c.run_advised.ensures.follows tells words asked)
 
 pub returns-then-wants_advice-clause-updates : goal.returns-then-wants_advice-clause-updates
-returns-then-wants_advice-clause-updates g c = λ tells v s is.
-    absurd (no_update_has c.args.job.now.task (both_are c.args.at_terminal (is_advised c.args.job.now.task) (sym c.wants_advice.ensures ∙ c.if-wants_advice.true)).1 (v, s, is))
+returns-then-wants_advice-clause-updates g c = λ tells u is.
+    absurd (no_update_has c.args.job.now.task (both_are c.args.at_terminal (is_advised c.args.job.now.task) (sym c.wants_advice.ensures ∙ c.if-wants_advice.true)).1 (u, is))
 
 pub returns-then-wants_advice-clause-any_crash : goal.returns-then-wants_advice-clause-any_crash
-returns-then-wants_advice-clause-any_crash g c = λ tells v s is.
-    absurd (no_update_has c.args.job.now.task (both_are c.args.at_terminal (is_advised c.args.job.now.task) (sym c.wants_advice.ensures ∙ c.if-wants_advice.true)).1 (v, s, is))
+returns-then-wants_advice-clause-any_crash g c = λ tells u is.
+    absurd (no_update_has c.args.job.now.task (both_are c.args.at_terminal (is_advised c.args.job.now.task) (sym c.wants_advice.ensures ∙ c.if-wants_advice.true)).1 (u, is))
 
 -- ---- without one
 pub returns-then-asks_text-clause-any_moment : goal.returns-then-asks_text-clause-any_moment

@@ -1,4 +1,4 @@
-use Rattle.std.proofs.Common.{◌≡◌, ◌<◌, ◌≤◌, ◌∙◌, ◌++◌, ◌∷◌, ap, arith, inr, length, map, refl, subst, sym, suc, List, Vec, Global, ℕ, []}
+use Rattle.std.proofs.Common.{◌≡◌, ◌<◌, ◌≤◌, ◌∙◌, ◌++◌, ◌∷◌, ap, arith, inr, length, map, subst, sym, suc, List, Vec, Global, ℕ, []}
 use Rattle.hwdb_spec_commands.specs.DeviceFound.{places_meant, several_text}
 use Rattle.hwdb_spec_commands.specs.Refusals.{IsInWords}
 use Rattle.hwdb_spec_commands.specs.SysfsAnswers.{sight_by}
