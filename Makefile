@@ -156,6 +156,7 @@ check-peer: $(PROGRAM) out/libhwdb.so.0
 	tests/peer/device out/hwdb
 	tests/peer/near out/hwdb
 	tests/peer/editors out/hwdb
+	tests/peer/hooks out/hwdb
 	tests/peer/parse-hwdb out/hwdb
 	tests/peer/findings out/hwdb
 	tests/peer/machines out/hwdb

@@ -17,7 +17,8 @@ use hwdb_rules::first_text;
 use hwdb_show::push_name;
 use hwdb_spec_commands::FINDERS;
 use hwdb_sysfs::{
-    Ancestor, Device, DeviceFiles, device_of_path, last_name, list_links, near_name, read_device,
+    Ancestor, Device, DeviceFiles, Sysfs, device_of_path, last_name, list_links, near_name,
+    read_device,
 };
 use hwdb_text::Pieces;
 use std::alloc::{AllocError, Global};
@@ -123,40 +124,50 @@ fn is_offered(alloc: Global, device: &Device) -> Result<bool, AllocError>
     is_asked(alloc, device)
 }
 
+/// The same sysfs, of which is read what a text may find a device by.
+fn finding<'s, F: DeviceFiles>(sysfs: &Sysfs<'s, F>) -> Sysfs<'s, F>
+    ensures files { result.files.now ≡ sysfs.now.files.now }
+    ensures names { pieces (is 10) result.names.now ≡ spec.finders }
+    ensures folder { result.folder.now ≡ sysfs.now.folder.now }
+{
+    Sysfs {
+        files: sysfs.files,
+        names: FINDERS.as_bytes(),
+        folder: sysfs.folder,
+    }
+}
+
 /// Whether the device at a place is one that a text means.
 fn fits<F: DeviceFiles>(
     alloc: Global,
-    files: &F,
-    names: &[u8],
-    sys: &[u8],
+    sysfs: &Sysfs<'_, F>,
     given: &[u8],
     place: &[u8],
 ) -> Result<bool, AllocError>
-    ensures { F.tells → IfOk result (λ fits. fits ≡ spec.fits (seen (F.answers files.now))
-        (pieces (is 10) names.now) sys.now given.now place.now) }
+    ensures { F.tells → IfOk result (λ fits. fits
+        ≡ spec.fits (seen (F.answers sysfs.now.files.now))
+        (pieces (is 10) sysfs.now.names.now) sysfs.now.folder.now given.now place.now) }
 {
-    let told = read_device(alloc, files, FINDERS.as_bytes(), sys, place)?;
+    let told = read_device(alloc, &finding(sysfs), place)?;
     if !tells_of(alloc, given, &told.chain)? {
         return Ok(false);
     }
-    let device = read_device(alloc, files, names, sys, place)?;
+    let device = read_device(alloc, sysfs, place)?;
     is_offered(alloc, &device)
 }
 
 /// A place, if the device there is one that a text means.
 fn place_if<F: DeviceFiles>(
     alloc: Global,
-    files: &F,
-    names: &[u8],
-    sys: &[u8],
+    sysfs: &Sysfs<'_, F>,
     given: &[u8],
     place: Vec<u8>,
 ) -> Result<Option<Vec<u8>>, AllocError>
     ensures { F.tells → IfOk result (λ found. option_map (λ p. p.items) found
-        ≡ spec.place_if (seen (F.answers files.now)) (pieces (is 10) names.now)
-        sys.now given.now place.items) }
+        ≡ spec.place_if (seen (F.answers sysfs.now.files.now))
+        (pieces (is 10) sysfs.now.names.now) sysfs.now.folder.now given.now place.items) }
 {
-    if fits(alloc, files, names, sys, given, &place)? {
+    if fits(alloc, sysfs, given, &place)? {
         Ok(Some(place))
     } else {
         Ok(None)
@@ -166,18 +177,16 @@ fn place_if<F: DeviceFiles>(
 /// The place that a link leads to, if the device there is one that a text means.
 fn fitting_at<F: DeviceFiles>(
     alloc: Global,
-    files: &F,
-    names: &[u8],
-    sys: &[u8],
+    sysfs: &Sysfs<'_, F>,
     given: &[u8],
     link: &[u8],
 ) -> Result<Option<Vec<u8>>, AllocError>
     ensures { F.tells → IfOk result (λ found. option_map (λ p. p.items) found
-        ≡ spec.fitting_at (seen (F.answers files.now)) (pieces (is 10) names.now)
-        sys.now given.now link.now) }
+        ≡ spec.fitting_at (seen (F.answers sysfs.now.files.now))
+        (pieces (is 10) sysfs.now.names.now) sysfs.now.folder.now given.now link.now) }
 {
-    match device_of_path(alloc, files, sys, link)? {
-        Some(place) => place_if(alloc, files, names, sys, given, place),
+    match device_of_path(alloc, sysfs.files, sysfs.folder, link)? {
+        Some(place) => place_if(alloc, sysfs, given, place),
         None => Ok(None),
     }
 }
@@ -185,19 +194,17 @@ fn fitting_at<F: DeviceFiles>(
 /// Adds the place that a link leads to, if the device there is one that a text means.
 fn push_fitting<F: DeviceFiles>(
     alloc: Global,
-    files: &F,
-    names: &[u8],
-    sys: &[u8],
+    sysfs: &Sysfs<'_, F>,
     given: &[u8],
     link: &[u8],
     places: &mut Vec<Vec<u8>>,
 ) -> Result<(), AllocError>
     ensures { F.tells → OnOk result (map (λ p. p.items) places.new.items
         ≡ map (λ p. p.items) places.old.items
-        ++ cons_option (spec.fitting_at (seen (F.answers files.now)) (pieces (is 10) names.now)
-        sys.now given.now link.now) []) }
+        ++ cons_option (spec.fitting_at (seen (F.answers sysfs.now.files.now))
+        (pieces (is 10) sysfs.now.names.now) sysfs.now.folder.now given.now link.now) []) }
 {
-    if let Some(place) = fitting_at(alloc, files, names, sys, given, link)? {
+    if let Some(place) = fitting_at(alloc, sysfs, given, link)? {
         places.push(place)?;
     }
     Ok(())
@@ -210,29 +217,26 @@ fn is_word(given: &[u8]) -> bool
     !given.is_empty() && !given.starts_with(b"/")
 }
 
-/// The places of the devices that ids or a part of a name mean, in the order of the list. Of their attributes those with the names are
-/// read, which are the lines of `names`: something has to be asked for them.
+/// The places of the devices that ids or a part of a name mean, in the order of the list. Something has to be asked for them.
 ///
 /// The only error is want of memory. Reads each device once, and those that the text tells of twice.
 pub fn fitting<F: DeviceFiles>(
     alloc: Global,
-    files: &F,
-    names: &[u8],
-    sys: &[u8],
+    sysfs: &Sysfs<'_, F>,
     given: &[u8],
 ) -> Result<Vec<Vec<u8>>, AllocError>
     ensures { F.tells → IfOk result (λ places. map (λ p. p.items) places.items
-        ≡ spec.fitting (seen (F.answers files.now)) (pieces (is 10) names.now)
-        sys.now given.now) }
+        ≡ spec.fitting (seen (F.answers sysfs.now.files.now))
+        (pieces (is 10) sysfs.now.names.now) sysfs.now.folder.now given.now) }
 {
     let mut places = Vec::new(alloc);
     if !is_word(given) {
         return Ok(places);
     }
-    let links = list_links(alloc, files, sys)?;
+    let links = list_links(alloc, sysfs.files, sysfs.folder)?;
     let mut left = links.as_slice();
     'links: while let Some((link, rest)) = left.split_first() {
-        push_fitting(alloc, files, names, sys, given, link, &mut places)?;
+        push_fitting(alloc, sysfs, given, link, &mut places)?;
         left = rest;
     }
     Ok(places)
@@ -241,17 +245,15 @@ pub fn fitting<F: DeviceFiles>(
 /// Adds the line of the device at a place.
 fn push_row<F: DeviceFiles>(
     alloc: Global,
-    files: &F,
-    names: &[u8],
-    sys: &[u8],
+    sysfs: &Sysfs<'_, F>,
     place: &[u8],
     text: &mut Vec<u8>,
 ) -> Result<(), AllocError>
     ensures { F.tells → OnOk result (text.new.items ≡ text.old.items
-        ++ spec.place_row (seen (F.answers files.now)) (pieces (is 10) names.now)
-        sys.now place.now) }
+        ++ spec.place_row (seen (F.answers sysfs.now.files.now))
+        (pieces (is 10) sysfs.now.names.now) sysfs.now.folder.now place.now) }
 {
-    let device = read_device(alloc, files, names, sys, place)?;
+    let device = read_device(alloc, sysfs, place)?;
     let row = device_row(alloc, &device)?;
     text.extend_from_slice(&row)?;
     Ok(())
@@ -260,19 +262,18 @@ fn push_row<F: DeviceFiles>(
 /// Adds the lines of the devices at some places.
 fn push_rows<F: DeviceFiles>(
     alloc: Global,
-    files: &F,
-    names: &[u8],
-    sys: &[u8],
+    sysfs: &Sysfs<'_, F>,
     places: &[Vec<u8>],
     text: &mut Vec<u8>,
 ) -> Result<(), AllocError>
     ensures { F.tells → OnOk result (text.new.items ≡ text.old.items
-        ++ flat_map (spec.place_row (seen (F.answers files.now)) (pieces (is 10) names.now)
-        sys.now) (map (λ p. p.items) places.now)) }
+        ++ flat_map (spec.place_row (seen (F.answers sysfs.now.files.now))
+        (pieces (is 10) sysfs.now.names.now) sysfs.now.folder.now)
+        (map (λ p. p.items) places.now)) }
 {
     let mut left = places;
     'places: while let Some((place, rest)) = left.split_first() {
-        push_row(alloc, files, names, sys, place, text)?;
+        push_row(alloc, sysfs, place, text)?;
         left = rest;
     }
     Ok(())
@@ -283,20 +284,19 @@ fn push_rows<F: DeviceFiles>(
 /// The only error is want of memory.
 pub fn several_text<F: DeviceFiles>(
     alloc: Global,
-    files: &F,
-    names: &[u8],
-    sys: &[u8],
+    sysfs: &Sysfs<'_, F>,
     given: &[u8],
     places: &[Vec<u8>],
 ) -> Result<Vec<u8>, AllocError>
     ensures { F.tells → IfOk result (λ text. text.items
-        ≡ spec.several_text (seen (F.answers files.now)) (pieces (is 10) names.now)
-        sys.now given.now (map (λ p. p.items) places.now)) }
+        ≡ spec.several_text (seen (F.answers sysfs.now.files.now))
+        (pieces (is 10) sysfs.now.names.now) sysfs.now.folder.now given.now
+        (map (λ p. p.items) places.now)) }
 {
     let mut text = Vec::from_slice(alloc, b"several devices: ")?;
     push_name(&mut text, given)?;
     text.push(b'\n')?;
-    push_rows(alloc, files, names, sys, places, &mut text)?;
+    push_rows(alloc, sysfs, places, &mut text)?;
     text.extend_from_slice(b"name one of them")?;
     Ok(text)
 }
@@ -340,22 +340,20 @@ fn nearer_called(
 #[tactic(auto, unfolding(hwdb_spec_commands::specs::DeviceTree::nearest_of))]
 fn nearer_of_place<F: DeviceFiles>(
     alloc: Global,
-    files: &F,
-    names: &[u8],
-    sys: &[u8],
+    sysfs: &Sysfs<'_, F>,
     given: &[u8],
     before: Vec<u8>,
     place: &[u8],
 ) -> Result<Vec<u8>, AllocError>
     ensures { F.tells → IfOk result (λ v. v.items ≡ nearest_of given.now before.items
-        (spec.parts_of_place (seen (F.answers files.now)) (pieces (is 10) names.now)
-        sys.now place.now)) }
+        (spec.parts_of_place (seen (F.answers sysfs.now.files.now))
+        (pieces (is 10) sysfs.now.names.now) sysfs.now.folder.now place.now)) }
 {
-    let device = read_device(alloc, files, names, sys, place)?;
+    let device = read_device(alloc, sysfs, place)?;
     if !is_offered(alloc, &device)? {
         return Ok(before);
     }
-    let told = read_device(alloc, files, FINDERS.as_bytes(), sys, place)?;
+    let told = read_device(alloc, &finding(sysfs), place)?;
     nearer_called(alloc, given, before, &told.chain)
 }
 
@@ -363,19 +361,17 @@ fn nearer_of_place<F: DeviceFiles>(
 #[tactic(auto, unfolding(hwdb_spec_commands::specs::DeviceTree::nearest_of))]
 fn nearer_at<F: DeviceFiles>(
     alloc: Global,
-    files: &F,
-    names: &[u8],
-    sys: &[u8],
+    sysfs: &Sysfs<'_, F>,
     given: &[u8],
     before: Vec<u8>,
     link: &[u8],
 ) -> Result<Vec<u8>, AllocError>
     ensures { F.tells → IfOk result (λ v. v.items ≡ nearest_of given.now before.items
-        (spec.parts_at (seen (F.answers files.now)) (pieces (is 10) names.now)
-        sys.now link.now)) }
+        (spec.parts_at (seen (F.answers sysfs.now.files.now))
+        (pieces (is 10) sysfs.now.names.now) sysfs.now.folder.now link.now)) }
 {
-    match device_of_path(alloc, files, sys, link)? {
-        Some(place) => nearer_of_place(alloc, files, names, sys, given, before, &place),
+    match device_of_path(alloc, sysfs.files, sysfs.folder, link)? {
+        Some(place) => nearer_of_place(alloc, sysfs, given, before, &place),
         None => Ok(before),
     }
 }
@@ -384,45 +380,42 @@ fn nearer_at<F: DeviceFiles>(
 #[tactic(auto, unfolding(hwdb_spec_commands::specs::DeviceTree::nearest_of))]
 fn nearer_of_all<F: DeviceFiles>(
     alloc: Global,
-    files: &F,
-    names: &[u8],
-    sys: &[u8],
+    sysfs: &Sysfs<'_, F>,
     given: &[u8],
     before: Vec<u8>,
 ) -> Result<Vec<u8>, AllocError>
     ensures { F.tells → IfOk result (λ v. v.items ≡ nearest_of given.now before.items
-        (flat_map (spec.parts_at (seen (F.answers files.now)) (pieces (is 10) names.now) sys.now)
-        (all_links (seen (F.answers files.now)) sys.now))) }
+        (flat_map (spec.parts_at (seen (F.answers sysfs.now.files.now))
+        (pieces (is 10) sysfs.now.names.now) sysfs.now.folder.now)
+        (all_links (seen (F.answers sysfs.now.files.now)) sysfs.now.folder.now))) }
 {
-    let links = list_links(alloc, files, sys)?;
+    let links = list_links(alloc, sysfs.files, sysfs.folder)?;
     let mut nearest = before;
     let mut left = links.as_slice();
     'links: while let Some((link, rest)) = left.split_first() {
-        nearest = nearer_at(alloc, files, names, sys, given, nearest, link)?;
+        nearest = nearer_at(alloc, sysfs, given, nearest, link)?;
         left = rest;
     }
     Ok(nearest)
 }
 
 /// What is nearest to a text that means no device: a name in a class or at a bus, how a device is called, or a word of that. Empty if
-/// nothing is near. Of attributes those with the names are read, which are the lines of `names`.
+/// nothing is near.
 ///
 /// The only error is want of memory. Reads each device twice, unless the text is an absolute path.
 #[tactic(auto, unfolding(hwdb_spec_commands::specs::DeviceTree::nearest_of))]
 pub fn near_given<F: DeviceFiles>(
     alloc: Global,
-    files: &F,
-    names: &[u8],
-    sys: &[u8],
+    sysfs: &Sysfs<'_, F>,
     given: &[u8],
 ) -> Result<Vec<u8>, AllocError>
     ensures { F.tells → IfOk result (λ v. v.items
-        ≡ spec.near_given (seen (F.answers files.now)) (pieces (is 10) names.now)
-        sys.now given.now) }
+        ≡ spec.near_given (seen (F.answers sysfs.now.files.now))
+        (pieces (is 10) sysfs.now.names.now) sysfs.now.folder.now given.now) }
 {
-    let near = near_name(alloc, files, sys, last_name(given))?;
+    let near = near_name(alloc, sysfs.files, sysfs.folder, last_name(given))?;
     if !is_word(given) {
         return Ok(near);
     }
-    nearer_of_all(alloc, files, names, sys, given, near)
+    nearer_of_all(alloc, sysfs, given, near)
 }

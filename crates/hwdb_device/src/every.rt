@@ -17,7 +17,9 @@ use crate::strings::push_line;
 use crate::told::same;
 use hwdb_reader::Db;
 use hwdb_show::push_name;
-use hwdb_sysfs::{Device, DeviceFiles, device_of_path, list_links, read_device, unread_of_path};
+use hwdb_sysfs::{
+    Device, DeviceFiles, Sysfs, device_of_path, list_links, read_device, unread_of_path,
+};
 use std::alloc::{AllocError, Global};
 
 /// Whether a text is among others.
@@ -77,20 +79,18 @@ fn keep_device(
 fn keep_at<F: DeviceFiles>(
     alloc: Global,
     db: &Db<'_>,
-    files: &F,
-    names: &[u8],
-    sys: &[u8],
+    sysfs: &Sysfs<'_, F>,
     link: &[u8],
     kept: &mut Vec<Vec<u8>>,
 ) -> Result<(), AllocError>
     ensures { F.tells → OnOk result (map (λ k. k.items) kept.new.items ≡ spec.with_texts
-        (map (λ k. k.items) kept.old.items) (spec.strings_at (seen (F.answers files.now))
-        (pieces (is 10) names.now) sys.now db.now link.now)) }
+        (map (λ k. k.items) kept.old.items) (spec.strings_at (seen (F.answers sysfs.now.files.now))
+        (pieces (is 10) sysfs.now.names.now) sysfs.now.folder.now db.now link.now)) }
 {
-    let Some(place) = device_of_path(alloc, files, sys, link)? else {
+    let Some(place) = device_of_path(alloc, sysfs.files, sysfs.folder, link)? else {
         return Ok(());
     };
-    let device = read_device(alloc, files, names, sys, &place)?;
+    let device = read_device(alloc, sysfs, &place)?;
     keep_device(alloc, db, &device, kept)
 }
 
@@ -99,19 +99,17 @@ fn keep_at<F: DeviceFiles>(
 fn all_strings<F: DeviceFiles>(
     alloc: Global,
     db: &Db<'_>,
-    files: &F,
-    names: &[u8],
-    sys: &[u8],
+    sysfs: &Sysfs<'_, F>,
 ) -> Result<Vec<Vec<u8>>, AllocError>
     ensures { F.tells → IfOk result (λ kept. map (λ k. k.items) kept.items
-        ≡ spec.all_strings (seen (F.answers files.now)) (pieces (is 10) names.now)
-        sys.now db.now) }
+        ≡ spec.all_strings (seen (F.answers sysfs.now.files.now))
+        (pieces (is 10) sysfs.now.names.now) sysfs.now.folder.now db.now) }
 {
-    let links = list_links(alloc, files, sys)?;
+    let links = list_links(alloc, sysfs.files, sysfs.folder)?;
     let mut kept = Vec::new(alloc);
     let mut left = links.as_slice();
     'links: while let Some((link, rest)) = left.split_first() {
-        keep_at(alloc, db, files, names, sys, link, &mut kept)?;
+        keep_at(alloc, db, sysfs, link, &mut kept)?;
         left = rest;
     }
     Ok(kept)
@@ -132,21 +130,19 @@ fn lines_text(alloc: Global, texts: &[Vec<u8>]) -> Result<Vec<u8>, AllocError>
 }
 
 /// The strings that udev asks for the devices of the list, over a database: each once and a line each, in the order in which they are
-/// first seen. Of attributes those with the names are read, which are the lines of `names`.
+/// first seen.
 ///
 /// The only error is want of memory. Reads each device once. Each string is compared with those before it.
 pub fn all_strings_text<F: DeviceFiles>(
     alloc: Global,
     db: &Db<'_>,
-    files: &F,
-    names: &[u8],
-    sys: &[u8],
+    sysfs: &Sysfs<'_, F>,
 ) -> Result<Vec<u8>, AllocError>
     ensures { F.tells → IfOk result (λ text. text.items
-        ≡ spec.all_strings_text (seen (F.answers files.now)) (pieces (is 10) names.now)
-        sys.now db.now) }
+        ≡ spec.all_strings_text (seen (F.answers sysfs.now.files.now))
+        (pieces (is 10) sysfs.now.names.now) sysfs.now.folder.now db.now) }
 {
-    let kept = all_strings(alloc, db, files, names, sys)?;
+    let kept = all_strings(alloc, db, sysfs)?;
     lines_text(alloc, &kept)
 }
 

@@ -38,6 +38,6 @@ pub use laws::worked_rows;
 pub use listing::list_links;
 pub use near::near_name;
 pub use paths::{kernel_name, last_name};
-pub use reading::read_device;
+pub use reading::{Sysfs, read_device};
 pub use table::{Row, Table, Thing};
 pub use unread::{LINK_LOOP, NO_FOLDER, UnreadPath, unread_of_path};

@@ -16,6 +16,17 @@ use crate::paths::{below, is_below_devices, joined, kernel_name, last_name, path
 use hwdb_text::Lines;
 use std::alloc::{AllocError, Global};
 
+/// Sysfs, as it is read.
+#[derive(Drop)]
+pub struct Sysfs<'s, F: DeviceFiles> {
+    /// The system's files.
+    pub files: &'s F,
+    /// Which attributes of a device are read: a name a line.
+    pub names: &'s [u8],
+    /// Its folder.
+    pub folder: &'s [u8],
+}
+
 /// What the firmware says of the machine, below sysfs.
 const MACHINE: &[u8] = b"/class/dmi/id/modalias";
 
@@ -104,40 +115,36 @@ fn attributes_at<F: DeviceFiles>(
 /// The device of a folder, whose file `uevent` was read.
 fn ancestor_with<F: DeviceFiles>(
     alloc: Global,
-    files: &F,
-    names: &[u8],
-    sys: &[u8],
+    sysfs: &Sysfs<'_, F>,
     folder: &[u8],
     uevent: Vec<u8>,
 ) -> Result<Ancestor, AllocError>
     ensures { F.tells → IfOk result (λ a. ancestor_of a
-        ≡ tree.ancestor_with (seen (F.answers files.now)) (pieces (is 10) names.now)
-        sys.now folder.now uevent.items) }
+        ≡ tree.ancestor_with (seen (F.answers sysfs.now.files.now))
+        (pieces (is 10) sysfs.now.names.now) sysfs.now.folder.now folder.now uevent.items) }
 {
     Ok(Ancestor {
-        path: Vec::from_slice(alloc, below(sys, folder))?,
+        path: Vec::from_slice(alloc, below(sysfs.folder, folder))?,
         name: kernel_name(alloc, folder)?,
-        subsystem: link_name(alloc, files, folder, b"subsystem")?,
-        driver: link_name(alloc, files, folder, b"driver")?,
+        subsystem: link_name(alloc, sysfs.files, folder, b"subsystem")?,
+        driver: link_name(alloc, sysfs.files, folder, b"driver")?,
         uevent,
-        attributes: attributes_at(alloc, files, folder, names)?,
+        attributes: attributes_at(alloc, sysfs.files, folder, sysfs.names)?,
     })
 }
 
 /// The device of a folder, if it is one's.
 fn ancestor_at<F: DeviceFiles>(
     alloc: Global,
-    files: &F,
-    names: &[u8],
-    sys: &[u8],
+    sysfs: &Sysfs<'_, F>,
     folder: &[u8],
 ) -> Result<Option<Ancestor>, AllocError>
     ensures { F.tells → IfOk result (λ found. option_map ancestor_of found
-        ≡ tree.ancestor_at (seen (F.answers files.now)) (pieces (is 10) names.now)
-        sys.now folder.now) }
+        ≡ tree.ancestor_at (seen (F.answers sysfs.now.files.now))
+        (pieces (is 10) sysfs.now.names.now) sysfs.now.folder.now folder.now) }
 {
-    match uevent_of(alloc, files, folder)? {
-        Some(uevent) => Ok(Some(ancestor_with(alloc, files, names, sys, folder, uevent)?)),
+    match uevent_of(alloc, sysfs.files, folder)? {
+        Some(uevent) => Ok(Some(ancestor_with(alloc, sysfs, folder, uevent)?)),
         None => Ok(None),
     }
 }
@@ -145,17 +152,15 @@ fn ancestor_at<F: DeviceFiles>(
 /// The device of a folder, if it is one's and below sysfs's folder of devices.
 fn ancestor_below<F: DeviceFiles>(
     alloc: Global,
-    files: &F,
-    names: &[u8],
-    sys: &[u8],
+    sysfs: &Sysfs<'_, F>,
     folder: &[u8],
 ) -> Result<Option<Ancestor>, AllocError>
     ensures { F.tells → IfOk result (λ found. option_map ancestor_of found
-        ≡ tree.ancestor_below (seen (F.answers files.now)) (pieces (is 10) names.now)
-        sys.now folder.now) }
+        ≡ tree.ancestor_below (seen (F.answers sysfs.now.files.now))
+        (pieces (is 10) sysfs.now.names.now) sysfs.now.folder.now folder.now) }
 {
-    if is_below_devices(sys, folder) {
-        ancestor_at(alloc, files, names, sys, folder)
+    if is_below_devices(sysfs.folder, folder) {
+        ancestor_at(alloc, sysfs, folder)
     } else {
         Ok(None)
     }
@@ -164,18 +169,16 @@ fn ancestor_below<F: DeviceFiles>(
 /// Adds the device of a folder, if it is one's.
 fn push_ancestor<F: DeviceFiles>(
     alloc: Global,
-    files: &F,
-    names: &[u8],
-    sys: &[u8],
+    sysfs: &Sysfs<'_, F>,
     folder: &[u8],
     chain: &mut Vec<Ancestor>,
 ) -> Result<(), AllocError>
     ensures { F.tells → OnOk result (map ancestor_of chain.new.items
         ≡ map ancestor_of chain.old.items
-        ++ cons_option (tree.ancestor_below (seen (F.answers files.now)) (pieces (is 10) names.now)
-        sys.now folder.now) []) }
+        ++ cons_option (tree.ancestor_below (seen (F.answers sysfs.now.files.now))
+        (pieces (is 10) sysfs.now.names.now) sysfs.now.folder.now folder.now) []) }
 {
-    if let Some(ancestor) = ancestor_below(alloc, files, names, sys, folder)? {
+    if let Some(ancestor) = ancestor_below(alloc, sysfs, folder)? {
         chain.push(ancestor)?;
     }
     Ok(())
@@ -184,9 +187,7 @@ fn push_ancestor<F: DeviceFiles>(
 /// Adds the device of the folder that ends at a place of a path, if a slash is there.
 fn push_above<F: DeviceFiles>(
     alloc: Global,
-    files: &F,
-    names: &[u8],
-    sys: &[u8],
+    sysfs: &Sysfs<'_, F>,
     path: &[u8],
     end: usize,
     chain: &mut Vec<Ancestor>,
@@ -194,33 +195,32 @@ fn push_above<F: DeviceFiles>(
     requires { end < length path.now }
     ensures { F.tells → OnOk result (map ancestor_of chain.new.items
         ≡ map ancestor_of chain.old.items
-        ++ filter_map (tree.ancestor_below (seen (F.answers files.now)) (pieces (is 10) names.now)
-        sys.now) (folder_before path.now end)) }
+        ++ filter_map (tree.ancestor_below (seen (F.answers sysfs.now.files.now))
+        (pieces (is 10) sysfs.now.names.now) sysfs.now.folder.now) (folder_before path.now end)) }
 {
     if path[end] != b'/' {
         return Ok(());
     }
-    push_ancestor(alloc, files, names, sys, &path[..end], chain)
+    push_ancestor(alloc, sysfs, &path[..end], chain)
 }
 
 /// A device and its parents, the nearest first.
 fn chain_at<F: DeviceFiles>(
     alloc: Global,
-    files: &F,
-    names: &[u8],
-    sys: &[u8],
+    sysfs: &Sysfs<'_, F>,
     place: &[u8],
 ) -> Result<Vec<Ancestor>, AllocError>
     ensures { F.tells → IfOk result (λ chain. map ancestor_of chain.items
-        ≡ filter_map (tree.ancestor_below (seen (F.answers files.now)) (pieces (is 10) names.now)
-        sys.now) (place.now ∷ tree.above (reverse place.now))) }
+        ≡ filter_map (tree.ancestor_below (seen (F.answers sysfs.now.files.now))
+        (pieces (is 10) sysfs.now.names.now) sysfs.now.folder.now)
+        (place.now ∷ tree.above (reverse place.now))) }
 {
     let mut chain = Vec::new(alloc);
-    push_ancestor(alloc, files, names, sys, place, &mut chain)?;
+    push_ancestor(alloc, sysfs, place, &mut chain)?;
     let mut end = place.len();
     'bytes: while end > 0 {
         end -= 1;
-        push_above(alloc, files, names, sys, place, end, &mut chain)?;
+        push_above(alloc, sysfs, place, end, &mut chain)?;
     }
     Ok(chain)
 }
@@ -238,23 +238,20 @@ fn machine_of<F: DeviceFiles>(alloc: Global, files: &F, sys: &[u8]) -> Result<Ve
     }
 }
 
-/// Reads a device and its parents, at a place below sysfs. Of their attributes those with the names are read, which are the lines of
-/// `names`. What can't be read is left out, as if it weren't there.
+/// Reads a device and its parents, at a place below sysfs. What can't be read is left out, as if it weren't there.
 ///
 /// The only error is want of memory. Reads as many small files as there are names, for each part of the path.
 pub fn read_device<F: DeviceFiles>(
     alloc: Global,
-    files: &F,
-    names: &[u8],
-    sys: &[u8],
+    sysfs: &Sysfs<'_, F>,
     place: &[u8],
 ) -> Result<Device, AllocError>
     ensures { F.tells → IfOk result (λ device. device_of device
-        ≡ tree.device_at (seen (F.answers files.now)) (pieces (is 10) names.now)
-        sys.now place.now) }
+        ≡ tree.device_at (seen (F.answers sysfs.now.files.now))
+        (pieces (is 10) sysfs.now.names.now) sysfs.now.folder.now place.now) }
 {
     Ok(Device {
-        chain: chain_at(alloc, files, names, sys, place)?,
-        machine: machine_of(alloc, files, sys)?,
+        chain: chain_at(alloc, sysfs, place)?,
+        machine: machine_of(alloc, sysfs.files, sysfs.folder)?,
     })
 }

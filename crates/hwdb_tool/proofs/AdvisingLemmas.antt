@@ -1,78 +1,49 @@
 -- What is said on a terminal if a task prints nothing.
-use Rattle.std.proofs.Common.{◌≡◌, ◌∙◌, ◌⊎◌, ◌&&◌, ◌∷◌, inl, inr, ap, arith, refl, subst, sym, string_bytes, true≢false, Bool, IfSome, List, MatchResult, Option, None, Result, Some, Ok, Err, ℕ, [], true, false}
-use Rattle.std.specs.Prelude.{codes, if◌then◌else◌, is_some, option_map}
+use Rattle.std.proofs.Common.{◌≡◌, ◌∙◌, ◌⊎◌, ◌&&◌, inl, inr, ap, arith, refl, subst, sym, true≢false, Bool, IfSome, List, MatchResult, Option, None, Result, Some, Ok, Err, ℕ, [], true, false}
+use Rattle.std.specs.Prelude.{codes, is_some, option_map}
 use Rattle.std.specs.Io.KnownBytes.{Appends}
 use Rattle.std.specs.Result.{IsErrAnd}
 use Rattle.clap.specs.Simple.{matches_of, subcommand_of}
-use Rattle.clap.specs.Walk.{Row, Text, first_of}
+use Rattle.clap.specs.Walk.{Row, Text}
 use Rattle.hwdb_spec.specs.Failures.{OneFailed, after_failure}
 use Rattle.hwdb_spec.specs.declared.errors.ToolError.TheVariants.{Memory}
 use Rattle.hwdb_spec_commands.specs.CommandLine.{hwdb_app}
-use Rattle.hwdb_spec_commands.specs.DeviceAsked.{device_form}
-use Rattle.hwdb_spec_commands.specs.DeviceTree.{Sight, last_after}
-use Rattle.hwdb_spec_commands.specs.Given.{is_dash}
-use Rattle.hwdb_spec_commands.specs.Jobs.{IsJobOf, IsTask, has_flag, text_taker}
-use Rattle.hwdb_spec_commands.specs.NearAsked.{near_form, near_limit}
-use Rattle.hwdb_spec_commands.specs.Refusals.{refusal_line}
+use Rattle.hwdb_spec_commands.specs.DeviceTree.{Sight}
+use Rattle.hwdb_spec_commands.specs.Jobs.{IsJobOf, has_flag, text_taker}
 use Rattle.hwdb_spec_commands.specs.Runs.{HasTaken, Told, WasCut}
 use Rattle.hwdb_spec_commands.specs.Told.{Reads, stop_of}
-use Rattle.hwdb_spec_commands.specs.declared.form.Form.{Form}
 use Rattle.hwdb_spec_commands.specs.declared.form.Form.TheVariants as form
 use Rattle.hwdb_spec_commands.specs.declared.job.Job.{Job}
 use Rattle.hwdb_spec_commands.specs.declared.job.Task.{Task}
-use Rattle.hwdb_spec_commands.specs.declared.job.Task.TheVariants.{Device, Explain, Near}
 use Rattle.hwdb_spec_commands.specs.declared.refusals.Refusal.{Refusal}
 use Rattle.hwdb_spec_commands.specs.declared.refusals.Refusal.TheVariants.{Plain}
 use Rattle.hwdb_spec_commands.specs.declared.unread.Unread.TheVariants as unread
 use Rattle.hwdb_spec_program.specs.DeviceErrors.{asked_names}
-use Rattle.hwdb_spec_program.specs.ProgramPlan.{OfAround, ShowsPlan, advice_given, as_given, before_last, device_command, files_plan, found_command, limit_of, over_texts, program_plan, root_given, said_by, shown_plan, strict_given, value_of, values_of}
+use Rattle.hwdb_spec_program.specs.ProgramPlan.{OfAround, ShowsPlan, advice_given, as_given, files_plan, found_command, over_texts, program_plan, root_given, said_by, shown_plan, strict_given}
 use Rattle.hwdb_spec_program.specs.Program.{IsUpdate}
 use Rattle.hwdb_spec_program.specs.Words.{AskFor}
-use Rattle.hwdb_plan.specs.Advice.{AdvisedIsSaid, advice_of, advised, advised_if, with_advice}
-use Rattle.hwdb_plan.specs.Answers.{devices_plan}
+use Rattle.hwdb_plan.specs.Advice.{AdvisedIsSaid, advised, advised_if, with_advice}
 use Rattle.hwdb_plan.specs.Folders.{Texts}
 use Rattle.hwdb_plan.specs.Ended.{Outs, Prints, Shows, ShowsEnd, outs}
 use Rattle.hwdb_plan.specs.Lemmas.Ends.{answer_shows}
-use Rattle.hwdb_plan.specs.Lemmas.Answering.{IsWhole, OnlyAnswers, only_answer, only_choice, only_device, only_ends, only_near, only_report, only_text}
+use Rattle.hwdb_plan.specs.Lemmas.Answering.{IsWhole, OnlyAnswers, only_choice, only_ends, only_text}
 use Rattle.hwdb_plan.specs.Plans.{End, Ends, Follows, Plan}
 use Rattle.hwdb_plan.specs.Plans.End.{Answers, Stops}
 use Rattle.hwdb_plan.specs.Requests.{Around, plan_of}
-use Rattle.hwdb_tool.specs.Advising.{is_advised, task_advice}
+use Rattle.hwdb_tool.specs.Advising.{IsWholeTask, is_advised, task_advice}
 use Rattle.hwdb_tool.specs.Views.{end_of}
 use Rattle.hwdb_tool.specs.declared.answer.Answer.{Answer}
-use Rattle.hwdb_tool.proofs.ProgramPlanLemmas.{around, command_plan, some_value}
+use Rattle.hwdb_tool.proofs.ExplainWords.{line_of_task}
+use Rattle.hwdb_tool.proofs.PlanOptions.{all_mapped, both, each, mapped}
+use Rattle.hwdb_tool.proofs.ProgramPlanLemmas.{around}
 
 -- ---- the line, by words
-line_of_task : (task : Task) (word : Text) (rows : List Row) → IsTask word rows task → advice_of word (value_of (codes "MODALIAS") rows) ≡ task_advice task
-line_of_task (Explain e) word rows is =
-    subst (λ (n : Text). advice_of n (value_of (codes "MODALIAS") rows) ≡ task_advice (Explain e)) (sym is.0)
-    (ap (λ (d : Text). advice_of (codes "explain") d) (sym (some_value (codes "MODALIAS") rows (string_bytes e.device) is.2)))
-line_of_task task word rows is =
-    subst (λ (n : Text). advice_of n (value_of (codes "MODALIAS") rows) ≡ task_advice task) (sym is.0) refl
-
 pub line_of : (words : List Text) (job : Job) → AskFor words job → advice_given (subcommand_of hwdb_app words) ≡ task_advice job.task
 line_of words job asked = by (matches_of hwdb_app words) (subcommand_of hwdb_app words) asked
   where
     by : (top : List Row) (found : Option (Text × List Row)) → IsJobOf top found job → advice_given found ≡ task_advice job.task
     by top None is = absurd is
     by top (Some f) is = line_of_task job.task f.0 f.1 is.task
-
--- ---- plans that some have
-mapped : (f : Plan → Plan) (P Q : Plan → Type 0) (o : Option Plan) → ((p : Plan) → P p → Q (f p)) → IfSome o P → IfSome (option_map f o) Q
-mapped f P Q None step has = tt
-mapped f P Q (Some p) step has = step p has
-
-all_mapped : (f : Plan → Plan) (Q : Plan → Type 0) (o : Option Plan) → ((p : Plan) → Q (f p)) → IfSome (option_map f o) Q
-all_mapped f Q None step = tt
-all_mapped f Q (Some p) step = step p
-
-each : (P Q : Plan → Type 0) (o : Option Plan) → ((p : Plan) → P p → Q p) → IfSome o P → IfSome o Q
-each P Q None step has = tt
-each P Q (Some p) step has = step p has
-
-both : (P Q R : Plan → Type 0) (o : Option Plan) → ((p : Plan) → P p → Q p → R p) → IfSome o P → IfSome o Q → IfSome o R
-both P Q R None step one other = tt
-both P Q R (Some p) step one other = step p one other
 
 -- ---- without a line
 untold : (at_terminal : Bool) (line : Option (List ℕ)) → (at_terminal && is_some line) ≡ false → (p : Plan) → advised_if at_terminal line p ≡ p
@@ -100,30 +71,6 @@ module _ (words : List Text) (job : Job) (asked : AskFor words job) where
       )
 
 -- ---- plans that end in an answer
-explain_whole : (b : Bool) (line : Option (List ℕ)) (root : List ℕ) (f : Form) (devices : List (List ℕ)) → is_some (option_map refusal_line (if b then None else line)) ≡ true → OnlyAnswers (devices_plan b root f devices)
-explain_whole true line root f devices some = absurd (true≢false (sym some))
-explain_whole false line root f devices some = only_answer root f devices
-
-device_whole : (a : Around) (root : List ℕ) (rows : List Row) (from : Option Text) → OnlyAnswers (plan_of asked_names a (device_command a.sight root rows from))
-device_whole a root rows None =
-    only_device a.sight a.cause asked_names root (device_form (has_flag (codes "strings") rows) (has_flag (codes "json") rows) (has_flag (codes "pattern") rows)) (has_flag (codes "all") rows) (first_of (codes "DEVICE") rows)
-device_whole a root rows (Some from) =
-    only_report a.input from asked_names root (device_form (has_flag (codes "strings") rows) (has_flag (codes "json") rows) (has_flag (codes "pattern") rows)) (has_flag (codes "all") rows) (first_of (codes "DEVICE") rows)
-
-task_whole : (task : Task) (word : Text) (rows : List Row) → IsTask word rows task → is_advised task ≡ true → (a : Around) (root : List ℕ) (strict : Bool)
-    → IfSome (command_plan a root strict word rows) OnlyAnswers
-task_whole (Explain e) word rows is some a root strict =
-    subst (λ (n : Text). IfSome (command_plan a root strict n rows) OnlyAnswers) (sym is.0)
-    (explain_whole (is_dash (value_of (codes "MODALIAS") rows)) _ root (form.Explain (has_flag (codes "json") rows)) (value_of (codes "MODALIAS") rows ∷ [])
-    (subst (λ (x : Text). is_some (advice_of (codes "explain") x) ≡ true) (some_value (codes "MODALIAS") rows (string_bytes e.device) is.2) some))
-task_whole (Near n) word rows is some a root strict =
-    subst (λ (n : Text). IfSome (command_plan a root strict n rows) OnlyAnswers) (sym is.0)
-    (only_near a.input (before_last (values_of (codes "MODALIAS") rows)) root
-    (near_form (has_flag (codes "json") rows) (last_after [] (values_of (codes "MODALIAS") rows)) (near_limit (limit_of rows))))
-task_whole (Device d) word rows is some a root strict =
-    subst (λ (n : Text). IfSome (command_plan a root strict n rows) OnlyAnswers) (sym is.0) (device_whole a root rows (first_of (codes "from") rows))
-task_whole task word rows is some a root strict = absurd (true≢false (sym some))
-
 over_whole : (root : List ℕ) (taker : Option (Option Text)) (besides : Texts → List ℕ) (p : Plan) → OnlyAnswers p → OnlyAnswers (over_texts root taker besides p)
 over_whole root None besides p only = only
 over_whole root (Some misfit) besides p only = only_text misfit root besides p only
@@ -135,14 +82,15 @@ given_whole top (Some f) p only =
     let taker = text_taker f.0 f.1 in
     only_choice (has_flag (codes "text") f.1) (over_texts root taker (said_by f.0 f.1) p) p (over_whole root taker (said_by f.0 f.1) p only) only
 
-pub whole : (words : List Text) (job : Job) → AskFor words job → is_advised job.task ≡ true → (a : Around) → IfSome (program_plan a words) OnlyAnswers
-whole words job asked some a =
+pub whole : (words : List Text) (job : Job) → AskFor words job → IsWholeTask job.task → (a : Around) → IfSome (program_plan a words) OnlyAnswers
+unfolding IsWholeTask
+whole words job asked is_whole a =
     mapped (as_given (matches_of hwdb_app words) (subcommand_of hwdb_app words)) OnlyAnswers OnlyAnswers (files_plan a words) (λ p only. given_whole (matches_of hwdb_app words) (subcommand_of hwdb_app words) p only)
     (by (matches_of hwdb_app words) (subcommand_of hwdb_app words) asked)
   where
     by : (top : List Row) (found : Option (Text × List Row)) → IsJobOf top found job → IfSome (option_map (plan_of asked_names a) (found_command a.sight top found)) OnlyAnswers
     by top None is = absurd is
-    by top (Some f) is = task_whole job.task f.0 f.1 is.task some a (root_given top f.1) (strict_given top f.1)
+    by top (Some f) is = is_whole f.0 f.1 is.task a (root_given top f.1) (strict_given top f.1)
 
 -- ---- texts that are kept in memory
 -- no call of either output has failed
@@ -204,11 +152,11 @@ module _ (w : Reads) (sight : Sight) (input_before input_now : Told) (words : Li
   abbrev FollowsBy : (plan : Around → Option Plan) → Result Answer Refusal → Type 0
   FollowsBy plan answer = OfAround sight input_before.bytes input_before.failures input_now.failures (λ a. IfSome (plan a) (λ p. Follows end_of w p answer))
 
-  module _ (job : Job) (asked : AskFor words job) (some : is_advised job.task ≡ true) where
+  module _ (job : Job) (asked : AskFor words job) where
     -- what is kept is the answer
-    pub kept_follows : (e0 o0 e1 o1 : Told) (a : Answer) (status : ℕ) → e0.bytes ≡ Some [] → o0.bytes ≡ Some [] → e1.bytes ≡ Some a.err.items → o1.bytes ≡ Some a.out.items → a.status ≡ status
+    pub kept_follows : IsWholeTask job.task → (e0 o0 e1 o1 : Told) (a : Answer) (status : ℕ) → e0.bytes ≡ Some [] → o0.bytes ≡ Some [] → e1.bytes ≡ Some a.err.items → o1.bytes ≡ Some a.out.items → a.status ≡ status
         → ShowsPlan (λ a. program_plan a words) w sight input_before input_now (outs e0 o0) (outs e1 o1) (Ok status) → FollowsBy (λ a. program_plan a words) (Ok a)
-    kept_follows e0 o0 e1 o1 answer status none_said none_shown said shown is (told, so, (cause, one_line, shows)) = (
+    kept_follows is_whole e0 o0 e1 o1 answer status none_said none_shown said shown is (told, so, (cause, one_line, shows)) = (
       told,
       so,
       (
@@ -217,21 +165,21 @@ module _ (w : Reads) (sight : Sight) (input_before input_now : Told) (words : Li
         both OnlyAnswers (λ p. ShowsEnd w p input_before input_now (outs e0 o0) (outs e1 o1) (Ok status)) (λ p. Follows end_of w p (Ok answer)) (program_plan (around sight told cause) words)
             (λ p only s. subst (λ (n : ℕ). Ends w p (Answers n answer.err.items answer.out.items)) (sym is)
             (kept_ends w p only input_before input_now e0 o0 e1 o1 status answer.err.items answer.out.items none_said none_shown said shown s))
-            (whole words job asked some (around sight told cause)) shows,
+            (whole words job asked is_whole (around sight told cause)) shows,
       ),
     )
 
     -- or the error
-    pub kept_refused : (before now : Outs) (r x : Refusal) → AreNew before → IsKeptError r now x
+    pub kept_refused : IsWholeTask job.task → (before now : Outs) (r x : Refusal) → AreNew before → IsKeptError r now x
         → ShowsPlan (λ a. program_plan a words) w sight input_before input_now before now (Err r) → FollowsBy (λ a. program_plan a words) (Err x)
-    kept_refused before now r x new why (told, so, (cause, one_line, shows)) = (
+    kept_refused is_whole before now r x new why (told, so, (cause, one_line, shows)) = (
       told,
       so,
       (
         cause,
         one_line,
         both OnlyAnswers (λ p. ShowsEnd w p input_before input_now before now (Err r)) (λ p. Follows end_of w p (Err x)) (program_plan (around sight told cause) words)
-            (λ p only s. kept_stops w p only input_before input_now before now r x new why s) (whole words job asked some (around sight told cause)) shows,
+            (λ p only s. kept_stops w p only input_before input_now before now r x new why s) (whole words job asked is_whole (around sight told cause)) shows,
       ),
     )
 

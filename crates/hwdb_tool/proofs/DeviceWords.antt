@@ -1,5 +1,5 @@
 -- What the words of `device` ask for is what its function follows.
-use Rattle.std.proofs.Common.{◌≡◌, refl, subst, string_bytes, Bool, IfSome, List, None, Option, Result, Some, Err, ℕ, []}
+use Rattle.std.proofs.Common.{◌≡◌, refl, subst, sym, string_bytes, Bool, IfSome, List, None, Option, Result, Some, Err, ℕ, []}
 use Rattle.std.specs.Prelude.{codes, option_map}
 use Rattle.clap.specs.Walk.{Row, Text, first_of}
 use Rattle.hwdb_spec_commands.specs.DeviceAsked.{device_form}
@@ -16,10 +16,12 @@ use Rattle.hwdb_spec_commands.specs.declared.unread.Unread.TheVariants as unread
 use Rattle.hwdb_spec_program.specs.DeviceErrors.{asked_names}
 use Rattle.hwdb_plan.specs.Device.{device_asked}
 use Rattle.hwdb_plan.specs.Given.{given_at}
+use Rattle.hwdb_plan.specs.Lemmas.Answering.{OnlyAnswers, only_device, only_report}
 use Rattle.hwdb_plan.specs.Report.{report_answer}
-use Rattle.hwdb_plan.specs.Requests.{plan_of}
+use Rattle.hwdb_plan.specs.Requests.{Around, plan_of}
 use Rattle.hwdb_plan.specs.Plans.{Follows, Plan}
 use Rattle.hwdb_spec_program.specs.ProgramPlan.{device_command}
+use Rattle.hwdb_tool.specs.Advising.{IsWholeTask}
 use Rattle.hwdb_tool.specs.Reported.{FollowsFrom}
 use Rattle.hwdb_tool.specs.Views.{end_of}
 use Rattle.hwdb_tool.specs.declared.answer.Answer.{Answer}
@@ -68,3 +70,15 @@ module _ (w : Reads) (sight : Sight) (input_before input_now : Told) (root : Lis
     pub device_planned : FollowsFrom (option_map string_bytes args.from) root Form args.all (option_map string_bytes args.path) sight w input_before.bytes input_before.failures input_now.failures answer
         → At sight input_before input_now Answers root strict word rows
     device_planned follows = by (option_map string_bytes args.from) is.6 follows
+
+-- it ends in one answer
+of_source : (a : Around) (root : List ℕ) (rows : List Row) (from : Option Text) → OnlyAnswers (plan_of asked_names a (device_command a.sight root rows from))
+of_source a root rows None =
+    only_device a.sight a.cause asked_names root (device_form (has_flag (codes "strings") rows) (has_flag (codes "json") rows) (has_flag (codes "pattern") rows)) (has_flag (codes "all") rows) (first_of (codes "DEVICE") rows)
+of_source a root rows (Some from) =
+    only_report a.input from asked_names root (device_form (has_flag (codes "strings") rows) (has_flag (codes "json") rows) (has_flag (codes "pattern") rows)) (has_flag (codes "all") rows) (first_of (codes "DEVICE") rows)
+
+pub device_whole : (args : DeviceArgs) → IsWholeTask (Device args)
+unfolding IsWholeTask
+device_whole args = λ word rows is a root strict.
+    subst (λ (n : Text). IfSome (command_plan a root strict n rows) OnlyAnswers) (sym is.0) (of_source a root rows (first_of (codes "from") rows))

@@ -1,9 +1,9 @@
 -- What the words of `near` ask for is what its function follows.
-use Rattle.std.proofs.Common.{◌≡◌, ◌∙◌, ◌+◌, ◌-◌, ◌∷◌, ◌++◌, arith, ap, refl, subst, sym, map, string_bytes, Bool, List, Option, Result, ℕ, [], length, take}
+use Rattle.std.proofs.Common.{◌≡◌, ◌∙◌, ◌+◌, ◌-◌, ◌∷◌, ◌++◌, arith, ap, refl, subst, sym, map, string_bytes, Bool, IfSome, List, Option, Result, ℕ, [], length, take}
 use Rattle.std.specs.Prelude.{codes}
 use Rattle.clap.specs.Walk.{Row, Text}
 use Rattle.hwdb_spec_commands.specs.DeviceTree.{Sight, last_after}
-use Rattle.hwdb_spec_commands.specs.Jobs.{IsTask}
+use Rattle.hwdb_spec_commands.specs.Jobs.{IsTask, has_flag}
 use Rattle.hwdb_spec_commands.specs.NearAsked.{near_form, near_limit}
 use Rattle.hwdb_spec_commands.specs.Runs.{Told}
 use Rattle.hwdb_spec_commands.specs.Told.{Reads}
@@ -12,11 +12,13 @@ use Rattle.hwdb_spec_commands.specs.declared.job.Task.TheVariants.{Near}
 use Rattle.hwdb_spec_commands.specs.declared.refusals.Refusal.{Refusal}
 use Rattle.hwdb_spec_program.specs.ProgramPlan.{before_last, limit_of, values_of}
 use Rattle.hwdb_plan.specs.Files.{OfInput}
+use Rattle.hwdb_plan.specs.Lemmas.Answering.{OnlyAnswers, only_near}
 use Rattle.hwdb_plan.specs.Near.{near_plan}
 use Rattle.hwdb_plan.specs.Plans.{Follows, Plan}
+use Rattle.hwdb_tool.specs.Advising.{IsWholeTask}
 use Rattle.hwdb_tool.specs.Views.{end_of}
 use Rattle.hwdb_tool.specs.declared.answer.Answer.{Answer}
-use Rattle.hwdb_tool.proofs.ProgramPlanLemmas.{At, around, at_word, limit_is, some_values}
+use Rattle.hwdb_tool.proofs.ProgramPlanLemmas.{At, around, at_word, command_plan, limit_is, some_values}
 
 -- texts before a last one
 last_is : (first : Text) (files : List Text) (device : Text) → last_after first (files ++ device ∷ []) ≡ device
@@ -64,3 +66,11 @@ module _ (w : Reads) (sight : Sight) (input_before input_now : Told) (root : Lis
               follows)))),
         ),
       )
+
+-- it ends in one answer
+pub near_whole : (args : NearArgs) → IsWholeTask (Near args)
+unfolding IsWholeTask
+near_whole args = λ word rows is a root strict.
+    subst (λ (n : Text). IfSome (command_plan a root strict n rows) OnlyAnswers) (sym is.0)
+    (only_near a.input (before_last (values_of (codes "MODALIAS") rows)) root
+    (near_form (has_flag (codes "json") rows) (last_after [] (values_of (codes "MODALIAS") rows)) (near_limit (limit_of rows))))

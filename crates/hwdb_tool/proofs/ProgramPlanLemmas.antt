@@ -1,7 +1,7 @@
 -- A run of some words follows the plan that the words compute. What each command's words ask for is in a file of its own (`QueryWords` ..).
 use Rattle.std.proofs.Common.{◌≡◌, ◌∙◌, inl, inr, ap, refl, subst, sym, string_bytes, Bool, IfSome, List, MatchResult, Option, None, Result, Some, Ok, Err, ℕ, [], true, false}
 use Rattle.std.specs.Option.{option_map_or, unwrap_or}
-use Rattle.std.specs.Prelude.{◌&&◌, codes, if◌then◌else◌, option_map}
+use Rattle.std.specs.Prelude.{if◌then◌else◌, ◌&&◌, codes, option_map}
 use Rattle.std.specs.Str.Parse.{digits_value, without_leading_plus}
 use Rattle.clap.specs.Simple.{matches_of, subcommand_of}
 use Rattle.clap.specs.Walk.{Row, Text, all_of, first_of, one_of}
@@ -33,6 +33,7 @@ use Rattle.hwdb_tool.specs.Verbs.{AnswersAsked, ShowsAsked}
 use Rattle.hwdb_tool.specs.Views.{end_of}
 use Rattle.hwdb_tool.specs.declared.answer.Answer.{Answer}
 use Rattle.hwdb_tool.proofs.JobLemmas.{one_root}
+use Rattle.hwdb_tool.proofs.PlanOptions.{each}
 
 -- ---- what words give
 pub some_values : (id : Text) (rows : List Row) (texts : List Text) → Some texts ≡ all_of id rows → texts ≡ values_of id rows
@@ -133,10 +134,6 @@ module _ (sight : Sight) (input_before input_now : Told) (Is : Plan → Type 0) 
     pub alone : (known : Text) → word ≡ known → IfSome (command_plan (around sight (Err unread.Memory) []) root strict known rows) Is → At
     alone known is shows = (Err unread.Memory, tt, ([], refl, at_word (around sight (Err unread.Memory) []) known is shows))
 
-some_shows : (P Q : Plan → Type 0) (o : Option Plan) → ((p : Plan) → P p → Q p) → IfSome o P → IfSome o Q
-some_shows P Q None step holds = tt
-some_shows P Q (Some p) step holds = step p holds
-
 -- an answer that is printed shows its plan
 pub printed_shows : (w : Reads) (sight : Sight) (input_before input_now : Told) (before now : Outs) (result : Result ℕ Refusal) (job : Job) (answer : Result Answer Refusal)
     → AnswersAsked job w sight input_before input_now answer → MatchResult answer (λ a. Prints a.status a.err.items a.out.items before now result) (λ r. (result ≡ Err r) × (now ≡ before))
@@ -148,7 +145,7 @@ printed_shows w sight input_before input_now before now result job answer answer
       (
         cause,
         one_line,
-        some_shows (λ p. Follows end_of w p answer) (λ p. ShowsEnd w p input_before input_now before now result) (files_plan (around sight told cause) words)
+        each (λ p. Follows end_of w p answer) (λ p. ShowsEnd w p input_before input_now before now result) (files_plan (around sight told cause) words)
             (λ p follow. answer_shows (λ (a : Answer). a.status) (λ a. a.err.items) (λ a. a.out.items) answer result w p input_before input_now before now follow prints) follows,
       ),
     )

@@ -1,5 +1,5 @@
 -- A run with `--text` follows the plan that its words compute.
-use Rattle.std.proofs.Common.{◌≡◌, ◌≤◌, ◌∙◌, ◌⊎◌, ◌&&◌, ⊎_elim, inl, inr, ap, refl, subst, sym, length, true≢false, Bool, IfSome, List, Option, None, Result, Some, Ok, Err, ℕ, [], true, false}
+use Rattle.std.proofs.Common.{◌≡◌, ◌≤◌, ◌∙◌, ◌⊎◌, ◌&&◌, ⊎_elim, inl, inr, ap, refl, subst, sym, length, true≢false, Bool, List, Option, None, Result, Some, Ok, Err, ℕ, [], true, false}
 use Rattle.std.specs.Option.{unwrap_or}
 use Rattle.std.specs.Prelude.{codes, if◌then◌else◌, is_some, not, option_map}
 use Rattle.std.specs.Result.{IsErrAnd}
@@ -39,6 +39,7 @@ use Rattle.hwdb_plan.specs.TextLaws.{MayFollow, WasSaid}
 use Rattle.hwdb_system.specs.Reads.{with_read}
 use Rattle.hwdb_tool.specs.TextPlans.{TextShowsOver}
 use Rattle.hwdb_tool.specs.TextPlans.{besides_for, plan_over}
+use Rattle.hwdb_tool.proofs.PlanOptions.{all_mapped, mapped, remapped}
 use Rattle.hwdb_tool.proofs.ProgramPlanLemmas.{has_both, root_is}
 use Rattle.hwdb_tool.proofs.ExplainText.{besides_is, explained_may}
 use Rattle.hwdb_tool.proofs.UpdatingLemmas.{update_takes_none}
@@ -95,18 +96,6 @@ module _ (words : List Text) (job : Job) (asked : AskFor words job) (p : Plan) w
               absurd (true≢false (sym (ap is_some known) ∙ ap is_some (update_takes_none job.task f.0 f.1 is.task updates)))
 
 -- ---- runs
-mapped_shows : (f : Plan → Plan) (P Q : Plan → Type 0) (o : Option Plan) → ((p : Plan) → P p → Q (f p)) → IfSome o P → IfSome (option_map f o) Q
-mapped_shows f P Q None step shows = tt
-mapped_shows f P Q (Some p) step shows = step p shows
-
-remapped_shows : (f g : Plan → Plan) (P Q : Plan → Type 0) (o : Option Plan) → ((p : Plan) → o ≡ Some p → P (f p) → Q (g p)) → IfSome (option_map f o) P → IfSome (option_map g o) Q
-remapped_shows f g P Q None step shows = tt
-remapped_shows f g P Q (Some p) step shows = step p refl shows
-
-all_mapped : (g : Plan → Plan) (Q : Plan → Type 0) (o : Option Plan) → ((p : Plan) → Q (g p)) → IfSome (option_map g o) Q
-all_mapped g Q None step = tt
-all_mapped g Q (Some p) step = step p
-
 -- an error, which is the result
 pub one_error : (r : Refusal) (result : Result ℕ Refusal) → IsErrAnd result (λ x. x ≡ r) → Err r ≡ result
 one_error r (Ok n) is = absurd is
@@ -136,7 +125,7 @@ module _ (w : Reads) (sight : Sight) (input_before input_now : Told) (before : O
   pub plainly_planned : (now : Outs) (result : Result ℕ Refusal) → asks_text job ≡ false → Planned (λ a. files_plan a words) now result → Planned Program now result
   plainly_planned now result asks (told, so, (cause, one_line, shows)) =
       let a : Around = record { input = told; sight = sight; cause = cause } in
-      (told, so, (cause, one_line, mapped_shows (Given words) (Shows now result) (Shows now result) (files_plan a words) (λ p s. subst (Shows now result) (sym (given_plain words job asked p asks)) s) shows))
+      (told, so, (cause, one_line, mapped (Given words) (Shows now result) (Shows now result) (files_plan a words) (λ p s. subst (Shows now result) (sym (given_plain words job asked p asks)) s) shows))
 
   -- over a file system that has these bytes as the database
   pub over_planned : (root made : List ℕ) (now : Outs) (result : Result ℕ Refusal) → TextShowsOver → length made ≤ max_file
@@ -148,7 +137,7 @@ module _ (w : Reads) (sight : Sight) (input_before input_now : Told) (before : O
         (
           cause,
           one_line,
-          mapped_shows (over (is_first root) made) (λ p. ShowsEnd (with_read root made w) p input_before input_now before now result) (Shows now result) (files_plan a words)
+          mapped (over (is_first root) made) (λ p. ShowsEnd (with_read root made w) p input_before input_now before now result) (Shows now result) (files_plan a words)
               (λ p s. law root made w p input_before input_now before now result within s) shows,
         ),
       )
@@ -219,7 +208,7 @@ module _ (w : Reads) (sight : Sight) (input_before input_now : Told) (before : O
             (
               cause,
               one_line,
-              remapped_shows (over (is_first (root_of job)) b.database) (Given words) (Shows middle first) (Shows now result) (files_plan a words)
+              remapped (over (is_first (root_of job)) b.database) (Given words) (Shows middle first) (Shows now result) (files_plan a words)
                   (λ p planned s. subst (Shows now result) (sym (fits fit p))
                   (said_after_shows p (λ e ends. words_may no_more w (root_of job) b.database words job asked a p planned etc usr b.besides of e ends) s))
                   shows,

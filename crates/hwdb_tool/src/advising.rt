@@ -10,7 +10,7 @@ ghost use Rattle.hwdb_spec_commands.specs.SysfsAnswers.{sight_by};
 ghost use Rattle.hwdb_spec_program.specs.Program.{IsUpdate, reads_input};
 ghost use Rattle.hwdb_spec_program.specs.ProgramPlan.{OfAround, ShowsPlan, program_plan, shown_plan};
 ghost use Rattle.hwdb_spec_program.specs.Words.{AskFor};
-ghost use Rattle.hwdb_tool.specs.Advising.{is_advised, task_advice};
+ghost use Rattle.hwdb_tool.specs.Advising.{IsWholeTask, is_advised, task_advice};
 ghost use Rattle.hwdb_tool.specs.Views.{end_of};
 
 use crate::answer::Answer;
@@ -36,12 +36,15 @@ const NOT_ASKED: &str =
     "hwdb: nothing is asked: 'hwdb device' lists the devices for which something is, --root DIR those below another root\n";
 
 /// Whether something is said of a task that prints nothing.
+#[tactic(auto, using(crate::proofs::ExplainWords::explain_whole, crate::proofs::NearWords::near_whole, crate::proofs::DeviceWords::device_whole,))]
 fn is_advised(task: &Task) -> bool
-    ensures { result ≡ is_advised task.now }
+    ensures is { result ≡ is_advised task.now }
+    ensures whole { result ≡ true → IsWholeTask task.now }
 {
     match task {
         Task::Explain(args) => !is_dash(args.device.as_str()),
-        Task::Near(_) | Task::Device(_) => true,
+        Task::Near(_) => true,
+        Task::Device(_) => true,
         _ => false,
     }
 }
@@ -103,14 +106,14 @@ fn run_either<D: Machine, I: Source, O: Sink, E: Sink>(
     run(alloc, job, system, input, out, err)
 }
 
-/// What a task prints that something is said of if it prints nothing.
+/// What a task prints that ends in one answer.
 fn kept_answer<D: Machine, I: Source>(
     alloc: Global,
     job: &Job,
     system: &mut D,
     input: &mut I,
 ) -> Result<Answer, Refusal>
-    requires { is_advised job.now.task ≡ true }
+    requires { IsWholeTask job.now.task }
     ensures follows { D.Store.tells → (words : List (List ℕ)) → AskFor words job.now
         → OfAround (sight_by D.answers system.old)
         (I.left input.old) (I.failures input.old) (I.failures input.new)
@@ -134,7 +137,8 @@ fn advised_answer<D: Machine, I: Source>(
     system: &mut D,
     input: &mut I,
 ) -> Result<Answer, Refusal>
-    requires { is_advised job.now.task ≡ true }
+    requires said { is_advised job.now.task ≡ true }
+    requires whole { IsWholeTask job.now.task }
     ensures follows { D.Store.tells → (words : List (List ℕ)) → AskFor words job.now
         → OfAround (sight_by D.answers system.old)
         (I.left input.old) (I.failures input.old) (I.failures input.new)
@@ -159,7 +163,8 @@ pub fn run_advised<D: Machine, I: Source, O: Sink, E: Sink>(
     out: &mut O,
     err: &mut E,
 ) -> Result<u8, Refusal>
-    requires { is_advised job.now.task ≡ true }
+    requires said { is_advised job.now.task ≡ true }
+    requires whole { IsWholeTask job.now.task }
     ensures status { IfOk result (λ status. status ≤ 1) }
     ensures follows { D.Store.tells → (words : List (List ℕ)) → AskFor words job.now
         → ShowsPlan (λ a. shown_plan true a words) (D.System.reads system.old)
@@ -180,7 +185,8 @@ pub fn run_advised<D: Machine, I: Source, O: Sink, E: Sink>(
 
 /// Whether something is said of a task that prints nothing: on a terminal, if the task has a line.
 pub fn wants_advice(at_terminal: bool, task: &Task) -> bool
-    ensures { result ≡ (at_terminal && is_advised task.now) }
+    ensures is { result ≡ (at_terminal && is_advised task.now) }
+    ensures whole { result ≡ true → IsWholeTask task.now }
 {
     at_terminal && is_advised(task)
 }

@@ -18,11 +18,10 @@ ghost use Rattle.hwdb_tool.specs.Views.{end_of};
 
 use crate::answer::Answer;
 use crate::databases::{asked, refused_database};
-use crate::missing::{place_meant, sysfs_of};
+use crate::missing::{for_rules, place_meant, sysfs_of};
 use hwdb_answers::ToolError;
 use hwdb_device::{DeviceForm, device_row, device_text};
 use hwdb_reader::check;
-use hwdb_rules::ATTRIBUTES;
 use hwdb_sysfs::{
     Device, DeviceFiles, device_of_path, kernel_name, list_links, read_device, unread_of_path,
 };
@@ -163,7 +162,7 @@ fn push_device<F: DeviceFiles>(
     ensures { F.tells → OnOk result (text.new.items ≡ text.old.items ++ texts.device_row
         (tree.device_at (sight_by F.answers files.now) asked_names sys.now place.now)) }
 {
-    let device = read_device(alloc, files, ATTRIBUTES.as_bytes(), sys, place)?;
+    let device = read_device(alloc, &for_rules(files, sys), place)?;
     let row = device_row(alloc, &device)?;
     text.extend_from_slice(&row)?;
     Ok(())
@@ -202,7 +201,7 @@ fn device_read<F: DeviceFiles>(
 {
     let sys = sysfs_of(alloc, root, files)?;
     let place = place_meant(alloc, root, &sys, given, files)?;
-    let device = read_device(alloc, files, ATTRIBUTES.as_bytes(), &sys, &place)?;
+    let device = read_device(alloc, &for_rules(files, &sys), &place)?;
     Ok(device)
 }
 

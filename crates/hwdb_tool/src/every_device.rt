@@ -14,12 +14,11 @@ ghost use Rattle.hwdb_tool.specs.Views.{end_of};
 use crate::answer::Answer;
 use crate::databases::{asked, refused_database};
 use crate::device_command::{device, devices_are_told};
-use crate::missing::sysfs_of;
+use crate::missing::{for_rules, sysfs_of};
 use crate::over_text::misused;
 use hwdb_answers::ToolError;
 use hwdb_device::{DeviceForm, all_strings_text, unread_lines};
 use hwdb_reader::check;
-use hwdb_rules::ATTRIBUTES;
 use hwdb_sysfs::DeviceFiles;
 use hwdb_system::{Machine, Refusal};
 use std::alloc::Global;
@@ -125,5 +124,5 @@ pub(crate) fn strings_over<F: DeviceFiles>(
     ensures refusals { IfErr result (IsDatabaseRefusal bytes.now) }
 {
     let db = check(bytes)?;
-    Ok(all_strings_text(alloc, &db, files, ATTRIBUTES.as_bytes(), sys)?)
+    Ok(all_strings_text(alloc, &db, &for_rules(files, sys))?)
 }

@@ -23,7 +23,7 @@ ghost use Rattle.hwdb_tool.specs.Verbs.{ShowsAsked};
 
 use crate::databases::database_folder;
 use crate::printing::say;
-use crate::update_command::update;
+use crate::update_command::{Update, update};
 use crate::verb::root_of;
 use hwdb_cli::{Job, UpdateArgs};
 use hwdb_io::{Sink, Source};
@@ -89,53 +89,48 @@ fn hiding_text<D: System>(
 /// Says it.
 fn tell_hiding<D: System, E: Sink>(
     alloc: Global,
-    root: &str,
-    usr: bool,
-    verbose: bool,
+    asked: Update<'_>,
     system: &D,
     err: &mut E,
 ) -> Result<(), Refusal>
     ensures says { D.Store.tells → SaysOnly (D.System.reads system.now)
-        (hiding_plan usr verbose root.now)
+        (hiding_plan asked.entry.usr asked.entry.verbose asked.entry.root.now)
         (told_by E.taken E.failures err.old) (told_by E.taken E.failures err.new) result }
     ensures unfailed { OnOk result (E.failures err.new ≡ E.failures err.old) }
     ensures hands_on { HandsOn (E.is_flushed err.old) (E.is_flushed err.new)
         (E.failures err.old) (E.failures err.new) }
 {
-    let text = hiding_text(alloc, root, usr, verbose, system)?;
+    let text = hiding_text(alloc, asked.root, asked.usr, asked.verbose, system)?;
     say(&text, err)
 }
 
 /// Says it, and then updates, as [`update`] does. After an error the old database is as it was, and there is no new file.
 pub fn update_telling<D: System, E: Sink>(
     alloc: Global,
-    root: &str,
-    usr: bool,
-    strict: bool,
-    verbose: bool,
-    skip: bool,
+    asked: Update<'_>,
     system: &mut D,
     err: &mut E,
 ) -> Result<u8, Refusal>
     ensures status { IfOk result (λ status. status ≤ 1) }
     ensures follows { let left = files_by D.Store.seen D.System.may_fail D.Store.may_leave
-        D.Store.failures in D.Store.tells → UpdatesTelling (D.System.reads system.old) root.now
-        usr strict verbose skip (left system.old) (left system.new)
+        D.Store.failures in let u = asked.entry in D.Store.tells
+        → UpdatesTelling (D.System.reads system.old) u.root.now
+        u.usr u.strict u.verbose u.skip (left system.old) (left system.new)
         (told_by E.taken E.failures err.old) (told_by E.taken E.failures err.new) result }
-    ensures any_crash { D.Store.tells → (words : List (List ℕ))
+    ensures any_crash { let u = asked.entry in D.Store.tells → (words : List (List ℕ))
         × spec.LeavesOnly D.Store.moment D.Store.left_since system.old system.new
         (OldOrPut (D.System.reads system.old)
-        (update_plan root.now usr strict verbose skip words)
+        (update_plan u.root.now u.usr u.strict u.verbose u.skip words)
         (D.Store.seen system.old) (D.Store.may_leave system.old)) }
-    ensures any_moment { D.Store.tells
+    ensures any_moment { let u = asked.entry in D.Store.tells
         → spec.LeavesOnly D.Store.moment D.Store.left_since system.old system.new
-        (OldOrUpdatedLess (D.System.may_fail system.old) root.now usr skip
+        (OldOrUpdatedLess (D.System.may_fail system.old) u.root.now u.usr u.skip
         (D.Store.seen system.old) (D.Store.may_leave system.old)) }
     ensures hands_on { HandsOn (E.is_flushed err.old) (E.is_flushed err.new)
         (E.failures err.old) (E.failures err.new) }
 {
-    tell_hiding(alloc, root, usr, verbose, system, err)?;
-    update(alloc, root, usr, strict, verbose, skip, system, err)
+    tell_hiding(alloc, asked, system, err)?;
+    update(alloc, asked, system, err)
 }
 
 /// `update`, as its words ask for it: says what hides the new database, and then updates. Its words have no plan that ends in what it
@@ -173,15 +168,12 @@ pub(crate) fn update_asked<D: Machine, I: Source, O: Sink, E: Sink>(
     ensures hands_on { HandsOn (E.is_flushed err.old) (E.is_flushed err.new)
         (E.failures err.old) (E.failures err.new) }
 {
-    let (root, skip) = (root_of(job), args.skip_unreadable);
-    update_telling(
-        alloc,
-        root,
-        job.usr,
-        job.strict,
-        args.verbose,
-        skip,
-        system,
-        err,
-    )
+    let asked = Update {
+        root: root_of(job),
+        usr: job.usr,
+        strict: job.strict,
+        verbose: args.verbose,
+        skip: args.skip_unreadable,
+    };
+    update_telling(alloc, asked, system, err)
 }

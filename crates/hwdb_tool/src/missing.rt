@@ -6,6 +6,7 @@ ghost use Rattle.hwdb_spec_commands.specs.DeviceFound as found;
 ghost use Rattle.hwdb_spec_commands.specs.DeviceFound.{only, places_meant};
 ghost use Rattle.hwdb_spec_commands.specs.DeviceTree as tree;
 ghost use Rattle.hwdb_spec.specs.Failures.{IsOneLine};
+ghost use Rattle.hwdb_spec.specs.Lines.{is, pieces};
 ghost use Rattle.hwdb_spec_commands.specs.SysfsAnswers.{Answers, seen, sight_by};
 ghost use Rattle.hwdb_sysfs.specs.Finding as finding;
 ghost use Rattle.hwdb_spec_commands.specs.Refusals.{IsInWords};
@@ -17,9 +18,22 @@ use hwdb_device::{fitting, near_given, several_text};
 use hwdb_io::Cause;
 use hwdb_rules::ATTRIBUTES;
 use hwdb_show::push_name;
-use hwdb_sysfs::{DeviceFiles, Unfound, find_device, sysfs_below};
+use hwdb_sysfs::{DeviceFiles, Sysfs, Unfound, find_device, sysfs_below};
 use hwdb_system::Refusal;
 use std::alloc::{AllocError, Global};
+
+/// Sysfs in a folder, of which is read what rules ask for.
+pub(crate) fn for_rules<'s, F: DeviceFiles>(files: &'s F, folder: &'s [u8]) -> Sysfs<'s, F>
+    ensures files { result.files.now ≡ files.now }
+    ensures names { pieces (is 10) result.names.now ≡ asked_names }
+    ensures folder { result.folder.now ≡ folder.now }
+{
+    Sysfs {
+        files,
+        names: ATTRIBUTES.as_bytes(),
+        folder,
+    }
+}
 
 /// Where sysfs is below the root.
 pub fn sysfs_of<F: DeviceFiles>(alloc: Global, root: &str, files: &F) -> Result<Vec<u8>, Refusal>
@@ -167,9 +181,7 @@ fn places_else<F: DeviceFiles>(
     match why {
         Unfound::Memory => Err(AllocError),
         Unfound::Untold(..) | Unfound::NoSysfs(..) => Ok(Vec::new(alloc)),
-        Unfound::Unread(_) | Unfound::NoDevice => {
-            fitting(alloc, files, ATTRIBUTES.as_bytes(), sys, given)
-        }
+        Unfound::Unread(_) | Unfound::NoDevice => { fitting(alloc, &for_rules(files, sys), given) }
     }
 }
 
@@ -185,7 +197,7 @@ fn several<F: DeviceFiles>(
         asked_names sys.now given.now (map (λ p. p.items) places.now)) result }
     ensures worded { IsWorded result }
 {
-    match several_text(alloc, files, ATTRIBUTES.as_bytes(), sys, given, places) {
+    match several_text(alloc, &for_rules(files, sys), given, places) {
         Ok(text) => Refusal::InWords(text),
         Err(refused) => Refusal::from(refused),
     }
@@ -290,7 +302,7 @@ fn near_text<F: DeviceFiles>(
         ≡ spec.no_device_text nowhere given.now words.now
         (found.near_given (sight_by F.answers files.now) asked_names sys.now given.now)) }
 {
-    let near = near_given(alloc, files, ATTRIBUTES.as_bytes(), sys, given)?;
+    let near = near_given(alloc, &for_rules(files, sys), given)?;
     no_device_text(alloc, given, nowhere, words, &near)
 }
 

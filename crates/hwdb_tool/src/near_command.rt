@@ -29,30 +29,39 @@ use std::alloc::{AllocError, Global};
 /// How many of the nearest patterns are told, unless a number is given.
 const TOLD: usize = 3;
 
-/// The patterns of the given text files that match the device, and the nearest that don't: at most so many, or three. The
-/// file `-` is what `input` has left. If no file is given, those of the database below the root. The status is 0.
+/// What is asked: the patterns nearest to a device, how many of them, and in which form.
+#[derive(Clone, Copy)]
+pub struct Wanted<'a> {
+    /// What is in front of the paths of databases.
+    pub root: &'a str,
+    /// The device.
+    pub device: &'a [u8],
+    /// How many are told at most.
+    pub limit: usize,
+    /// Whether as JSON.
+    pub json: bool,
+}
+
+/// The patterns of the given text files that match the device, and the nearest that don't. The file `-` is what `input` has left.
+/// If no file is given, those of the database below the root. The status is 0.
 pub fn near<D: System, I: Source>(
     alloc: Global,
-    root: &str,
     given: &[String],
-    device: &[u8],
-    limit: Option<u64>,
-    json: bool,
+    wanted: Wanted<'_>,
     system: &D,
     input: &mut I,
 ) -> Result<Answer, Refusal>
     ensures status { IfOk result (λ a. a.status ≡ 0) }
     ensures follows { D.Store.tells → OfInput (I.left input.old) (I.failures input.old)
         (I.failures input.new) (λ told. Follows end_of (D.System.reads system.now)
-        (near_plan told (map string_bytes given.now) root.now
-        (near_form json device.now (near_limit limit))) result) }
+        (near_plan told (map string_bytes given.now) wanted.entry.root.now
+        (near_form wanted.entry.json wanted.entry.device.now wanted.entry.limit)) result) }
     ensures unread { any_dash (map string_bytes given.now) ≡ false → input.new ≡ input.old }
 {
-    let count = count_of(limit);
     if given.is_empty() {
-        near_asked(alloc, root, device, count, json, system)
+        near_asked(alloc, wanted, system)
     } else {
-        near_given(alloc, given, device, count, json, system, input)
+        near_given(alloc, given, wanted, system, input)
     }
 }
 
@@ -67,20 +76,20 @@ fn count_of(limit: Option<u64>) -> usize
 }
 
 /// The same of the patterns of the database.
-fn near_asked<D: System>(
-    alloc: Global,
-    root: &str,
-    device: &[u8],
-    limit: usize,
-    json: bool,
-    system: &D,
-) -> Result<Answer, Refusal>
+fn near_asked<D: System>(alloc: Global, wanted: Wanted<'_>, system: &D) -> Result<Answer, Refusal>
     ensures status { IfOk result (λ a. a.status ≡ 0) }
     ensures follows { D.Store.tells → Follows end_of (D.System.reads system.now)
-        (asked root.now (near_database (near_form json device.now limit))) result }
+        (asked wanted.entry.root.now (near_database
+        (near_form wanted.entry.json wanted.entry.device.now wanted.entry.limit))) result }
 {
-    let found = asked(alloc, root, system)?;
-    match near_in_database(alloc, &found.bytes, device, limit, json) {
+    let found = asked(alloc, wanted.root, system)?;
+    match near_in_database(
+        alloc,
+        &found.bytes,
+        wanted.device,
+        wanted.limit,
+        wanted.json,
+    ) {
         Ok(text) => Ok(Answer::new(alloc, text, 0)),
         Err(error) => {
             let error = error_of(error);
@@ -103,9 +112,7 @@ fn error_of(error: NearError) -> ToolError
 fn near_given<D: System, I: Source>(
     alloc: Global,
     given: &[String],
-    device: &[u8],
-    limit: usize,
-    json: bool,
+    wanted: Wanted<'_>,
     system: &D,
     input: &mut I,
 ) -> Result<Answer, Refusal>
@@ -113,14 +120,14 @@ fn near_given<D: System, I: Source>(
     ensures follows { D.Store.tells → OfInput (I.left input.old) (I.failures input.old)
         (I.failures input.new) (λ told. Follows end_of (D.System.reads system.now)
         (given_files (map string_bytes given.now) told (map string_bytes given.now)
-        (λ sources. Done (Answers 0 []
-        (near_form json device.now limit (patterns_from 1 sources))))) result) }
+        (λ sources. Done (Answers 0 [] (near_form wanted.entry.json wanted.entry.device.now
+        wanted.entry.limit (patterns_from 1 sources))))) result) }
     ensures unread { any_dash (map string_bytes given.now) ≡ false → input.new ≡ input.old }
 {
     let texts = given_texts(alloc, given, given, system, input)?;
     let files = with_paths(alloc, given, &texts)?;
     let compared = compared(alloc, &files)?;
-    let told = near_in_files(alloc, &compared, device, limit, json)?;
+    let told = near_in_files(alloc, &compared, wanted.device, wanted.limit, wanted.json)?;
     Ok(Answer::new(alloc, told, 0))
 }
 
@@ -152,17 +159,12 @@ impl<D: Machine, I: Source> Verb<D, I> for NearArgs {
         system: &D,
         input: &mut I,
     ) -> Result<Answer, Refusal> {
-        let device = self.device.as_bytes();
-        let (root, limit) = (root_of(job), self.limit);
-        near(
-            alloc,
-            root,
-            &self.files,
-            device,
-            limit,
-            self.json,
-            system,
-            input,
-        )
+        let wanted = Wanted {
+            root: root_of(job),
+            device: self.device.as_bytes(),
+            limit: count_of(self.limit),
+            json: self.json,
+        };
+        near(alloc, &self.files, wanted, system, input)
     }
 }

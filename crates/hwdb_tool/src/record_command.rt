@@ -34,29 +34,39 @@ use std::alloc::{AllocError, Global};
 /// What is said of `--json`.
 const NO_JSON: &[u8] = b"--record prints a test file, which is never JSON: leave out --json";
 
+/// What is recorded: the devices of some words, of the database at a path, or without a path of the one that is asked below a root.
+#[derive(Clone, Copy)]
+pub struct Devices<'a> {
+    /// What is in front of the paths of databases.
+    pub root: &'a str,
+    /// The path.
+    pub database: Option<&'a str>,
+    /// The words. A lone `-` stands for the devices of standard input, a line each.
+    pub words: &'a [String],
+}
+
 /// A test file of what the database at the path, or without a path the one that is asked, gives the devices of these words. A lone `-`
 /// stands for the devices of standard input, a line each.
 ///
 /// Errors are, in this order: `json`, standard input or the database can't be read, and no test file can say what is in it.
 pub fn record<D: System, I: Source>(
     alloc: Global,
-    root: &str,
-    words: &[String],
-    database: Option<&str>,
+    devices: Devices<'_>,
     json: bool,
     system: &D,
     input: &mut I,
 ) -> Result<Answer, Refusal>
     ensures follows { D.Store.tells → OfInput (I.left input.old) (I.failures input.old)
         (I.failures input.new) (λ told. Follows end_of (D.System.reads system.now)
-        (record_plan told json (map string_bytes words.now) (option_map (λ t. t.now) database.entry)
-        root.now) result) }
-    ensures unread { is_input (map string_bytes words.now) ≡ false → input.new ≡ input.old }
+        (record_plan told json (map string_bytes devices.entry.words.now)
+        (option_map (λ t. t.now) devices.entry.database) devices.entry.root.now) result) }
+    ensures unread { is_input (map string_bytes devices.entry.words.now) ≡ false
+        → input.new ≡ input.old }
 {
     if json {
         return Err(refused_json(alloc));
     }
-    record_devices(alloc, root, words, database, system, input)
+    record_devices(alloc, devices, system, input)
 }
 
 /// The error of `--json`.
@@ -79,22 +89,21 @@ fn read_words(words: &[String]) -> &[String]
 /// The same without `--json`.
 fn record_devices<D: System, I: Source>(
     alloc: Global,
-    root: &str,
-    words: &[String],
-    database: Option<&str>,
+    devices: Devices<'_>,
     system: &D,
     input: &mut I,
 ) -> Result<Answer, Refusal>
     ensures follows { D.Store.tells → OfInput (I.left input.old) (I.failures input.old)
         (I.failures input.new) (λ told. Follows end_of (D.System.reads system.now)
-        (devices_plan told (map string_bytes words.now) (option_map (λ t. t.now) database.entry)
-        root.now) result) }
-    ensures unread { is_input (map string_bytes words.now) ≡ false → input.new ≡ input.old }
+        (devices_plan told (map string_bytes devices.entry.words.now)
+        (option_map (λ t. t.now) devices.entry.database) devices.entry.root.now) result) }
+    ensures unread { is_input (map string_bytes devices.entry.words.now) ≡ false
+        → input.new ≡ input.old }
 {
-    let given = read_words(words);
+    let given = read_words(devices.words);
     let texts = given_texts(alloc, given, given, system, input)?;
     let files = with_paths(alloc, given, &texts)?;
-    record_meant(alloc, root, words, database, &files, system)
+    record_meant(alloc, devices, &files, system)
 }
 
 /// Adds some words. The only error, here and below, is `AllocError`.
@@ -137,19 +146,18 @@ fn devices_meant<'a>(
 /// The same of files that were read.
 fn record_meant<D: System>(
     alloc: Global,
-    root: &str,
-    words: &[String],
-    database: Option<&str>,
+    devices: Devices<'_>,
     files: &[TextFile<'_>],
     system: &D,
 ) -> Result<Answer, Refusal>
     ensures follows { D.Store.tells → Follows end_of (D.System.reads system.now)
-        (named (option_map (λ t. t.now) database.entry) root.now (recorded (devices_meant
-        (map string_bytes words.now) (map source_of files.now)))) result }
+        (named (option_map (λ t. t.now) devices.entry.database) devices.entry.root.now
+        (recorded (devices_meant (map string_bytes devices.entry.words.now)
+        (map source_of files.now)))) result }
 {
-    let found = named(alloc, root, database, system)?;
-    let devices = devices_meant(alloc, words, files)?;
-    record_over(alloc, found.path.as_bytes(), &found.bytes, &devices)
+    let found = named(alloc, devices.root, devices.database, system)?;
+    let meant = devices_meant(alloc, devices.words, files)?;
+    record_over(alloc, found.path.as_bytes(), &found.bytes, &meant)
 }
 
 /// The error if there is no test file.
@@ -200,8 +208,11 @@ impl<D: Machine, I: Source> Verb<D, I> for RecordArgs {
         system: &D,
         input: &mut I,
     ) -> Result<Answer, Refusal> {
-        let database = text_of(&self.database);
-        let (root, words) = (root_of(job), &self.devices);
-        record(alloc, root, words, database, self.json, system, input)
+        let devices = Devices {
+            root: root_of(job),
+            database: text_of(&self.database),
+            words: &self.devices,
+        };
+        record(alloc, devices, self.json, system, input)
     }
 }

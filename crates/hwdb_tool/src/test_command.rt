@@ -27,47 +27,54 @@ use hwdb_system::{Machine, Refusal, System};
 use hwdb_test::test_files;
 use std::alloc::Global;
 
+/// What is tested: the database at a path, or without a path the one that is asked below a root; and in which form it is told.
+#[derive(Clone, Copy)]
+pub struct Wanted<'a> {
+    /// What is in front of the paths of databases.
+    pub root: &'a str,
+    /// The path.
+    pub database: Option<&'a str>,
+    /// Whether as JSON.
+    pub json: bool,
+}
+
 /// What the given test files say of the database at the path, or without a path of the one that is asked. `-` is what `input` has
 /// left. The status is 1 if a wanted line doesn't hold, else 0.
 ///
 /// All files are read first, in their order, and then the database: the error is the first that comes so.
 pub fn test<D: System, I: Source>(
     alloc: Global,
-    root: &str,
     given: &[String],
-    database: Option<&str>,
-    json: bool,
+    wanted: Wanted<'_>,
     system: &D,
     input: &mut I,
 ) -> Result<Answer, Refusal>
     ensures follows { D.Store.tells → OfInput (I.left input.old) (I.failures input.old)
         (I.failures input.new) (λ told. Follows end_of (D.System.reads system.now)
-        (test_plan told (map string_bytes given.now) (option_map (λ t. t.now) database.entry)
-        root.now json) result) }
+        (test_plan told (map string_bytes given.now) (option_map (λ t. t.now) wanted.entry.database)
+        wanted.entry.root.now wanted.entry.json) result) }
     ensures unread { any_dash (map string_bytes given.now) ≡ false → input.new ≡ input.old }
 {
     let texts = given_texts(alloc, given, given, system, input)?;
     let files = with_paths(alloc, given, &texts)?;
-    tried(alloc, root, database, json, &files, system)
+    tried(alloc, wanted, &files, system)
 }
 
 /// The same of files that were read.
 fn tried<D: System>(
     alloc: Global,
-    root: &str,
-    database: Option<&str>,
-    json: bool,
+    wanted: Wanted<'_>,
     files: &[TextFile<'_>],
     system: &D,
 ) -> Result<Answer, Refusal>
     ensures follows { D.Store.tells
         → All (λ (s : Source). length s.bytes ≤ max_file) (map source_of files.now)
         → Follows end_of (D.System.reads system.now)
-        (named (option_map (λ t. t.now) database.entry) root.now
-        (tested json (map source_of files.now))) result }
+        (named (option_map (λ t. t.now) wanted.entry.database) wanted.entry.root.now
+        (tested wanted.entry.json (map source_of files.now))) result }
 {
-    let found = named(alloc, root, database, system)?;
-    match tried_over(alloc, json, files, &found.bytes) {
+    let found = named(alloc, wanted.root, wanted.database, system)?;
+    match tried_over(alloc, wanted.json, files, &found.bytes) {
         Ok(answer) => Ok(answer),
         Err(error) => Err(refused_database(alloc, error, found.path.as_bytes())),
     }
@@ -104,8 +111,11 @@ impl<D: Machine, I: Source> Verb<D, I> for TestArgs {
         system: &D,
         input: &mut I,
     ) -> Result<Answer, Refusal> {
-        let database = text_of(&self.database);
-        let (root, files) = (root_of(job), &self.files);
-        test(alloc, root, files, database, self.json, system, input)
+        let wanted = Wanted {
+            root: root_of(job),
+            database: text_of(&self.database),
+            json: self.json,
+        };
+        test(alloc, &self.files, wanted, system, input)
     }
 }

@@ -34,39 +34,67 @@ use hwdb_system::{Refusal, Selection, System, path_in, selected_readable, with_t
 use hwdb_text::ChosenFile;
 use std::alloc::Global;
 
+/// What an update asks for.
+#[derive(Clone, Copy)]
+pub struct Update<'a> {
+    /// What is in front of the paths of folders and databases.
+    pub root: &'a str,
+    /// Whether /usr/lib's database is made, and not /etc's.
+    pub usr: bool,
+    /// Whether a fault line gives status 1.
+    pub strict: bool,
+    /// Whether it is said which files are read, and what they assign.
+    pub verbose: bool,
+    /// Whether files that can't be read are left out.
+    pub skip: bool,
+}
+
+/// How files are put in place.
+#[derive(Clone, Copy)]
+struct Put<'a> {
+    /// What is said first, of what is lost.
+    loss: &'a [u8],
+    /// The names of /usr/lib's files, if it is said which files are taken.
+    listed: Option<&'a [String]>,
+    /// Whether a fault line gives status 1.
+    strict: bool,
+    /// The folder of the database.
+    folder: &'a str,
+}
+
 /// Compiles chosen files, says of them what is to be said, and puts their database in its place in a folder of the
 /// store. Their fault lines are said. If the names of /usr/lib's files are given, it is said before which files they are and how
 /// much they assign. Before all that comes what is lost. Returns the status: 1 if `strict` and there is a fault line, else 0.
 fn update_files<S: System, E: Sink>(
     alloc: Global,
     files: &[ChosenFile<'_>],
-    loss: &[u8],
-    listed: Option<&[String]>,
-    strict: bool,
-    folder: &str,
+    put: Put<'_>,
     store: &mut S,
     err: &mut E,
 ) -> Result<u8, ToolError>
     requires { All IsStorableChoice (map choice_in files.now) }
     ensures follows { let left = files_by S.Store.seen S.System.may_fail S.Store.may_leave
-        S.Store.failures in S.Store.tells → PutsFiles result loss.now
-        (option_map (λ l. map string_bytes l.now) listed.entry) strict folder.now files.now
+        S.Store.failures in S.Store.tells → PutsFiles result put.entry.loss.now
+        (option_map (λ l. map string_bytes l.now) put.entry.listed) put.entry.strict
+        put.entry.folder.now files.now
         (left store.old) (left store.new)
         (told_by E.taken E.failures err.old) (told_by E.taken E.failures err.new) }
     ensures status { IfOk result (λ status. status ≤ 1) }
     ensures any_moment { S.Store.tells → ForFolders files.now (λ etc usr.
         spec.LeavesOnly S.Store.moment S.Store.left_since store.old store.new
-        (OldOrWritten etc usr folder.now (S.Store.seen store.old) (S.Store.may_leave store.old))) }
-    ensures any_crash { let names = option_map (λ l. map string_bytes l.now) listed.entry in
+        (OldOrWritten etc usr put.entry.folder.now
+        (S.Store.seen store.old) (S.Store.may_leave store.old))) }
+    ensures any_crash { let names = option_map (λ l. map string_bytes l.now) put.entry.listed in
         S.Store.tells → (w : Reads) (less : ℕ → ℕ) → ForFolders files.now (λ etc usr.
         spec.LeavesOnly S.Store.moment S.Store.left_since store.old store.new (OldOrPut w
-        (put_plan loss.now etc usr names (λ faults. less (status_of strict faults)) folder.now)
+        (put_plan put.entry.loss.now etc usr names
+        (λ faults. less (status_of put.entry.strict faults)) put.entry.folder.now)
         (S.Store.seen store.old) (S.Store.may_leave store.old))) }
 
     ensures refusals { IfErr result
         (λ e. ForFolders files.now (λ etc usr. IsUpdateRefusal etc usr max_file e)) }
     ensures unwritten { S.Store.tells → IfErr result (OnUnreplaced
-        (λ _. IsUnwritable folder.now (S.Store.seen store.old)
+        (λ _. IsUnwritable put.entry.folder.now (S.Store.seen store.old)
         (S.Store.failures store.old) (S.Store.failures store.new))) }
     ensures untouched { IfErr result
         (λ e. e ≢ ToolError.Write → ((u : Unreplaced) → e ≢ ToolError.Replace u)
@@ -75,10 +103,10 @@ fn update_files<S: System, E: Sink>(
         (E.failures err.old) (E.failures err.new) }
 {
     let compiled = compile_chosen(alloc, files, MAX_BYTES)?;
-    let told = progress(alloc, files, listed, &compiled)?;
-    let mut said = Vec::from_slice(alloc, loss)?;
+    let told = progress(alloc, files, put.listed, &compiled)?;
+    let mut said = Vec::from_slice(alloc, put.loss)?;
     said.extend_from_slice(&told)?;
-    put_in_place(alloc, &compiled, &said, strict, folder, store, err)
+    put_in_place(alloc, &compiled, &said, put.strict, put.folder, store, err)
 }
 
 /// The names of /usr/lib's files, if `verbose`.
@@ -95,11 +123,8 @@ fn listing(verbose: bool, listed: &[String]) -> Option<&[String]>
 /// and there is a fault, else 0. After an error the old database is as it was, and there is no new file.
 fn update_selected<D: System, E: Sink>(
     alloc: Global,
-    root: &str,
     selection: &Selection,
-    usr: bool,
-    strict: bool,
-    verbose: bool,
+    asked: Update<'_>,
     system: &mut D,
     err: &mut E,
 ) -> Result<u8, Refusal>
@@ -107,37 +132,42 @@ fn update_selected<D: System, E: Sink>(
     requires storable { All IsStorableChoice (map choice_of selection.now.chosen.items) }
     ensures status { IfOk result (λ status. status ≤ 1) }
     ensures follows { let left = files_by D.Store.seen D.System.may_fail D.Store.may_leave
-        D.Store.failures in D.Store.tells → (of_etc of_usr : List Source) (less : ℕ → ℕ)
-        → IsSelectionOf of_etc of_usr selection.now → PutsEnd (D.System.reads system.old)
-        (put_files root.now usr verbose (λ faults. less (status_of strict faults)) of_etc of_usr)
-        (left system.old) (left system.new) (told_by E.taken E.failures err.old)
-        (told_by E.taken E.failures err.new) (status_by less result) }
-    ensures any_moment { (files : spec.Contents) → IsOfSelection root.now files selection.now
+        D.Store.failures in let u = asked.entry in D.Store.tells → (of_etc of_usr : List Source)
+        (less : ℕ → ℕ) → IsSelectionOf of_etc of_usr selection.now → PutsEnd (D.System.reads
+        system.old) (put_files u.root.now u.usr u.verbose (λ faults. less (status_of u.strict
+        faults)) of_etc of_usr) (left system.old) (left system.new) (told_by E.taken E.failures
+        err.old) (told_by E.taken E.failures err.new) (status_by less result) }
+    ensures any_moment { let u = asked.entry in
+        (files : spec.Contents) → IsOfSelection u.root.now files selection.now
         → D.Store.tells → spec.LeavesOnly D.Store.moment D.Store.left_since system.old system.new
-        (OldOrUpdated root.now usr files (D.Store.seen system.old) (D.Store.may_leave system.old)) }
-    ensures any_crash { D.Store.tells → (of_etc of_usr : List Source) (less : ℕ → ℕ)
-        → IsSelectionOf of_etc of_usr selection.now
+        (OldOrUpdated u.root.now u.usr files
+        (D.Store.seen system.old) (D.Store.may_leave system.old)) }
+    ensures any_crash { let u = asked.entry in D.Store.tells → (of_etc of_usr : List Source)
+        (less : ℕ → ℕ) → IsSelectionOf of_etc of_usr selection.now
         → spec.LeavesOnly D.Store.moment D.Store.left_since system.old system.new
-        (OldOrPut (D.System.reads system.old)
-        (put_files root.now usr verbose (λ faults. less (status_of strict faults)) of_etc of_usr)
+        (OldOrPut (D.System.reads system.old) (put_files u.root.now u.usr u.verbose
+        (λ faults. less (status_of u.strict faults)) of_etc of_usr)
         (D.Store.seen system.old) (D.Store.may_leave system.old)) }
     ensures hands_on { HandsOn (E.is_flushed err.old) (E.is_flushed err.new)
         (E.failures err.old) (E.failures err.new) }
 {
     let files = with_texts(alloc, &selection.chosen, &selection.texts)?;
-    let folder = database_folder(alloc, root, usr)?;
+    let folder = database_folder(alloc, asked.root, asked.usr)?;
     let path = path_in(alloc, folder.as_str(), DATABASE)?.into_bytes();
-    let loss = loss_if(alloc, root, usr, files.as_slice().is_empty(), system)?;
-    match update_files(
+    let loss = loss_if(
         alloc,
-        &files,
-        &loss,
-        listing(verbose, &selection.listed),
-        strict,
-        folder.as_str(),
+        asked.root,
+        asked.usr,
+        files.as_slice().is_empty(),
         system,
-        err,
-    ) {
+    )?;
+    let put = Put {
+        loss: &loss,
+        listed: listing(asked.verbose, &selection.listed),
+        strict: asked.strict,
+        folder: folder.as_str(),
+    };
+    match update_files(alloc, &files, put, system, err) {
         Ok(status) => Ok(status),
         Err(error) => Err(Refusal::of_update(error, path, system.cause())),
     }
@@ -159,35 +189,32 @@ fn status_less(strict: bool, said: &[u8], status: u8) -> u8
 /// that can't be read is left out: its line goes to `err` first, and if `strict` the status is 1.
 pub fn update<D: System, E: Sink>(
     alloc: Global,
-    root: &str,
-    usr: bool,
-    strict: bool,
-    verbose: bool,
-    skip: bool,
+    asked: Update<'_>,
     system: &mut D,
     err: &mut E,
 ) -> Result<u8, Refusal>
     ensures status { IfOk result (λ status. status ≤ 1) }
     ensures follows { let left = files_by D.Store.seen D.System.may_fail D.Store.may_leave
-        D.Store.failures in D.Store.tells → (words : List (List ℕ)) × SaysThenPuts
-        (D.System.reads system.old) (left_out_plan root.now skip words)
-        (update_plan root.now usr strict verbose skip words) (left system.old) (left system.new)
+        D.Store.failures in let u = asked.entry in D.Store.tells → (words : List (List ℕ))
+        × SaysThenPuts (D.System.reads system.old) (left_out_plan u.root.now u.skip words)
+        (update_plan u.root.now u.usr u.strict u.verbose u.skip words)
+        (left system.old) (left system.new)
         (told_by E.taken E.failures err.old) (told_by E.taken E.failures err.new) result }
-    ensures any_moment { D.Store.tells
+    ensures any_moment { let u = asked.entry in D.Store.tells
         → spec.LeavesOnly D.Store.moment D.Store.left_since system.old system.new
-        (OldOrUpdatedLess (D.System.may_fail system.old) root.now usr skip
+        (OldOrUpdatedLess (D.System.may_fail system.old) u.root.now u.usr u.skip
         (D.Store.seen system.old) (D.Store.may_leave system.old)) }
-    ensures any_crash { D.Store.tells → (words : List (List ℕ))
+    ensures any_crash { let u = asked.entry in D.Store.tells → (words : List (List ℕ))
         × spec.LeavesOnly D.Store.moment D.Store.left_since system.old system.new
         (OldOrPut (D.System.reads system.old)
-        (update_plan root.now usr strict verbose skip words)
+        (update_plan u.root.now u.usr u.strict u.verbose u.skip words)
         (D.Store.seen system.old) (D.Store.may_leave system.old)) }
     ensures hands_on { HandsOn (E.is_flushed err.old) (E.is_flushed err.new)
         (E.failures err.old) (E.failures err.new) }
 {
-    let readable = selected_readable(alloc, root, skip, system)?;
+    let readable = selected_readable(alloc, asked.root, asked.skip, system)?;
     say(&readable.said, err)?;
     let selection = &readable.selection;
-    let status = update_selected(alloc, root, selection, usr, strict, verbose, system, err)?;
-    Ok(status_less(strict, &readable.said, status))
+    let status = update_selected(alloc, selection, asked, system, err)?;
+    Ok(status_less(asked.strict, &readable.said, status))
 }

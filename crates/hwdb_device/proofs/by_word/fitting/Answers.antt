@@ -9,7 +9,7 @@ use Rattle.hwdb_sysfs.specs.Lemmas.Names.{items}
 
 pub links-preserved : goal.links-preserved
 links-preserved g c = λ tells.
-    let find = fitting_at (seen (g.F.DeviceFiles.answers c.args.files.now)) (pieces (is 10) c.args.names.now) c.args.sys.now c.args.given.now in
+    let find = fitting_at (seen (g.F.DeviceFiles.answers c.args.sysfs.now.files.now)) (pieces (is 10) c.args.sysfs.now.names.now) c.args.sysfs.now.folder.now c.args.given.now in
     let left : c.links.left.now ≡ c.in-Some.link.now ∷ c.in-Some.rest.now = search rules in
     place_more find c.links.left.now c.in-Some.rest.now c.in-Some.link.now (map items c.links.places.items) (map items c.push_fitting.new.places.items) _ left
     (c.in_ok-push_fitting.ensures tells ∙ ap (λ (l : List ℕ). map items c.links.places.items ++ cons_option (find l) []) c.deref.ensures.value) (c.links.invariant tells)

@@ -7,8 +7,8 @@ use Rattle.hwdb_device.proofs.by_word.fitting.Given as goal
 
 abbrev pub invariant-links : goal.invariant-links
 invariant-links g l = g.F.DeviceFiles.tells → map (λ p. p.items) l.places.items
-    ++ filter_map (fitting_at (seen (g.F.DeviceFiles.answers l.files)) (pieces (is 10) l.names) l.sys l.given) (map (λ p. p.items) l.left)
-    ≡ filter_map (fitting_at (seen (g.F.DeviceFiles.answers l.files)) (pieces (is 10) l.names) l.sys l.given) (all_links (seen (g.F.DeviceFiles.answers l.files)) l.sys)
+    ++ filter_map (fitting_at (seen (g.F.DeviceFiles.answers l.sysfs.files.now)) (pieces (is 10) l.sysfs.names.now) l.sysfs.folder.now l.given) (map (λ p. p.items) l.left)
+    ≡ filter_map (fitting_at (seen (g.F.DeviceFiles.answers l.sysfs.files.now)) (pieces (is 10) l.sysfs.names.now) l.sysfs.folder.now l.given) (all_links (seen (g.F.DeviceFiles.answers l.sysfs.files.now)) l.sysfs.folder.now)
 
 abbrev pub decreases-links : goal.decreases-links
 decreases-links g l = length l.left

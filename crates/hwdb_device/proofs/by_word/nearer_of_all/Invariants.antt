@@ -6,8 +6,8 @@ use Rattle.hwdb_spec_commands.specs.SysfsAnswers.{seen}
 use Rattle.hwdb_device.proofs.by_word.nearer_of_all.Given as goal
 
 abbrev pub invariant-links : goal.invariant-links
-invariant-links g l = g.F.DeviceFiles.tells → nearest_of l.given l.nearest.items (flat_map (parts_at (seen (g.F.DeviceFiles.answers l.files)) (pieces (is 10) l.names) l.sys) (map (λ p. p.items) l.left))
-    ≡ nearest_of l.given l.fn.before.items (flat_map (parts_at (seen (g.F.DeviceFiles.answers l.files)) (pieces (is 10) l.names) l.sys) (all_links (seen (g.F.DeviceFiles.answers l.files)) l.sys))
+invariant-links g l = g.F.DeviceFiles.tells → nearest_of l.given l.nearest.items (flat_map (parts_at (seen (g.F.DeviceFiles.answers l.sysfs.files.now)) (pieces (is 10) l.sysfs.names.now) l.sysfs.folder.now) (map (λ p. p.items) l.left))
+    ≡ nearest_of l.given l.fn.before.items (flat_map (parts_at (seen (g.F.DeviceFiles.answers l.sysfs.files.now)) (pieces (is 10) l.sysfs.names.now) l.sysfs.folder.now) (all_links (seen (g.F.DeviceFiles.answers l.sysfs.files.now)) l.sysfs.folder.now))
 
 abbrev pub decreases-links : goal.decreases-links
 decreases-links g l = length l.left

@@ -8,7 +8,7 @@ use Rattle.hwdb_sysfs.specs.Lemmas.Names.{items}
 
 pub links-preserved : goal.links-preserved
 links-preserved g c = λ tells.
-    let find = strings_at (seen (g.F.DeviceFiles.answers c.args.files.now)) (pieces (is 10) c.args.names.now) c.args.sys.now c.args.db.now in
+    let find = strings_at (seen (g.F.DeviceFiles.answers c.args.sysfs.now.files.now)) (pieces (is 10) c.args.sysfs.now.names.now) c.args.sysfs.now.folder.now c.args.db.now in
     let left : c.links.left.now ≡ c.in-Some.link.now ∷ c.in-Some.rest.now = search rules in
     kept_more find (map items c.links.kept.items) (map items c.keep_at.new.kept.items) _ c.links.left.now c.in-Some.rest.now c.in-Some.link.now left
     (c.in_ok-keep_at.ensures tells ∙ ap (λ (l : List ℕ). with_texts (map items c.links.kept.items) (find l)) c.deref.ensures.value) (c.links.invariant tells)

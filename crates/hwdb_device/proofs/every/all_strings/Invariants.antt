@@ -5,8 +5,8 @@ use Rattle.hwdb_spec_commands.specs.SysfsAnswers.{seen}
 use Rattle.hwdb_device.proofs.every.all_strings.Given as goal
 
 abbrev pub invariant-links : goal.invariant-links
-invariant-links g l = g.F.DeviceFiles.tells → with_texts (map (λ k. k.items) l.kept.items) (flat_map (strings_at (seen (g.F.DeviceFiles.answers l.files)) (pieces (is 10) l.names) l.sys l.db) (map (λ p. p.items) l.left))
-    ≡ all_strings (seen (g.F.DeviceFiles.answers l.files)) (pieces (is 10) l.names) l.sys l.db
+invariant-links g l = g.F.DeviceFiles.tells → with_texts (map (λ k. k.items) l.kept.items) (flat_map (strings_at (seen (g.F.DeviceFiles.answers l.sysfs.files.now)) (pieces (is 10) l.sysfs.names.now) l.sysfs.folder.now l.db) (map (λ p. p.items) l.left))
+    ≡ all_strings (seen (g.F.DeviceFiles.answers l.sysfs.files.now)) (pieces (is 10) l.sysfs.names.now) l.sysfs.folder.now l.db
 
 abbrev pub decreases-links : goal.decreases-links
 decreases-links g l = length l.left

@@ -10,7 +10,7 @@ use Rattle.hwdb_sysfs.proofs.reading.chain_at.Goals as goal
 
 pub bytes-init : goal.bytes-init
 bytes-init g c =
-    let find = ancestor_below (seen (g.F.DeviceFiles.answers c.args.files.now)) (pieces (is 10) c.args.names.now) c.args.sys.now in
+    let find = ancestor_below (seen (g.F.DeviceFiles.answers c.args.sysfs.now.files.now)) (pieces (is 10) c.args.sysfs.now.names.now) c.args.sysfs.now.folder.now in
     record {
       within = omega arith;
       chain = λ tells. chain_begins find c.args.place.now _ (c.in_ok-push_ancestor.ensures tells
@@ -19,7 +19,7 @@ bytes-init g c =
 
 pub bytes-preserved : goal.bytes-preserved
 bytes-preserved g c =
-    let find = ancestor_below (seen (g.F.DeviceFiles.answers c.args.files.now)) (pieces (is 10) c.args.names.now) c.args.sys.now in
+    let find = ancestor_below (seen (g.F.DeviceFiles.answers c.args.sysfs.now.files.now)) (pieces (is 10) c.args.sysfs.now.names.now) c.args.sysfs.now.folder.now in
     record {
       within = omega (arith, c.bytes.invariant.within);
       chain = λ tells. chain_more find c.args.place.now c.bytes.end (c.bytes.end - 1) (map ancestor_of c.bytes.chain.items) _ _
@@ -29,5 +29,5 @@ bytes-preserved g c =
 
 pub returns : goal.returns
 returns g c = λ tells.
-    let find = ancestor_below (seen (g.F.DeviceFiles.answers c.args.files.now)) (pieces (is 10) c.args.names.now) c.args.sys.now in
+    let find = ancestor_below (seen (g.F.DeviceFiles.answers c.args.sysfs.now.files.now)) (pieces (is 10) c.args.sysfs.now.names.now) c.args.sysfs.now.folder.now in
     chain_ends find c.args.place.now c.bytes.end (map ancestor_of c.bytes.chain.items) _ (omega (arith, c.bytes-test.false)) (c.bytes.invariant.chain tells)

@@ -10,8 +10,8 @@ abbrev pub invariant-bytes : goal.invariant-bytes
 invariant-bytes g l = record {
   within : l.end ≤ length l.place;
   chain : g.F.DeviceFiles.tells → map ancestor_of l.chain.items
-      ++ filter_map (tree.ancestor_below (seen (g.F.DeviceFiles.answers l.files)) (pieces (is 10) l.names) l.sys) (tree.above (reverse (take l.end l.place)))
-      ≡ filter_map (tree.ancestor_below (seen (g.F.DeviceFiles.answers l.files)) (pieces (is 10) l.names) l.sys) (l.place ∷ tree.above (reverse l.place));
+      ++ filter_map (tree.ancestor_below (seen (g.F.DeviceFiles.answers l.sysfs.files.now)) (pieces (is 10) l.sysfs.names.now) l.sysfs.folder.now) (tree.above (reverse (take l.end l.place)))
+      ≡ filter_map (tree.ancestor_below (seen (g.F.DeviceFiles.answers l.sysfs.files.now)) (pieces (is 10) l.sysfs.names.now) l.sysfs.folder.now) (l.place ∷ tree.above (reverse l.place));
 }
 
 abbrev pub decreases-bytes : goal.decreases-bytes

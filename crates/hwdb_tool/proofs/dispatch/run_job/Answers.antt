@@ -13,8 +13,8 @@ use Rattle.hwdb_tool.proofs.dispatch.run_job.Goals as goal
 use Rattle.hwdb_tool.specs.Advising.{is_advised}
 
 -- ---- with a line on what to try next
-pub run_advised-requires : goal.run_advised-requires
-run_advised-requires g c = (both_are c.args.at_terminal (is_advised c.args.job.now.task) (sym c.wants_advice.ensures ∙ c.if-wants_advice.true)).1
+pub run_advised-requires-clause-said : goal.run_advised-requires-clause-said
+run_advised-requires-clause-said g c = (both_are c.args.at_terminal (is_advised c.args.job.now.task) (sym c.wants_advice.ensures.is ∙ c.if-wants_advice.true)).1
 
 pub returns-then-wants_advice-clause-any_moment : goal.returns-then-wants_advice-clause-any_moment
 returns-then-wants_advice-clause-any_moment g c = λ tells.
@@ -25,7 +25,7 @@ returns-then-wants_advice-clause-any_moment g c = λ tells.
 
 pub returns-then-wants_advice-clause-update : goal.returns-then-wants_advice-clause-update
 returns-then-wants_advice-clause-update g c = λ update.
-    absurd (no_update_has c.args.job.now.task (both_are c.args.at_terminal (is_advised c.args.job.now.task) (sym c.wants_advice.ensures ∙ c.if-wants_advice.true)).1 update)
+    absurd (no_update_has c.args.job.now.task (both_are c.args.at_terminal (is_advised c.args.job.now.task) (sym c.wants_advice.ensures.is ∙ c.if-wants_advice.true)).1 update)
 
 pub returns-then-wants_advice-clause-follows : goal.returns-then-wants_advice-clause-follows
 returns-then-wants_advice-clause-follows g c = λ tells words asked.
@@ -35,16 +35,16 @@ returns-then-wants_advice-clause-follows g c = λ tells words asked.
     let before = outs (E c.args.err.now) (O c.args.out.now) in
     let now = outs (E c.run_advised.new.err) (O c.run_advised.new.out) in
     subst (λ (b : Bool). ShowsPlan (λ a. shown_plan b a words) (g.D.System.reads c.args.system.now) (sight_by g.D.DeviceFiles.answers c.args.system.now) (I c.args.input.now) (I c.run_advised.new.input) before now c.run_advised.result)
-    (sym (both_are c.args.at_terminal (is_advised c.args.job.now.task) (sym c.wants_advice.ensures ∙ c.if-wants_advice.true)).0)
+    (sym (both_are c.args.at_terminal (is_advised c.args.job.now.task) (sym c.wants_advice.ensures.is ∙ c.if-wants_advice.true)).0)
     (c.run_advised.ensures.follows tells words asked)
 
 pub returns-then-wants_advice-clause-updates : goal.returns-then-wants_advice-clause-updates
 returns-then-wants_advice-clause-updates g c = λ tells u is.
-    absurd (no_update_has c.args.job.now.task (both_are c.args.at_terminal (is_advised c.args.job.now.task) (sym c.wants_advice.ensures ∙ c.if-wants_advice.true)).1 (u, is))
+    absurd (no_update_has c.args.job.now.task (both_are c.args.at_terminal (is_advised c.args.job.now.task) (sym c.wants_advice.ensures.is ∙ c.if-wants_advice.true)).1 (u, is))
 
 pub returns-then-wants_advice-clause-any_crash : goal.returns-then-wants_advice-clause-any_crash
 returns-then-wants_advice-clause-any_crash g c = λ tells u is.
-    absurd (no_update_has c.args.job.now.task (both_are c.args.at_terminal (is_advised c.args.job.now.task) (sym c.wants_advice.ensures ∙ c.if-wants_advice.true)).1 (u, is))
+    absurd (no_update_has c.args.job.now.task (both_are c.args.at_terminal (is_advised c.args.job.now.task) (sym c.wants_advice.ensures.is ∙ c.if-wants_advice.true)).1 (u, is))
 
 -- ---- without one
 pub returns-then-asks_text-clause-any_moment : goal.returns-then-asks_text-clause-any_moment
@@ -64,7 +64,7 @@ returns-then-asks_text-clause-follows g c = λ tells words asked.
     let before = outs (E c.args.err.now) (O c.args.out.now) in
     let now = outs (E c.run_over_text.new.err) (O c.run_over_text.new.out) in
     plainly_shown words c.args.job.now asked (g.D.System.reads c.args.system.now) (sight_by g.D.DeviceFiles.answers c.args.system.now) (I c.args.input.now) (I c.run_over_text.new.input) before now c.run_over_text.result
-    c.args.at_terminal (sym c.wants_advice.ensures ∙ c.if-wants_advice.false) (c.run_over_text.ensures.follows tells words asked)
+    c.args.at_terminal (sym c.wants_advice.ensures.is ∙ c.if-wants_advice.false) (c.run_over_text.ensures.follows tells words asked)
 
 pub returns-clause-follows : goal.returns-clause-follows
 returns-clause-follows g c = λ tells words asked.
@@ -76,7 +76,7 @@ returns-clause-follows g c = λ tells words asked.
     let w = g.D.System.reads c.args.system.now in
     let sight = sight_by g.D.DeviceFiles.answers c.args.system.now in
     plainly_shown words c.args.job.now asked w sight (I c.args.input.now) (I c.run.new.input) before now c.run.result
-    c.args.at_terminal (sym c.wants_advice.ensures ∙ c.if-wants_advice.false)
+    c.args.at_terminal (sym c.wants_advice.ensures.is ∙ c.if-wants_advice.false)
     (plainly_planned w sight (I c.args.input.now) (I c.run.new.input) before words c.args.job.now asked now c.run.result
     (sym c.asks_text.ensures ∙ c.if-asks_text.false) (c.run.ensures.follows tells words asked))
 

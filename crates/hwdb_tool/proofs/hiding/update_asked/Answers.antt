@@ -26,16 +26,16 @@ returns-clause-updates g c = λ tells.
     let F = files_by g.D.Store.seen g.D.System.may_fail g.D.Store.may_leave g.D.Store.failures in
     let E = told_by g.E.Sink.taken g.E.Sink.failures in
     task_updates (g.D.System.reads c.args.system.now) (F c.args.system.now) (F c.update_telling.new.system) (E c.args.err.now) (E c.update_telling.new.err) c.update_telling.result
-    c.args.job.now c.root_of-root.result.now c.args.args.now c.root_of-root.ensures c.requires (c.update_telling.ensures.follows tells)
+    c.args.job.now c.root_of.result.now c.args.args.now c.root_of.ensures c.requires (c.update_telling.ensures.follows tells)
 
 pub returns-clause-any_crash : goal.returns-clause-any_crash
 returns-clause-any_crash g c = λ tells.
     let before = c.args.system.now in
     task_crash g.D.Store.moment g.D.Store.left_since before c.update_telling.new.system (g.D.Store.seen before) (g.D.Store.may_leave before)
-    c.args.job.now c.root_of-root.result.now c.args.args.now c.root_of-root.ensures c.requires (g.D.System.reads before) (c.update_telling.ensures.any_crash tells)
+    c.args.job.now c.root_of.result.now c.args.args.now c.root_of.ensures c.requires (g.D.System.reads before) (c.update_telling.ensures.any_crash tells)
 
 pub returns-clause-any_moment : goal.returns-clause-any_moment
 returns-clause-any_moment g c = λ tells.
     let before = c.args.system.now in
     task_moment g.D.Store.moment g.D.Store.left_since before c.update_telling.new.system (g.D.Store.seen before) (g.D.Store.may_leave before)
-    c.args.job.now c.root_of-root.result.now c.args.args.now c.root_of-root.ensures c.requires (g.D.System.may_fail before) (c.update_telling.ensures.any_moment tells)
+    c.args.job.now c.root_of.result.now c.args.args.now c.root_of.ensures c.requires (g.D.System.may_fail before) (c.update_telling.ensures.any_moment tells)

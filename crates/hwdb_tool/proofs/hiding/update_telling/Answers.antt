@@ -14,7 +14,7 @@ returns-in_err-tell_hiding-clause-follows g c = λ tells.
     let F = files_by g.D.Store.seen g.D.System.may_fail g.D.Store.may_leave g.D.Store.failures in
     let T = told_by g.E.Sink.taken g.E.Sink.failures in (
       [],
-      stops_there (g.D.System.reads c.args.system.now) (hiding_plan c.args.usr c.args.verbose c.args.root.now) _ c.in_err-tell_hiding.field-0.0 (F c.args.system.now) (T c.args.err.now) (T c.tell_hiding.new.err)
+      stops_there (g.D.System.reads c.args.system.now) (hiding_plan c.args.asked.usr c.args.asked.verbose c.args.asked.root.now) _ c.in_err-tell_hiding.field-0.0 (F c.args.system.now) (T c.args.err.now) (T c.tell_hiding.new.err)
           c.from_residual.result (c.in_err-tell_hiding.ensures.says tells) c.from_residual.ensures.1,
     )
 
@@ -24,7 +24,7 @@ returns-clause-follows g c = λ tells.
     let T = told_by g.E.Sink.taken g.E.Sink.failures in
     let rest = c.update.ensures.follows tells in (
       rest.0,
-      goes_on (g.D.System.reads c.args.system.now) (hiding_plan c.args.usr c.args.verbose c.args.root.now) _ (F c.args.system.now) (F c.update.new.system) (T c.args.err.now) (T c.tell_hiding.new.err)
+      goes_on (g.D.System.reads c.args.system.now) (hiding_plan c.args.asked.usr c.args.asked.verbose c.args.asked.root.now) _ (F c.args.system.now) (F c.update.new.system) (T c.args.err.now) (T c.tell_hiding.new.err)
           (T c.update.new.err) c.update.result (c.in_ok-tell_hiding.ensures.says tells) rest.1,
     )
 

@@ -12,7 +12,7 @@ returns-then-json-clause-follows g c = λ tells.
     let r = c.refused_json.result in (
       Err Memory,
       tt,
-      twice_ends (g.D.System.reads c.args.system.now) end_of no_json_text (devices_plan (Err Memory) (map string_bytes c.args.words.now) (option_map (λ t. t.now) c.args.database) c.args.root.now) c.args.json r
+      twice_ends (g.D.System.reads c.args.system.now) end_of no_json_text (devices_plan (Err Memory) (map string_bytes c.args.devices.words.now) (option_map (λ t. t.now) c.args.devices.database) c.args.devices.root.now) c.args.json r
           c.if-json.true (in_words_stops no_json_text r c.refused_json.ensures),
     )
 
@@ -21,6 +21,6 @@ returns-clause-follows g c = λ tells.
     let told = c.record_devices.ensures.follows tells in (
       told.0,
       told.1,
-      once_goes (g.D.System.reads c.args.system.now) end_of no_json_text (devices_plan told.0 (map string_bytes c.args.words.now) (option_map (λ t. t.now) c.args.database) c.args.root.now) c.args.json c.record_devices.result
+      once_goes (g.D.System.reads c.args.system.now) end_of no_json_text (devices_plan told.0 (map string_bytes c.args.devices.words.now) (option_map (λ t. t.now) c.args.devices.database) c.args.devices.root.now) c.args.json c.record_devices.result
           c.if-json.false told.2,
     )

@@ -21,9 +21,9 @@ pub returns-in_err-texts-clause-follows : goal.returns-in_err-texts-clause-follo
 returns-in_err-texts-clause-follows g c = λ tells.
     let w = g.D.System.reads c.args.system.now in
     let told = c.in_err-texts.ensures.told tells in
-    let words = map string_bytes c.args.words.now in
-    let database = option_map (λ t. t.now) c.args.database in
-    let root = c.args.root.now in
+    let words = map string_bytes c.args.devices.words.now in
+    let database = option_map (λ t. t.now) c.args.devices.database in
+    let root = c.args.devices.root.now in
     let given = map string_bytes c.read_words-given.result.now in
     let next : List Source → Plan = λ sources. named database root (recorded (devices_meant words sources)) in (
       told.0,
@@ -36,7 +36,7 @@ pub returns-in_err-files-clause-follows : goal.returns-in_err-files-clause-follo
 returns-in_err-files-clause-follows g c = λ tells. (
   Err Memory,
   tt,
-  memory_follows (g.D.System.reads c.args.system.now) end_of (devices_plan (Err Memory) (map string_bytes c.args.words.now) (option_map (λ t. t.now) c.args.database) c.args.root.now) c.from_residual-in_err-files.result
+  memory_follows (g.D.System.reads c.args.system.now) end_of (devices_plan (Err Memory) (map string_bytes c.args.devices.words.now) (option_map (λ t. t.now) c.args.devices.database) c.args.devices.root.now) c.from_residual-in_err-files.result
       c.from_residual-in_err-files.ensures.1,
 )
 
@@ -44,9 +44,9 @@ pub returns-clause-follows : goal.returns-clause-follows
 returns-clause-follows g c = λ tells.
     let w = g.D.System.reads c.args.system.now in
     let told = c.in_ok-texts.ensures.told tells in
-    let words = map string_bytes c.args.words.now in
-    let database = option_map (λ t. t.now) c.args.database in
-    let root = c.args.root.now in
+    let words = map string_bytes c.args.devices.words.now in
+    let database = option_map (λ t. t.now) c.args.devices.database in
+    let root = c.args.devices.root.now in
     let given = map string_bytes c.read_words-given.result.now in
     let next : List Source → Plan = λ sources. named database root (recorded (devices_meant words sources)) in
     let files = c.deref-2.result.now in
@@ -60,12 +60,12 @@ returns-clause-follows g c = λ tells.
 
 pub returns-clause-unread : goal.returns-clause-unread
 returns-clause-unread g c = λ none.
-    c.in_ok-texts.ensures.unread (subst (λ (gs : List (List ℕ)). any_dash gs ≡ false) (sym c.read_words-given.ensures) (none_read (map string_bytes c.args.words.now) none))
+    c.in_ok-texts.ensures.unread (subst (λ (gs : List (List ℕ)). any_dash gs ≡ false) (sym c.read_words-given.ensures) (none_read (map string_bytes c.args.devices.words.now) none))
 
 pub returns-in_err-texts-clause-unread : goal.returns-in_err-texts-clause-unread
 returns-in_err-texts-clause-unread g c = λ none.
-    c.in_err-texts.ensures.unread (subst (λ (gs : List (List ℕ)). any_dash gs ≡ false) (sym c.read_words-given.ensures) (none_read (map string_bytes c.args.words.now) none))
+    c.in_err-texts.ensures.unread (subst (λ (gs : List (List ℕ)). any_dash gs ≡ false) (sym c.read_words-given.ensures) (none_read (map string_bytes c.args.devices.words.now) none))
 
 pub returns-in_err-files-clause-unread : goal.returns-in_err-files-clause-unread
 returns-in_err-files-clause-unread g c = λ none.
-    c.in_ok-texts.ensures.unread (subst (λ (gs : List (List ℕ)). any_dash gs ≡ false) (sym c.read_words-given.ensures) (none_read (map string_bytes c.args.words.now) none))
+    c.in_ok-texts.ensures.unread (subst (λ (gs : List (List ℕ)). any_dash gs ≡ false) (sym c.read_words-given.ensures) (none_read (map string_bytes c.args.devices.words.now) none))

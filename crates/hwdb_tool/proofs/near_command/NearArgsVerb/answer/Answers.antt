@@ -27,9 +27,11 @@ returns-clause-follows g c = λ tells words asked.
     let Answers : Plan → Type 0 = λ p. Follows end_of w p answer in
     let Told = λ (is : Result (List ℕ) Unread → Plan). OfInput input.bytes input.failures left.failures (λ told. Follows end_of w (is told) answer) in
     let files = c.deref.result.now in
-    let device = c.as_bytes-device.result.now in
+    let device = c.as_bytes.result.now in
+    let limit = c.count_of.result in
     of_words sight input left Answers words c.args.job.now asked
     (λ word rows is. near_planned w sight input left root strict word rows answer args (subst (λ t. IsTask word rows t) c.requires is)
     (subst (λ (fs : List (String Global)). Told (λ told. near_plan told (map string_bytes fs) root (near_form args.json (string_bytes args.device) (near_limit args.limit)))) c.deref.ensures.value
-    (subst (λ (d : List ℕ). Told (λ told. near_plan told (map string_bytes files) root (near_form args.json d (near_limit args.limit)))) c.as_bytes-device.ensures.value
-    (subst (λ (r : List ℕ). Told (λ told. near_plan told (map string_bytes files) r (near_form args.json device (near_limit args.limit)))) c.root_of-root.ensures (c.near.ensures.follows tells)))))
+    (subst (λ (d : List ℕ). Told (λ told. near_plan told (map string_bytes files) root (near_form args.json d (near_limit args.limit)))) c.as_bytes.ensures.value
+    (subst (λ (n : ℕ). Told (λ told. near_plan told (map string_bytes files) root (near_form args.json device n))) c.count_of.ensures
+    (subst (λ (r : List ℕ). Told (λ told. near_plan told (map string_bytes files) r (near_form args.json device limit))) c.root_of.ensures (c.near.ensures.follows tells))))))

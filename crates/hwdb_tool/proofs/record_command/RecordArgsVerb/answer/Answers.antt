@@ -32,9 +32,9 @@ returns-clause-follows g c = λ tells words asked.
     let Answers : Plan → Type 0 = λ p. Follows end_of w p answer in
     let Told = λ (is : Result (List ℕ) Unread → Plan). OfInput input.bytes input.failures left.failures (λ told. Follows end_of w (is told) answer) in
     let devices = c.deref.result.now in
-    let database = option_map (λ t. t.now) c.text_of-database.result in
+    let database = option_map (λ t. t.now) c.text_of.result in
     of_words sight input left Answers words c.args.job.now asked
     (λ word rows is. record_planned w sight input left root strict word rows answer args (subst (λ t. IsTask word rows t) c.requires is)
     (subst (λ (ds : List (String Global)). Told (λ told. record_plan told args.json (map string_bytes ds) (option_map string_bytes args.database) root)) c.deref.ensures.value
-    (subst (λ (d : Option (List ℕ)). Told (λ told. record_plan told args.json (map string_bytes devices) d root)) c.text_of-database.ensures
-    (subst (λ (r : List ℕ). Told (λ told. record_plan told args.json (map string_bytes devices) database r)) c.root_of-root.ensures (c.record.ensures.follows tells)))))
+    (subst (λ (d : Option (List ℕ)). Told (λ told. record_plan told args.json (map string_bytes devices) d root)) c.text_of.ensures
+    (subst (λ (r : List ℕ). Told (λ told. record_plan told args.json (map string_bytes devices) database r)) c.root_of.ensures (c.record.ensures.follows tells)))))

@@ -27,9 +27,9 @@ returns-clause-follows g c = λ tells words asked.
     let Answers : Plan → Type 0 = λ p. Follows end_of w p answer in
     let Told = λ (is : Result (List ℕ) Unread → Plan). OfInput input.bytes input.failures left.failures (λ told. Follows end_of w (is told) answer) in
     let files = c.deref.result.now in
-    let database = option_map (λ t. t.now) c.text_of-database.result in
+    let database = option_map (λ t. t.now) c.text_of.result in
     of_words sight input left Answers words c.args.job.now asked
     (λ word rows is. test_planned w sight input left root strict word rows answer args (subst (λ t. IsTask word rows t) c.requires is)
     (subst (λ (fs : List (String Global)). Told (λ told. test_plan told (map string_bytes fs) (option_map string_bytes args.database) root args.json)) c.deref.ensures.value
-    (subst (λ (d : Option (List ℕ)). Told (λ told. test_plan told (map string_bytes files) d root args.json)) c.text_of-database.ensures
-    (subst (λ (r : List ℕ). Told (λ told. test_plan told (map string_bytes files) database r args.json)) c.root_of-root.ensures (c.test.ensures.follows tells)))))
+    (subst (λ (d : Option (List ℕ)). Told (λ told. test_plan told (map string_bytes files) d root args.json)) c.text_of.ensures
+    (subst (λ (r : List ℕ). Told (λ told. test_plan told (map string_bytes files) database r args.json)) c.root_of.ensures (c.test.ensures.follows tells)))))
