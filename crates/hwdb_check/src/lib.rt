@@ -93,6 +93,7 @@ pub use kinds::Telling;
 pub use laws::{
     baselines_let_pass, comments_are_told, deep_lines_are_told, kinds_are_named,
     likelihood_is_judged, mends_are_likely, patches_are_sure, patterns_are_judged,
+    rule_kinds_are_named,
 };
 pub use line_texts::{LineStart, find_line, first_start};
 pub use patched::{Said, format_asked, say_files};
