@@ -157,6 +157,7 @@ check-peer: $(PROGRAM) out/libhwdb.so.0
 	tests/peer/near out/hwdb
 	tests/peer/editors out/hwdb
 	tests/peer/parse-hwdb out/hwdb
+	tests/peer/rules out/hwdb
 	tests/peer/findings out/hwdb
 	tests/peer/machines out/hwdb
 	tests/peer/releases out/hwdb out/libhwdb.so.0
