@@ -87,7 +87,7 @@ complete -c hwdb -n __hwdb_none -a ask -d 'Prints the properties that one text f
 complete -c hwdb -n __hwdb_none -a list -d 'Prints each assignment of the database that matches a device, with its position'
 complete -c hwdb -n __hwdb_none -a near -d 'Prints the patterns that match a device, and the nearest that don\'t, with the place where each stops'
 complete -c hwdb -n __hwdb_none -a device -d 'Prints the strings that udev asks the database for a device, and what each gives; without DEVICE lists the devices'
-complete -c hwdb -n __hwdb_none -a check -d 'Says what is wrong in text files, or hardly meant, and writes no database'
+complete -c hwdb -n __hwdb_none -a check -d 'Says what is wrong in text files and rules files, or hardly meant, and writes no database'
 complete -c hwdb -n __hwdb_none -a test -d 'Says whether a database gives devices the properties that test files want'
 complete -c hwdb -n __hwdb_none -a diff -d 'Prints what changed from one database, text file, folder or root to another: assignments, or what devices get'
 complete -c hwdb -n __hwdb_none -a verify -d 'Says whether a file is a database that can be read, and how much is in it'

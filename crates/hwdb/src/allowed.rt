@@ -1,11 +1,13 @@
 //! Whether `check --allow` names kinds of warnings, and `check --format` a format; and whether other words fit `check --diff`.
 use crate::MEMORY;
-use hwdb_tool::{KINDS, Sink, Task, diff_fault, format_fault, kind_fault, read_words, write_text};
+use hwdb_tool::{
+    KINDS, RULE_KINDS, Sink, Task, diff_fault, format_fault, kind_fault, read_words, write_text,
+};
 use std::alloc::{AllocError, Global};
 
 /// What is said of the first such word that names none, or that doesn't fit.
 fn fault_of(alloc: Global, task: &Task) -> Result<Option<String>, AllocError> {
-    if let Some(text) = kind_fault(alloc, task, KINDS)? {
+    if let Some(text) = kind_fault(alloc, task, &[KINDS, RULE_KINDS])? {
         return Ok(Some(text));
     }
     if let Some(text) = format_fault(alloc, task)? {

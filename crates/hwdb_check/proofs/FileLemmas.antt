@@ -10,7 +10,7 @@ use Rattle.hwdb_spec.specs.declared.errors.ScanError.TheVariants.{Memory, TooMan
 use Rattle.hwdb_spec_commands.specs.CheckErrors.{IsCheckRefusal}
 use Rattle.hwdb_spec_commands.specs.Given.{is_dash}
 use Rattle.hwdb_spec_commands.specs.Checks.{all_findings, empty_tally, named, tally_from, tally_of, tally_of_both}
-use Rattle.hwdb_spec_commands.specs.AllowedKinds.{file_findings}
+use Rattle.hwdb_spec_commands.specs.RuleFindings.{findings_of}
 use Rattle.hwdb_spec_commands.specs.declared.Tally.{Tally}
 use Rattle.hwdb_check.specs.declared.files.TextFile.{TextFile}
 use Rattle.hwdb_check.specs.Checks.{source_of}
@@ -23,39 +23,39 @@ first_files i fs = map source_of (take i fs)
 
 module _ (format : Format) (allowed : List (List ℕ)) where
   one_more_found : (fs : List TextFile) (i : ℕ) (d : TextFile) → i < length fs
-      → all_findings format allowed (first_files (suc i) fs) ≡ all_findings format allowed (first_files i fs) ++ file_findings format allowed (get_or fs i d).path.now (get_or fs i d).bytes.now
+      → all_findings format allowed (first_files (suc i) fs) ≡ all_findings format allowed (first_files i fs) ++ findings_of format allowed (get_or fs i d).path.now (get_or fs i d).bytes.now
   one_more_found [] i d h = absurd (omega arith)
-  one_more_found (x ∷ xs) zero d h = append-nil (file_findings format allowed x.path.now x.bytes.now)
+  one_more_found (x ∷ xs) zero d h = append-nil (findings_of format allowed x.path.now x.bytes.now)
   one_more_found (x ∷ xs) (suc i) d h =
-      ap (λ l. file_findings format allowed x.path.now x.bytes.now ++ l) (one_more_found xs i d (omega arith))
-      ∙ sym (append_assoc (file_findings format allowed x.path.now x.bytes.now) (all_findings format allowed (first_files i xs)) (file_findings format allowed (get_or xs i d).path.now (get_or xs i d).bytes.now))
+      ap (λ l. findings_of format allowed x.path.now x.bytes.now ++ l) (one_more_found xs i d (omega arith))
+      ∙ sym (append_assoc (findings_of format allowed x.path.now x.bytes.now) (all_findings format allowed (first_files i xs)) (findings_of format allowed (get_or xs i d).path.now (get_or xs i d).bytes.now))
 
   -- the findings of one file more
   pub found_step : (fs : List TextFile) (i : ℕ) (d : TextFile) (path : List ℕ) (own before after : List Found) → i < length fs
-      → path ≡ (get_or fs i d).path.now → finds own ≡ file_findings format allowed path (get_or fs i d).bytes.now → after ≡ before ++ own
+      → path ≡ (get_or fs i d).path.now → finds own ≡ findings_of format allowed path (get_or fs i d).bytes.now → after ≡ before ++ own
       → finds before ≡ all_findings format allowed (map source_of (take i fs)) → finds after ≡ all_findings format allowed (map source_of (take (i + 1) fs))
   found_step fs i d path own before after h named is grown so_far =
       ap finds grown
       ∙ map-append kept_of before own
-      ∙ ap (λ l. finds before ++ l) (is ∙ ap (λ p. file_findings format allowed p (get_or fs i d).bytes.now) named)
-      ∙ ap (λ l. l ++ file_findings format allowed (get_or fs i d).path.now (get_or fs i d).bytes.now) so_far
+      ∙ ap (λ l. finds before ++ l) (is ∙ ap (λ p. findings_of format allowed p (get_or fs i d).bytes.now) named)
+      ∙ ap (λ l. l ++ findings_of format allowed (get_or fs i d).path.now (get_or fs i d).bytes.now) so_far
       ∙ sym (one_more_found fs i d h)
       ∙ ap (λ n. all_findings format allowed (map source_of (take n fs))) (let e : suc i ≡ i + 1 = omega arith in e)
 
 one_more_tally : (t : Tally) (fs : List TextFile) (i : ℕ) (d : TextFile) → i < length fs
-    → tally_from t (first_files (suc i) fs) ≡ tally_of_both (tally_from t (first_files i fs)) (tally_of (get_or fs i d).bytes.now)
+    → tally_from t (first_files (suc i) fs) ≡ tally_of_both (tally_from t (first_files i fs)) (tally_of (get_or fs i d).path.now (get_or fs i d).bytes.now)
 one_more_tally t [] i d h = absurd (omega arith)
 one_more_tally t (x ∷ xs) zero d h = refl
-one_more_tally t (x ∷ xs) (suc i) d h = one_more_tally (tally_of_both t (tally_of x.bytes.now)) xs i d (omega arith)
+one_more_tally t (x ∷ xs) (suc i) d h = one_more_tally (tally_of_both t (tally_of x.path.now x.bytes.now)) xs i d (omega arith)
 
 -- how much is in one file more
-pub tally_step : (fs : List TextFile) (i : ℕ) (d : TextFile) (before own after : Tally) → i < length fs
-    → own ≡ tally_of (get_or fs i d).bytes.now → after ≡ tally_of_both before own
+pub tally_step : (fs : List TextFile) (i : ℕ) (d : TextFile) (path : List ℕ) (before own after : Tally) → i < length fs → path ≡ (get_or fs i d).path.now
+    → own ≡ tally_of path (get_or fs i d).bytes.now → after ≡ tally_of_both before own
     → before ≡ tally_from empty_tally (map source_of (take i fs)) → after ≡ tally_from empty_tally (map source_of (take (i + 1) fs))
-tally_step fs i d before own after h is both so_far =
+tally_step fs i d path before own after h named is both so_far =
     both
-    ∙ ap (tally_of_both before) is
-    ∙ ap (λ t. tally_of_both t (tally_of (get_or fs i d).bytes.now)) so_far
+    ∙ ap (tally_of_both before) (is ∙ ap (λ p. tally_of p (get_or fs i d).bytes.now) named)
+    ∙ ap (λ t. tally_of_both t (tally_of (get_or fs i d).path.now (get_or fs i d).bytes.now)) so_far
     ∙ sym (one_more_tally empty_tally fs i d h)
     ∙ ap (λ n. tally_from empty_tally (map source_of (take n fs))) (let e : suc i ≡ i + 1 = omega arith in e)
 

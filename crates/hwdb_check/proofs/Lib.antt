@@ -32,3 +32,4 @@ pub mod EditRecordLemmas
 pub mod HunkLemmas
 pub mod SureLaws
 pub mod AmongLemmas
+pub mod RuleLemmas

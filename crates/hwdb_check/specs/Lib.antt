@@ -1,6 +1,7 @@
 pub mod Checks
 pub mod Internal
 pub mod Laws
+pub mod RuleLaws
 pub mod Mending
 pub mod Plain
 pub mod Found

@@ -2,7 +2,7 @@
 use Rattle.std.specs.Prelude.{ℕ, List, Option, map, option_map}
 use Rattle.std.specs.Borrow.{Bor}
 use Rattle.hwdb_spec.specs.Folders.{Source}
-use Rattle.hwdb_spec_commands.specs.AllowedKinds.{file_findings}
+use Rattle.hwdb_spec_commands.specs.RuleFindings.{findings_of}
 use Rattle.hwdb_spec_commands.specs.Checks.{named}
 use Rattle.hwdb_spec_commands.specs.Patches as spec
 use Rattle.hwdb_spec_commands.specs.declared.formats.Format.{Format}
@@ -16,7 +16,7 @@ patched_of p = record { text = p.text.items; found = p.found; left = p.left }
 
 -- that of some files, and of one more, whose findings have this format
 abbrev pub after_file : Format → (allowed : List (List ℕ)) → spec.Patched → Source → spec.Patched
-after_file format allowed so_far s = spec.with_file so_far s.name s.bytes (spec.mended (file_findings format allowed s.name) s.bytes)
+after_file format allowed so_far s = spec.with_file so_far s.name s.bytes (spec.mended (findings_of format allowed s.name) s.bytes)
 
 -- some files with the names that findings have, if standard input has this one
 abbrev pub sources_of : (name : Option (Bor (List ℕ))) → List TextFile → List Source

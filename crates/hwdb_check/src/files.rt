@@ -1,11 +1,12 @@
-//! Text files that are checked, one after another.
+//! Files that are checked, one after another: text files, and rules files by their names.
 ghost use Rattle.std.specs.Prelude.{◌≡◌, ◌≤◌, ◌++◌, flat_map, option_map, map, string_bytes, IfOk, IfErr};
 ghost use Rattle.hwdb_spec.specs.Lines.{lines};
 ghost use Rattle.hwdb_spec_commands.specs.Reports.{text_of_line};
 ghost use Rattle.hwdb_spec_commands.specs.AllowedKinds.{file_findings};
 ghost use Rattle.hwdb_spec_commands.specs.Findings.{told, told_fault};
 ghost use Rattle.hwdb_spec_commands.specs.Checks;
-ghost use Rattle.hwdb_spec_commands.specs.Checks.{all_findings, tally_of, empty_tally, tally_from, check_text, check_status, ended, tally_line, told_tally};
+ghost use Rattle.hwdb_spec_commands.specs.Checks.{all_findings, tally_of, text_tally, empty_tally, tally_from, check_text, check_status, ended, tally_line, told_tally};
+ghost use Rattle.hwdb_spec_commands.specs.RuleFindings.{findings_of, rule_findings};
 ghost use Rattle.hwdb_check.specs.Checks.{source_of};
 ghost use Rattle.hwdb_check.specs.Found.{finds};
 ghost use Rattle.hwdb_spec_commands.specs.CheckErrors.{IsFileRefusal, IsCheckRefusal};
@@ -17,13 +18,14 @@ use crate::left::left_of;
 use crate::line_texts::{find_line, first_start};
 use crate::logs::log_of;
 use crate::reports::push_fault;
+use crate::rules::{is_rules, rule_findings};
 use crate::tallies::{empty_tally, status_of, tally_line, together, with_found};
 use hwdb_spec::Fault;
 use hwdb_spec_commands::{Format, Tally};
 use hwdb_text::{ScanError, scan};
 use std::alloc::{AllocError, Global};
 
-/// A text file that is checked.
+/// A file that is checked.
 #[derive(Clone, Copy)]
 pub struct TextFile<'a> {
     /// The path that is printed for it.
@@ -62,7 +64,7 @@ pub fn all_named<'a>(
     Ok(all)
 }
 
-/// What `check` says of some text files.
+/// What `check` says of some files.
 #[derive(Drop)]
 pub struct Checked {
     /// What is printed.
@@ -104,8 +106,20 @@ pub fn reports_of(
     Ok(text)
 }
 
-/// What is in a file.
-pub fn look_over(
+/// How much is in one file that has so many assignments.
+fn one_file(assignments: u64) -> Tally
+    ensures { result ≡ Checks.one_file assignments }
+{
+    Tally {
+        files: 1,
+        assignments,
+        faults: 0,
+        warnings: 0,
+    }
+}
+
+/// What is in a text file.
+fn look_over_text(
     alloc: Global,
     telling: &Telling<'_>,
     path: &[u8],
@@ -114,21 +128,52 @@ pub fn look_over(
     ensures found { IfOk result (λ c. finds c.found.items
         ≡ file_findings telling.now.format (map string_bytes telling.now.allowed.now)
         path.now bytes.now) }
-    ensures tally { IfOk result (λ c. c.tally ≡ tally_of bytes.now) }
+    ensures tally { IfOk result (λ c. c.tally ≡ text_tally bytes.now) }
     ensures errors { IfErr result (IsFileRefusal bytes.now) }
 {
     let scanned = scan(alloc, bytes)?;
     let left = left_of(alloc, telling, path, bytes, &scanned)?;
-    let tally = Tally {
-        files: 1,
-        assignments: scanned.assignments.len() as u64,
-        faults: 0,
-        warnings: 0,
-    };
+    let tally = one_file(scanned.assignments.len() as u64);
     Ok(Findings {
         found: left.found,
         tally,
     })
+}
+
+/// What is in a rules file.
+fn look_over_rules(
+    alloc: Global,
+    telling: &Telling<'_>,
+    path: &[u8],
+    bytes: &[u8],
+) -> Result<Findings, AllocError>
+    ensures found { IfOk result (λ c. finds c.found.items
+        ≡ rule_findings (map string_bytes telling.now.allowed.now) path.now bytes.now) }
+    ensures tally { IfOk result (λ c. c.tally ≡ Checks.one_file 0) }
+{
+    Ok(Findings {
+        found: rule_findings(alloc, telling, path, bytes)?,
+        tally: one_file(0),
+    })
+}
+
+/// What is in a file, which its name says to be a rules file or a text file.
+pub fn look_over(
+    alloc: Global,
+    telling: &Telling<'_>,
+    path: &[u8],
+    bytes: &[u8],
+) -> Result<Findings, ScanError>
+    ensures found { IfOk result (λ c. finds c.found.items
+        ≡ findings_of telling.now.format (map string_bytes telling.now.allowed.now)
+        path.now bytes.now) }
+    ensures tally { IfOk result (λ c. c.tally ≡ tally_of path.now bytes.now) }
+    ensures errors { IfErr result (IsFileRefusal bytes.now) }
+{
+    if is_rules(path) {
+        return Ok(look_over_rules(alloc, telling, path, bytes)?);
+    }
+    look_over_text(alloc, telling, path, bytes)
 }
 
 /// What is in each file, one after another.

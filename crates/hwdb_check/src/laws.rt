@@ -2,6 +2,7 @@
 ghost use Rattle.hwdb_check.specs.Comments.{BareAreTold, CommentRows, FaultsStay, LeftAreTold, LinesAreMarked, RecordsAreApart};
 ghost use Rattle.hwdb_check.specs.Passing.{AsManyPass, BaselineRows, NothingPasses};
 ghost use Rattle.hwdb_check.specs.Sure.{LinesStay, MendsAreSure, PatchRows, SaidRows, TriedRows, WorseRows};
+ghost use Rattle.hwdb_check.specs.RuleLaws.{RuleFileRows, RuleKindsAreNamed};
 ghost use Rattle.hwdb_check.specs.Laws.{FieldRows, FragileRows, KindsAreNamed, LikelihoodIsJudged, MendRows, MendsAreLikely, PatternsAreJudged, RunsAreAll, TooDeepRows, TooLongRows, UnmatchedRows};
 
 use hwdb_forms::forms_are_tested;
@@ -55,6 +56,13 @@ pub fn fragile_patterns_are_told()
 #[tactic(auto, using(crate::proofs::LawLemmas::named_kinds))]
 pub fn kinds_are_named()
     ensures { KindsAreNamed }
+{}
+
+/// The kinds of rules files that `--allow` takes are those of no fault. And worked rows: what is told of a rules file, and where.
+#[tactic(auto, using(crate::proofs::RuleLemmas::named_rule_kinds, crate::proofs::RuleLemmas::rule_file_rows))]
+pub fn rule_kinds_are_named()
+    ensures kinds { RuleKindsAreNamed }
+    ensures rows { RuleFileRows }
 {}
 
 /// A comment lets kinds of warnings pass in its own record: what is on one side of a line that ends a record doesn't depend on the other

@@ -197,7 +197,7 @@ fn left_by_line(
 }
 
 /// The words of `--allow`, as bytes.
-fn words_of<'w>(alloc: Global, words: &'w [String]) -> Result<Vec<&'w [u8]>, AllocError>
+pub fn words_of<'w>(alloc: Global, words: &'w [String]) -> Result<Vec<&'w [u8]>, AllocError>
     ensures { IfOk result (λ all. texts all.items ≡ map string_bytes words.now) }
 {
     let mut all = Vec::new(alloc);

@@ -35,7 +35,8 @@
 //! | `too_long` | match lines that udev can't take, for `update --verbose` |
 //! | `tallies` | how much was found: the last line, and the status |
 //! | `baselines` | findings that are let pass since a baseline has them |
-//! | `files` | text files that are checked, one after another |
+//! | `rules` | what is found in a rules file |
+//! | `files` | files that are checked, one after another |
 //! | `edits` | the lines of a file, some of which are mended |
 //! | `edit_records` | the same, record by record |
 //! | `among` | whether some findings are all among others |
@@ -75,6 +76,7 @@ mod plain_files;
 mod repeats;
 mod replacements;
 mod reports;
+mod rules;
 mod runs;
 mod sure;
 mod tallies;
@@ -86,11 +88,12 @@ pub use baselines::{BaselineFault, marks_in, wrong_text};
 pub use files::{Checked, TextFile, check_files, reports_of};
 pub use findings::{format_if, format_of};
 pub use hwdb_show::push_shown;
-pub use hwdb_spec_commands::KINDS;
+pub use hwdb_spec_commands::{KINDS, RULE_KINDS};
 pub use kinds::Telling;
 pub use laws::{
     baselines_let_pass, comments_are_told, deep_lines_are_told, kinds_are_named,
     likelihood_is_judged, mends_are_likely, patches_are_sure, patterns_are_judged,
+    rule_kinds_are_named,
 };
 pub use line_texts::{LineStart, find_line, first_start};
 pub use patched::{Said, format_asked, say_files};

@@ -1,7 +1,6 @@
 //! The patch of text files, and what is said of some in the format that is told.
 ghost use Rattle.std.specs.Prelude.{◌≡◌, ◌≤◌, ◌-◌, ◌++◌, [], IfErr, IfOk, OnOk, codes, map, option_map, string_bytes};
 ghost use Rattle.std.specs.Fmt.{decimal};
-ghost use Rattle.hwdb_spec_commands.specs.AllowedKinds.{file_findings};
 ghost use Rattle.hwdb_spec_commands.specs.CheckErrors.{IsCheckRefusal, IsFileRefusal};
 ghost use Rattle.hwdb_spec_commands.specs.Checks;
 ghost use Rattle.hwdb_spec_commands.specs.Patches;

@@ -1,9 +1,9 @@
 //! Which mends of a file are sure: with them nothing new is found, and nothing that was mended.
 ghost use Rattle.std.specs.Prelude.{◌≡◌, IfErr, IfOk, List, ℕ, length, map, string_bytes};
-ghost use Rattle.hwdb_spec_commands.specs.AllowedKinds.{file_findings};
 ghost use Rattle.hwdb_spec_commands.specs.Baselines;
 ghost use Rattle.hwdb_spec_commands.specs.CheckErrors.{IsFileRefusal};
 ghost use Rattle.hwdb_spec_commands.specs.Patches;
+ghost use Rattle.hwdb_spec_commands.specs.RuleFindings.{findings_of};
 ghost use Rattle.hwdb_check.specs.Found.{finds, kept_of};
 ghost use Rattle.hwdb_check.specs.Patching.{IsMended, edits_of};
 ghost use Rattle.hwdb_check.specs.Places.{told_at};
@@ -317,7 +317,7 @@ pub fn mend_file<'f>(
     path: &[u8],
     bytes: &'f [u8],
 ) -> Result<Mended<'f>, ScanError>
-    ensures mended { IfOk result (IsMended (Patches.mended (file_findings telling.now.format
+    ensures mended { IfOk result (IsMended (Patches.mended (findings_of telling.now.format
         (map string_bytes telling.now.allowed.now) path.now) bytes.now)) }
     ensures errors { IfErr result (IsFileRefusal bytes.now) }
 {

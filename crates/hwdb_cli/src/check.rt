@@ -13,10 +13,11 @@ use hwdb_spec_commands::{CheckArgs, Task};
 use std::alloc::{AllocError, Global};
 
 /// What the short help says of it.
-pub const SHORT: &str = "says what is wrong in text files";
+pub const SHORT: &str = "says what is wrong in text files, or rules files";
 
 /// What help begins with.
-const ABOUT: &str = "Says what is wrong in text files, or hardly meant, and writes no database";
+const ABOUT: &str =
+    "Says what is wrong in text files and rules files, or hardly meant, and writes no database";
 
 /// What help ends with.
 const AFTER: &str =
@@ -27,7 +28,7 @@ pub fn command<'a>(alloc: Global) -> Draft<'a>
     ensures { IsDraft check_app result }
 {
     let help =
-        "A text file, a folder of them, or - for standard input; without one those of /etc/udev/hwdb.d and /usr/lib/udev/hwdb.d";
+        "A text file, a folder of them, a rules file (NAME.rules), or - for standard input; without one the text files of /etc/udev/hwdb.d and /usr/lib/udev/hwdb.d";
     let command = shared(alloc, "check", ABOUT, AFTER);
     let with_allow = with_argument(command, allow_option(alloc));
     let with_baseline = with_argument(with_allow, baseline_option(alloc));

@@ -4,11 +4,13 @@ use hwdb_spec_commands::{FORMATS, Task};
 use std::alloc::{AllocError, Global};
 use strsim::jaro;
 
-/// Whether a name is one of those that are told, a line each.
-fn is_kind(name: &str, kinds: &str) -> bool {
-    for kind in kinds.split("\n") {
-        if kind == name {
-            return true;
+/// Whether a name is one of those in some lists, a line each.
+fn is_kind(name: &str, kinds: &[&str]) -> bool {
+    for list in kinds {
+        for kind in list.split("\n") {
+            if kind == name {
+                return true;
+            }
         }
     }
     false
@@ -28,15 +30,17 @@ fn likeness(alloc: Global, name: &str, kind: &str) -> Result<f64, AllocError> {
 fn likely_kind<'k>(
     alloc: Global,
     name: &str,
-    kinds: &'k str,
+    kinds: &[&'k str],
 ) -> Result<Option<&'k str>, AllocError> {
     let mut most = ALIKE;
     let mut found = None;
-    for kind in kinds.split("\n") {
-        let alike = likeness(alloc, name, kind)?;
-        if alike >= most {
-            most = alike;
-            found = Some(kind);
+    for list in kinds {
+        for kind in list.split("\n") {
+            let alike = likeness(alloc, name, kind)?;
+            if alike >= most {
+                most = alike;
+                found = Some(kind);
+            }
         }
     }
     Ok(found)
@@ -52,7 +56,7 @@ fn format_text(alloc: Global, name: &str) -> Result<String, AllocError> {
 }
 
 /// What is said of a name that is none of a kind.
-fn fault_of(alloc: Global, name: &str, kinds: &str) -> Result<String, AllocError> {
+fn fault_of(alloc: Global, name: &str, kinds: &[&str]) -> Result<String, AllocError> {
     let mut text = String::new(alloc);
     writeln!(text, "error: --allow takes no '{name}'\n")?;
     if let Some(kind) = likely_kind(alloc, name, kinds)? {
@@ -63,7 +67,7 @@ fn fault_of(alloc: Global, name: &str, kinds: &str) -> Result<String, AllocError
 }
 
 /// The first name in a word, with commas between, that is no kind's.
-fn unknown_in<'w>(word: &'w str, kinds: &str) -> Option<&'w str> {
+fn unknown_in<'w>(word: &'w str, kinds: &[&str]) -> Option<&'w str> {
     for piece in word.split(",") {
         let name = piece.trim();
         if !is_kind(name, kinds) {
@@ -74,10 +78,14 @@ fn unknown_in<'w>(word: &'w str, kinds: &str) -> Option<&'w str> {
 }
 
 /// What is said of the first name after `--allow` that is no kind of warning. It says which kind the name is like, if there
-/// is one. None if each is one, or the task has no such words. `kinds` has a name a line.
+/// is one. None if each is one, or the task has no such words. Each of `kinds` has a name a line.
 ///
 /// The only error is want of memory.
-pub fn kind_fault(alloc: Global, task: &Task, kinds: &str) -> Result<Option<String>, AllocError> {
+pub fn kind_fault(
+    alloc: Global,
+    task: &Task,
+    kinds: &[&str],
+) -> Result<Option<String>, AllocError> {
     let Task::Check(args) = task else {
         return Ok(None);
     };

@@ -20,4 +20,5 @@ pub mod ChoiceViews
 pub mod RuleRows
 pub mod RuleSpots
 pub mod RuleTexts
+pub mod RuleHints
 pub mod RuleLaws

@@ -1,5 +1,5 @@
 -- Jumps, after `rule_resolve_goto` of udev-rules.c (systemd 257): a label counts if it comes after its GOTO.
-use Rattle.std.specs.Prelude.{List, [], ◌∷◌, ◌++◌, Bool, true, false, if◌then◌else◌, ℕ, get_or, Option, Some, None, is_some}
+use Rattle.std.specs.Prelude.{List, [], ◌∷◌, Bool, true, false, if◌then◌else◌, ℕ, get_or, Option, Some, None, is_some}
 use Rattle.std.specs.List.{list_any}
 use Rattle.hwdb_rulefiles.specs.RuleTokens.{is_word}
 use Rattle.hwdb_rulefiles.specs.RuleLines.{RuleLine, Outcome, finding, any_acts}
@@ -44,7 +44,7 @@ line_left None = None
 line_left (Some l) = left l
 
 abbrev pub without_jump : Outcome → Outcome
-without_jump o = record { number = o.number; line = line_left o.line; findings = o.findings ++ (finding o.number 0 NoLabel ∷ []) }
+without_jump o = record { number = o.number; line = line_left o.line; findings = finding o.number 0 NoLabel ∷ o.findings }
 
 abbrev pub marked : (keeps : Bool) → Outcome → Outcome
 marked keeps o = if keeps then o else without_jump o

@@ -137,11 +137,11 @@ any_acts tokens = list_any (λ t. acts t.kind) tokens
 abbrev pub is_idle : Taking → Bool
 is_idle t = if is_some t.label then false else (if is_some t.goto then false else (if any_acts t.tokens then false else true))
 
--- what a line comes to of which all was read
+-- what a line comes to of which all was read; what is found comes by its place
 abbrev pub outcome_for : (number : ℕ) → Taking → Outcome
 outcome_for number t =
     if t.refused then record { number = number; line = None; findings = t.findings }
-    else (if is_idle t then record { number = number; line = None; findings = t.findings ++ (finding number 0 Found.NoEffect ∷ []) }
+    else (if is_idle t then record { number = number; line = None; findings = finding number 0 Found.NoEffect ∷ t.findings }
     else record { number = number; line = Some (record { number = number; tokens = in_order t.tokens; label = t.label; goto = t.goto }); findings = t.findings })
 
 -- what a line of the file comes to

@@ -9,8 +9,8 @@ ghost use Rattle.hwdb_rulefiles.specs.LineViews.{outcome_of};
 ghost use Rattle.hwdb_rulefiles.specs.LineViews.{line_of, line_view};
 ghost use Rattle.hwdb_rulefiles.specs.Internal.{AreLabels, knows};
 
-use crate::findings::{Finding, FindingKind};
-use crate::lines::{Outcome, RuleLine, any_acts};
+use crate::findings::FindingKind;
+use crate::lines::{Outcome, RuleLine, any_acts, with_first};
 use std::alloc::{AllocError, Global};
 use std::collections::BTreeMap;
 
@@ -122,18 +122,13 @@ fn without_jump(alloc: Global, outcome: Outcome) -> Result<Outcome, AllocError>
     let Outcome {
         number,
         line,
-        mut findings,
+        findings,
     } = outcome;
-    findings.push(Finding {
-        line: number,
-        place: 0,
-        kind: FindingKind::NoLabel,
-    })?;
     let line = line_left(alloc, line);
     Ok(Outcome {
         number,
         line,
-        findings,
+        findings: with_first(alloc, number, FindingKind::NoLabel, &findings)?,
     })
 }
 

@@ -14,6 +14,7 @@
 //! | `parsed` | what a file says |
 //! | `findings` | what is wrong with a file, as data |
 //! | `spots` | the line and the column of a finding |
+//! | `hints` | how much a finding matters, and what to do about it |
 //! | `texts` | what is printed of findings |
 //! | `laws` | what is proved of the definitions alone, and worked rows |
 #![tactic(auto)]
@@ -21,6 +22,7 @@
 mod choice;
 mod escapes;
 mod findings;
+mod hints;
 mod jumps;
 mod keys;
 mod laws;
@@ -45,7 +47,8 @@ pub use laws::{
 pub use lines::{Outcome, RuleLine};
 pub use pairs::Operator;
 pub use parsed::{Parsed, parse};
-pub use spots::{Spot, spots_of};
+pub use rows::rows_of;
+pub use spots::{Spot, spot_of, spots_of};
 pub use texts::report;
 pub use tokens::{Token, TokenKind, first_word, is_builtin};
 pub use whole::LINE_SIZE;

@@ -1,5 +1,5 @@
 //! What a line says, as `rule_add_line` of udev-rules.c puts it together.
-ghost use Rattle.std.specs.Prelude.{◌≡◌, ◌≤◌, ◌++◌, length, map, filter, not, IfOk, OnOk, Option};
+ghost use Rattle.std.specs.Prelude.{◌≡◌, ◌≤◌, ◌++◌, ◌∷◌, length, map, filter, not, IfOk, OnOk, Option};
 ghost use Rattle.std.specs.List.{prefix_len, list_any};
 ghost use Rattle.hwdb_rulefiles.specs.RuleLines;
 ghost use Rattle.hwdb_rulefiles.specs.Views.{whole_of};
@@ -292,11 +292,31 @@ pub fn any_acts(tokens: &[Token]) -> bool
     false
 }
 
-/// What a line comes to of which all was read.
+/// A finding of a whole line, and those of its pairs after it.
+pub fn with_first(
+    alloc: Global,
+    number: usize,
+    kind: FindingKind,
+    findings: &[Finding],
+) -> Result<Vec<Finding>, AllocError>
+    ensures { IfOk result (λ all. all.items
+        ≡ RuleLines.finding number 0 kind ∷ findings.now) }
+{
+    let mut all = Vec::new(alloc);
+    all.push(Finding {
+        line: number,
+        place: 0,
+        kind,
+    })?;
+    all.extend_from_slice(findings)?;
+    Ok(all)
+}
+
+/// What a line comes to of which all was read. What is found comes by its place.
 fn outcome_for(alloc: Global, number: usize, taking: Taking) -> Result<Outcome, AllocError>
     ensures { IfOk result (λ o. outcome_of o ≡ RuleLines.outcome_for number (taking_of taking)) }
 {
-    let mut findings = taking.findings;
+    let findings = taking.findings;
     if taking.refused {
         return Ok(Outcome {
             number,
@@ -305,15 +325,10 @@ fn outcome_for(alloc: Global, number: usize, taking: Taking) -> Result<Outcome, 
         });
     }
     if taking.label.is_none() && taking.goto.is_none() && !any_acts(&taking.tokens) {
-        findings.push(Finding {
-            line: number,
-            place: 0,
-            kind: FindingKind::NoEffect,
-        })?;
         return Ok(Outcome {
             number,
             line: None,
-            findings,
+            findings: with_first(alloc, number, FindingKind::NoEffect, &findings)?,
         });
     }
     let line = RuleLine {

@@ -1,4 +1,4 @@
--- What `check` prints of text files, how much it finds in them, and its status. Our choice.
+-- What `check` prints of text files and rules files, how much it finds in them, and its status. Our choice.
 use Rattle.std.specs.Prelude.{Bool, true, false, ℕ, List, Option, None, Some, [], ◌∷◌, ◌++◌, ◌+◌, ◌-◌, ◌^◌, ◌==◌, if◌then◌else◌, codes, filter, flat_map, length, nat_lt, not}
 use Rattle.std.specs.Fmt.{decimal}
 use Rattle.hwdb_spec.specs.Lines.{byte}
@@ -6,11 +6,11 @@ use Rattle.hwdb_spec.specs.Records.{assignments}
 use Rattle.std.specs.Option.{unwrap_or}
 use Rattle.std.specs.Str.{bytes_eq}
 use Rattle.hwdb_spec.specs.Folders.{Source}
-use Rattle.hwdb_spec_commands.specs.AllowedKinds.{file_findings}
 use Rattle.hwdb_spec_commands.specs.Baselines.{new_findings}
 use Rattle.hwdb_spec_commands.specs.Findings.{Finding, told}
 use Rattle.hwdb_spec_commands.specs.Given.{any_dash, is_dash}
 use Rattle.hwdb_spec_commands.specs.Logs.{log_text}
+use Rattle.hwdb_spec_commands.specs.RuleFindings.{findings_of, is_rules}
 use Rattle.hwdb_spec_commands.specs.declared.Tally.{Tally}
 use Rattle.hwdb_spec_commands.specs.declared.formats.Format.{Format}
 use Rattle.hwdb_spec_commands.specs.declared.formats.Format.TheVariants.{Github, Json as JsonLines, Patch, Sarif, Text as Reports}
@@ -19,14 +19,17 @@ use Rattle.hwdb_spec_commands.specs.declared.formats.Format.TheVariants.{Github,
 abbrev pub both : ℕ → ℕ → ℕ
 both m n = if nat_lt (m + n) (2 ^ 64) then m + n else 2 ^ 64 - 1
 
--- of one file how many assignments it has
-abbrev pub tally_of : List ℕ → Tally
-tally_of file = record {
-  files = 1;
-  assignments = length (assignments (record { path = []; priority = 1 }) file);
-  faults = 0;
-  warnings = 0;
-}
+-- of one file: it has so many assignments
+abbrev pub one_file : (assigned : ℕ) → Tally
+one_file assigned = record { files = 1; assignments = assigned; faults = 0; warnings = 0 }
+
+-- of one text file how many assignments it has
+abbrev pub text_tally : (file : List ℕ) → Tally
+text_tally file = one_file (length (assignments (record { path = []; priority = 1 }) file))
+
+-- the same of a file with this path; a rules file has none
+abbrev pub tally_of : (path file : List ℕ) → Tally
+tally_of path file = if is_rules path then one_file 0 else text_tally file
 
 -- what is in some files, and in more
 abbrev pub tally_of_both : Tally → Tally → Tally
@@ -44,7 +47,7 @@ empty_tally = record { files = 0; assignments = 0; faults = 0; warnings = 0 }
 -- how much is in some files, the later ones counted to the earlier ones
 abbrev pub tally_from : Tally → List Source → Tally
 tally_from so_far [] = so_far
-tally_from so_far (s ∷ more) = tally_from (tally_of_both so_far (tally_of s.bytes)) more
+tally_from so_far (s ∷ more) = tally_from (tally_of_both so_far (tally_of s.name s.bytes)) more
 
 -- the same with how many faults and warnings these findings are
 abbrev pub with_found : Tally → List Finding → Tally
@@ -88,7 +91,7 @@ ended Patch t findings = findings
 
 -- the findings of some files, one file after another; the name of each is the path that is printed
 abbrev pub all_findings : Format → (allowed : List (List ℕ)) → List Source → List Finding
-all_findings format allowed files = flat_map (λ s. file_findings format allowed s.name s.bytes) files
+all_findings format allowed files = flat_map (λ s. findings_of format allowed s.name s.bytes) files
 
 -- those that a baseline doesn't have
 abbrev pub told_findings : Format → (allowed known : List (List ℕ)) → List Source → List Finding

@@ -20,6 +20,7 @@ pub mod Logs
 pub mod Fixes
 pub mod Findings
 pub mod AllowedKinds
+pub mod RuleFindings
 pub mod Baselines
 pub mod Checks
 pub mod Once

@@ -8,10 +8,11 @@ use Rattle.std.specs.Option.{option_or, unwrap_or}
 use Rattle.hwdb_spec.specs.Folders.{Source, same}
 use Rattle.hwdb_spec.specs.Lines.{Line, byte, has, is, is_none, lines}
 use Rattle.hwdb_spec.specs.Visible.{shown_name}
-use Rattle.hwdb_spec_commands.specs.AllowedKinds.{ends_record, file_findings}
+use Rattle.hwdb_spec_commands.specs.AllowedKinds.{ends_record}
 use Rattle.hwdb_spec_commands.specs.Baselines.{mark_of, new_findings}
 use Rattle.hwdb_spec_commands.specs.Checks.{both, check_status, check_text, count_text, format_of, told_tally}
 use Rattle.hwdb_spec_commands.specs.Findings.{Finding}
+use Rattle.hwdb_spec_commands.specs.RuleFindings.{findings_of}
 use Rattle.hwdb_spec_commands.specs.declared.formats.Format.{Format}
 use Rattle.hwdb_spec_commands.specs.declared.formats.Format.TheVariants.{Json as JsonLines, Patch}
 
@@ -262,7 +263,7 @@ with_file so_far path file m = record {
 abbrev pub patched_from : Patched → (allowed : List (List ℕ)) → List Source → Patched
 patched_from so_far allowed [] = so_far
 patched_from so_far allowed (s ∷ more) =
-    patched_from (with_file so_far s.name s.bytes (mended (file_findings JsonLines allowed s.name) s.bytes)) allowed more
+    patched_from (with_file so_far s.name s.bytes (mended (findings_of JsonLines allowed s.name) s.bytes)) allowed more
 
 -- that of some files; the name of each is the path that is printed
 abbrev pub patched : (allowed : List (List ℕ)) → List Source → Patched

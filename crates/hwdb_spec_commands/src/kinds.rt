@@ -26,3 +26,7 @@ dead-pattern
 unlikely-pattern
 too-long-for-udev
 fragile-pattern";
+
+/// The names of the kinds of remarks on rules files, a line each.
+pub const RULE_KINDS: &str = "taken-as-set
+no-separator";

@@ -26,6 +26,7 @@
 //! | `Fixes` | lines as they were likely meant, of which a warning is told |
 //! | `Findings` | what `check` prints of a finding, in each format |
 //! | `AllowedKinds` | comments that let kinds of warnings pass in their record, and what they leave |
+//! | `RuleFindings` | what `check` finds in udev's rules files |
 //! | `Baselines` | findings that are let pass since a baseline has them |
 //! | `Checks` | what `check` prints, how much it finds, and its status |
 //! | `Once` | some assignments, each once |
@@ -124,7 +125,7 @@ pub use form::Form;
 pub use formats::{FORMATS, Format};
 use hwdb_spec::Judgement;
 pub use job::{Job, Task, WordsFault};
-pub use kinds::KINDS;
+pub use kinds::{KINDS, RULE_KINDS};
 pub use refusals::Refusal;
 pub use unread::Unread;
 pub use vocabulary::{

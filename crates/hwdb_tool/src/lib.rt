@@ -93,7 +93,7 @@ pub use every_device::devices;
 pub use failures::{counts_tell_failures, faultless_words_begin, faulty_update_leaves_all};
 pub use hiding::update_telling;
 pub use hwdb_answers::{ToolError, ask, run_list, run_query, run_update};
-pub use hwdb_check::KINDS;
+pub use hwdb_check::{KINDS, RULE_KINDS};
 pub use hwdb_cli::{Job, Task, WordsFault, diff_fault, format_fault, kind_fault, read_words};
 pub use hwdb_io::{
     Cause, DeviceFailed, FromRead, Sink, Source, ToWrite, read_all, testing, write_text,

@@ -8,7 +8,7 @@ pub loop-file-preserved : goal.loop-file-preserved
 loop-file-preserved c = record {
   found = found_step c.args.telling.now.format (map string_bytes c.args.telling.now.allowed.now) c.args.files.now c.loop-file.file-index _ _ _ _ _ c.loop-file-test.true c.as_bytes.ensures.value c.in_ok-own.ensures.found c.in_ok-append.ensures.items
       c.loop-file.invariant.found;
-  tally = tally_step c.args.files.now c.loop-file.file-index _ _ _ _ c.loop-file-test.true c.in_ok-own.ensures.tally c.together-tally.ensures c.loop-file.invariant.tally;
+  tally = tally_step c.args.files.now c.loop-file.file-index _ _ _ _ _ c.loop-file-test.true c.as_bytes.ensures.value c.in_ok-own.ensures.tally c.together-tally.ensures c.loop-file.invariant.tally;
 }
 
 pub returns-in_err-own-clause-errors : goal.returns-in_err-own-clause-errors

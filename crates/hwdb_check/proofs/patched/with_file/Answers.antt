@@ -1,6 +1,6 @@
 use Rattle.std.proofs.Common.{◌≡◌, ◌∙◌, List, ap, map, subst, ℕ}
 use Rattle.std.specs.Prelude.{string_bytes}
-use Rattle.hwdb_spec_commands.specs.AllowedKinds.{file_findings}
+use Rattle.hwdb_spec_commands.specs.RuleFindings.{findings_of}
 use Rattle.hwdb_spec_commands.specs.Patches as spec
 use Rattle.hwdb_check.specs.Patching.{edits_of}
 use Rattle.hwdb_check.specs.Summed.{patched_of}
@@ -9,7 +9,7 @@ use Rattle.hwdb_check.proofs.patched.with_file.Goals as goal
 
 pub returns-clause-patched : goal.returns-clause-patched
 returns-clause-patched c =
-    let told = file_findings c.args.telling.now.format (map string_bytes c.args.telling.now.allowed.now) in
+    let told = findings_of c.args.telling.now.format (map string_bytes c.args.telling.now.allowed.now) in
     let bytes = c.args.file.now.bytes.now in
     let so_far = patched_of c.args.so_far in
     let path = c.as_bytes-path.result.now in
