@@ -129,10 +129,27 @@ pub struct DiffArgs {
     pub new: String,
     /// The paths of files that name devices; none if assignments are compared.
     pub devices: Vec<String>,
+    /// How they are compared, and what is printed.
+    pub review: ReviewArgs,
+}
+
+/// What the words of `diff` ask for besides its files.
+#[derive(Debug, Drop)]
+pub struct ReviewArgs {
     /// Whether as JSON.
     pub json: bool,
     /// Whether changes are counted by file and key.
     pub stat: bool,
+    /// The name of the text's form, if one is given.
+    pub format: Option<String>,
+    /// Whether the changes that no device meets are told.
+    pub verbose: bool,
+    /// The globs of the files that count; none if all do.
+    pub only: Vec<String>,
+    /// The globs of files that don't.
+    pub without: Vec<String>,
+    /// What the patterns that count begin with; none if all count.
+    pub prefixes: Vec<String>,
 }
 
 /// What the words of `verify` ask for.
