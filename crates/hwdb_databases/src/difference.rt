@@ -1,5 +1,5 @@
 //! `diff`: what came, went and changed from one database to another, of all that they assign, or for some devices.
-ghost use Rattle.std.specs.Prelude.{◌≡◌, ◌++◌, [], ℕ, List, None, Some, false, map, option_map, string_bytes, IfOk, IfErr, OnOk};
+ghost use Rattle.std.specs.Prelude.{◌≡◌, ◌++◌, [], ℕ, List, None, Some, false, map, option_map, IfOk, IfErr, OnOk};
 ghost use Rattle.hwdb_spec_commands.specs.ChangeCounts as spec;
 ghost use Rattle.hwdb_spec_commands.specs.ChangeCounts.{no_stat, stat_form, with_changes};
 ghost use Rattle.hwdb_spec_commands.specs.ChangeForms.{changes_form, changes_lines, device_changes_form};
@@ -11,7 +11,6 @@ ghost use Rattle.hwdb_spec.specs.Written.{IsCompiled};
 ghost use Rattle.hwdb_spec_commands.specs.Differences.{are_some};
 ghost use Rattle.hwdb_spec_commands.specs.Databases.{IsDiffText, IsDifferent};
 ghost use Rattle.hwdb_spec_commands.specs.DiffErrors.{IsDiffRefusal};
-ghost use Rattle.hwdb_spec_commands.specs.Reviews as reviews;
 ghost use Rattle.hwdb_spec_commands.specs.Reviews.{review_in};
 ghost use Rattle.hwdb_databases.specs.Internal.Unmet.{left_end, left_said};
 ghost use Rattle.hwdb_databases.specs.Views.{change_shown, held_shown};
@@ -49,16 +48,6 @@ struct Told {
     differ: bool,
 }
 
-/// Whether the word after `--format` asks for lines.
-fn asks_lines(format: &Option<String>) -> bool
-    ensures { result ≡ reviews.asks_lines (option_map string_bytes format.now) }
-{
-    match format {
-        Some(name) => name.as_str() == "lines",
-        None => false,
-    }
-}
-
 /// Adds changes by record, or a line for each. The only error, here and below, is `AllocError`.
 fn push_text(
     lines: bool,
@@ -88,7 +77,7 @@ fn form_of_changes(
     if review.json {
         push_json(alloc, &mut text, changes)?;
     } else {
-        push_text(asks_lines(&review.format), &mut text, changes)?;
+        push_text(review.asks_lines(), &mut text, changes)?;
     }
     Ok(text)
 }

@@ -1,4 +1,6 @@
 //! What the words of each command ask for.
+ghost use Rattle.std.specs.Prelude.{◌≡◌};
+ghost use Rattle.hwdb_spec_commands.specs.Reviews.{review_in};
 
 /// What the words of `update` ask for.
 #[derive(Debug, Drop)]
@@ -150,6 +152,18 @@ pub struct ReviewArgs {
     pub without: Vec<String>,
     /// What the patterns that count begin with; none if all count.
     pub prefixes: Vec<String>,
+}
+
+impl ReviewArgs {
+    /// Whether each change has a line of its own: the word after `--format` is `lines`.
+    pub fn asks_lines(&self) -> bool
+        ensures { result ≡ (review_in self.now).lines }
+    {
+        match &self.format {
+            Some(name) => name.as_str() == "lines",
+            None => false,
+        }
+    }
 }
 
 /// What the words of `verify` ask for.
