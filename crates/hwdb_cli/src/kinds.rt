@@ -1,8 +1,14 @@
-//! The kinds of warnings that `check --allow` names, and the formats that `check --format` does.
+//! The kinds of warnings that `check --allow` names, and the formats that `check --format` and `diff --format` do.
 use crate::tips::ALIKE;
-use hwdb_spec_commands::{FORMATS, Task};
+use hwdb_spec_commands::{CheckArgs, FORMATS, ReviewArgs, Task};
 use std::alloc::{AllocError, Global};
 use strsim::jaro;
+
+/// What `check --format` takes.
+const CHECK_FORMATS: &str = "text, json, github, sarif";
+
+/// What `diff --format` takes.
+const DIFF_FORMATS: &str = "grouped, lines";
 
 /// Whether a name is one of those in some lists, a line each.
 fn is_kind(name: &str, kinds: &[&str]) -> bool {
@@ -46,13 +52,41 @@ fn likely_kind<'k>(
     Ok(found)
 }
 
-/// What is said of a name that is none of a format.
-fn format_text(alloc: Global, name: &str) -> Result<String, AllocError> {
+/// What is said of a name that is none of a command's formats, which are these.
+fn format_text(
+    alloc: Global,
+    name: &str,
+    formats: &str,
+    command: &str,
+) -> Result<String, AllocError> {
     let mut text = String::new(alloc);
     writeln!(text, "error: --format takes no '{name}'\n")?;
-    text.push_str("  [possible values: text, json, github, sarif]\n\n")?;
-    text.push_str("For more information, try 'hwdb check --help'.\n")?;
+    writeln!(text, "  [possible values: {formats}]\n")?;
+    writeln!(text, "For more information, try 'hwdb {command} --help'.")?;
     Ok(text)
+}
+
+/// The word after `--format`, if it names none of the formats of `check`.
+fn unknown_of_check(args: &CheckArgs) -> Option<&str> {
+    let Some(name) = &args.format else {
+        return None;
+    };
+    if FORMATS.contains(&name.as_str()) {
+        return None;
+    }
+    Some(name.as_str())
+}
+
+/// The same of `diff`.
+fn unknown_of_diff(args: &ReviewArgs) -> Option<&str> {
+    let Some(name) = &args.format else {
+        return None;
+    };
+    match name.as_str() {
+        "grouped" => None,
+        "lines" => None,
+        other => Some(other),
+    }
 }
 
 /// What is said of a name that is none of a kind.
@@ -119,14 +153,15 @@ pub fn diff_fault(alloc: Global, task: &Task) -> Result<Option<String>, AllocErr
 ///
 /// The only error is want of memory.
 pub fn format_fault(alloc: Global, task: &Task) -> Result<Option<String>, AllocError> {
-    let Task::Check(args) = task else {
-        return Ok(None);
-    };
-    let Some(name) = &args.format else {
-        return Ok(None);
-    };
-    if FORMATS.contains(&name.as_str()) {
-        return Ok(None);
+    if let Task::Check(args) = task {
+        if let Some(name) = unknown_of_check(args) {
+            return Ok(Some(format_text(alloc, name, CHECK_FORMATS, "check")?));
+        }
     }
-    Ok(Some(format_text(alloc, name.as_str())?))
+    if let Task::Diff(args) = task {
+        if let Some(name) = unknown_of_diff(&args.review) {
+            return Ok(Some(format_text(alloc, name, DIFF_FORMATS, "diff")?));
+        }
+    }
+    Ok(None)
 }

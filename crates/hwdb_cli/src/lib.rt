@@ -33,7 +33,7 @@ pub use args::read_words;
 pub use command::hwdb_command;
 pub use hwdb_spec_commands::{
     AskArgs, CheckArgs, DeviceArgs, DiffArgs, DumpArgs, ExplainArgs, Job, KeysArgs, ListArgs,
-    NearArgs, QueryArgs, RecordArgs, ScanArgs, StatusArgs, Task, TestArgs, UpdateArgs, VerifyArgs,
-    WordsFault,
+    NearArgs, QueryArgs, RecordArgs, ReviewArgs, ScanArgs, StatusArgs, Task, TestArgs, UpdateArgs,
+    VerifyArgs, WordsFault,
 };
 pub use kinds::{diff_fault, format_fault, kind_fault};

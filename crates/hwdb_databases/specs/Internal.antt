@@ -8,6 +8,7 @@ pub mod Pairing
 pub mod Meeting
 pub mod Counting
 pub mod Forms
+pub mod Unmet
 pub mod Counts
 pub mod Plain
 pub mod Holding

@@ -1,5 +1,5 @@
 -- What the types of this crate mean.
-use Rattle.std.specs.Prelude.{List, [], map, option_map, ◌∷◌}
+use Rattle.std.specs.Prelude.{List, None, Option, Some, [], map, option_map, ◌∷◌}
 use Rattle.hwdb_spec.specs.Assignment.{Assignment}
 use Rattle.hwdb_spec_commands.specs.Differences.{Change, change_between}
 use Rattle.hwdb_spec_commands.specs.Differences.Change.{Came, Went, Changed}
@@ -14,6 +14,8 @@ use Rattle.hwdb_databases.specs.declared.freshness.State.TheVariants.{Alike, Bro
 use Rattle.hwdb_databases.specs.declared.reports.Report.{Report}
 use Rattle.hwdb_databases.specs.declared.pairs.Pair.{Pair}
 use Rattle.hwdb_databases.specs.declared.pairs.Pair.TheVariants.{Old, New, Both}
+use Rattle.hwdb_databases.specs.declared.held.Held.{Held}
+use Rattle.hwdb_databases.specs.declared.held.Held.TheVariants as held
 use Rattle.hwdb_databases.specs.declared.summary.Counts.{Counts}
 
 abbrev pub assignment_of : StoredAssignment → Assignment
@@ -30,6 +32,17 @@ abbrev pub change_shown : Pair → Change
 change_shown (Old old) = Went (assignment_of old.now)
 change_shown (New new) = Came (assignment_of new.now)
 change_shown (Both old new) = Changed (assignment_of old.now) (assignment_of new.now)
+
+-- the change that is held
+abbrev pub held_shown : Held → Change
+held_shown (held.Old old) = Went (assignment_of old)
+held_shown (held.New new) = Came (assignment_of new)
+held_shown (held.Both old new) = Changed (assignment_of old) (assignment_of new)
+
+-- none, or the one that is held
+abbrev pub held_of : Option Held → List Change
+held_of None = []
+held_of (Some change) = held_shown change ∷ []
 
 abbrev pub summary_shown : Counts → Summary
 summary_shown c = record {

@@ -1,20 +1,18 @@
 //! How many changes there are, by file and by key.
-ghost use Rattle.std.specs.Prelude.{◌≡◌, map, IfOk, None, OnOk, Some};
+ghost use Rattle.std.specs.Prelude.{◌≡◌, map, IfOk, OnOk, Some};
 ghost use Rattle.hwdb_spec_commands.specs.ChangeCounts as spec;
-ghost use Rattle.hwdb_spec_commands.specs.ChangeCounts.{changed_key, changed_path, counted, no_count, no_stat, with_change, with_changes, with_device};
+ghost use Rattle.hwdb_spec_commands.specs.ChangeCounts.{changed_file, changed_key, counted, no_count, no_stat, with_change, with_changes, with_device, with_told};
 ghost use Rattle.hwdb_spec_commands.specs.Checks.{both};
-ghost use Rattle.hwdb_spec_commands.specs.Comparisons.{has_changed};
-ghost use Rattle.hwdb_spec_commands.specs.DeviceDifferences.{device_differences};
+ghost use Rattle.hwdb_spec_commands.specs.Comparisons.{device_changes, has_changed};
 ghost use Rattle.hwdb_spec_commands.specs.Differences.{are_some};
-ghost use Rattle.hwdb_spec.specs.Tree.{IsTree};
-ghost use Rattle.hwdb_databases.specs.Views.{change_shown, changes_of};
+ghost use Rattle.hwdb_spec_commands.specs.Reviews.{review_in};
+ghost use Rattle.hwdb_databases.specs.Views.{change_shown};
 ghost use Rattle.hwdb_databases.specs.Internal.Counts.{count_shown, counts_shown, stat_shown};
-ghost use Rattle.hwdb_databases.specs.Internal.Pairing.{to_tell};
 
 use crate::gifts::gifts;
-use crate::pairs::{Pair, Pairs, change_in};
-use crate::walk::assignments;
-use hwdb_reader::Db;
+use crate::pairs::{Pair, Pairs, Sides};
+use crate::reviewing::{base_name, counting_changes};
+use hwdb_spec_commands::ReviewArgs;
 use std::alloc::{AllocError, Global};
 use std::collections::BTreeMap;
 
@@ -33,8 +31,6 @@ pub(crate) struct Stat<'a> {
     pub keys: BTreeMap<&'a [u8], Count>,
     pub total: Count,
     pub devices: u64,
-    /// Whether there is a change.
-    pub differ: bool,
 }
 
 /// One more, at most the greatest number.
@@ -83,14 +79,14 @@ fn one_more(change: Pair<'_, '_>, count: Count) -> Count
     }
 }
 
-/// The file of a change: that of the new assignment, or of one that went.
-fn path_of<'a>(change: Pair<'_, 'a>) -> &'a [u8]
-    ensures { result.now ≡ changed_path (change_shown change.entry) }
+/// The name of a change's file: that of the new assignment, or of one that went.
+fn file_of<'a>(change: Pair<'_, 'a>) -> &'a [u8]
+    ensures { result.now ≡ changed_file (change_shown change.entry) }
 {
     match change {
-        Pair::Old(old) => old.path,
-        Pair::New(new) => new.path,
-        Pair::Both(_, new) => new.path,
+        Pair::Old(old) => base_name(old.path),
+        Pair::New(new) => base_name(new.path),
+        Pair::Both(_, new) => base_name(new.path),
     }
 }
 
@@ -127,37 +123,21 @@ fn add_change<'a>(stat: &mut Stat<'a>, change: Pair<'_, 'a>) -> Result<(), Alloc
     ensures { OnOk result
         (stat_shown stat.new ≡ with_change (stat_shown stat.old) (change_shown change.entry)) }
 {
-    count_one(&mut stat.files, path_of(change), change)?;
+    count_one(&mut stat.files, file_of(change), change)?;
     count_one(&mut stat.keys, key_of(change), change)?;
     stat.total = one_more(change, stat.total);
     Ok(())
 }
 
-/// Counts what happened at a pattern and key, and answers whether something did.
-fn add_pair<'a>(stat: &mut Stat<'a>, pair: Pair<'_, 'a>) -> Result<bool, AllocError>
-    ensures stat { OnOk result
-        (stat_shown stat.new ≡ with_changes (stat_shown stat.old) (changes_of pair.entry)) }
-    ensures differs { IfOk result (λ differs. differs ≡ are_some (changes_of pair.entry)) }
+/// Counts some changes more.
+fn add_changes<'a>(stat: &mut Stat<'a>, changes: &[Pair<'_, 'a>]) -> Result<(), AllocError>
+    ensures { OnOk result (stat_shown stat.new
+        ≡ with_changes (stat_shown stat.old) (map change_shown changes.now)) }
 {
-    let Some(change) = change_in(pair) else {
-        return Ok(false);
-    };
-    add_change(stat, change)?;
-    Ok(true)
-}
-
-/// Counts the changes that are left, and answers whether there is one.
-fn add_pairs<'a>(stat: &mut Stat<'a>, pairs: Pairs<'_, 'a>) -> Result<bool, AllocError>
-    ensures stat { OnOk result
-        (stat_shown stat.new ≡ with_changes (stat_shown stat.old) (to_tell pairs.entry)) }
-    ensures differs { IfOk result (λ differs. differs ≡ are_some (to_tell pairs.entry)) }
-{
-    let mut left = pairs;
-    let mut differ = false;
-    'pairs: while let Some(pair) = left.next() {
-        differ |= add_pair(stat, pair)?;
+    for change in changes {
+        add_change(stat, *change)?;
     }
-    Ok(differ)
+    Ok(())
 }
 
 /// The counts of no change.
@@ -169,26 +149,19 @@ fn empty<'a>(alloc: Global) -> Stat<'a>
         keys: BTreeMap::new(alloc),
         total: nothing(),
         devices: 0,
-        differ: false,
     }
 }
 
-/// The counts of what changed from one database to another.
-pub(crate) fn stat_between<'a>(
+/// The counts of some changes.
+pub(crate) fn stat_of<'a>(
     alloc: Global,
-    old: &Db<'a>,
-    new: &Db<'a>,
+    changes: &[Pair<'_, 'a>],
 ) -> Result<Stat<'a>, AllocError>
-    requires old { IsTree old.now }
-    requires new { IsTree new.now }
-    ensures stat { IfOk result (λ stat. stat_shown stat ≡ spec.stat_of None old.now new.now) }
-    ensures differ { IfOk result (λ stat. stat.differ ≡ has_changed None old.now new.now) }
+    ensures { IfOk result
+        (λ stat. stat_shown stat ≡ with_changes no_stat (map change_shown changes.now)) }
 {
-    let old_ones = assignments(alloc, old)?;
-    let new_ones = assignments(alloc, new)?;
     let mut stat = empty(alloc);
-    let differ = add_pairs(&mut stat, Pairs::new(&old_ones, &new_ones))?;
-    stat.differ = differ;
+    add_changes(&mut stat, changes)?;
     Ok(stat)
 }
 
@@ -201,44 +174,52 @@ fn add_device(stat: &mut Stat<'_>, differs: bool)
     }
 }
 
-/// Counts what changed for a device from one database to another, and answers whether something did.
-fn count_device<'a>(
-    alloc: Global,
-    stat: &mut Stat<'a>,
-    old: &Db<'a>,
-    new: &Db<'a>,
-    device: &[u8],
-) -> Result<bool, AllocError>
-    ensures stat { OnOk result (stat_shown stat.new
-        ≡ with_device (are_some (device_differences device.now old.now new.now))
-        (with_changes (stat_shown stat.old) (device_differences device.now old.now new.now))) }
-    ensures differs { IfOk result
-        (λ differs. differs ≡ are_some (device_differences device.now old.now new.now)) }
+/// Counts what changed for a device, and the device if something did.
+fn add_told<'a>(stat: &mut Stat<'a>, changes: &[Pair<'_, 'a>]) -> Result<(), AllocError>
+    ensures { OnOk result (stat_shown stat.new
+        ≡ with_told (stat_shown stat.old) (map change_shown changes.now)) }
 {
-    let old_ones = gifts(alloc, old, device)?;
-    let new_ones = gifts(alloc, new, device)?;
-    let differs = add_pairs(stat, Pairs::new(&old_ones, &new_ones))?;
-    add_device(stat, differs);
-    Ok(differs)
+    add_changes(stat, changes)?;
+    add_device(stat, !changes.is_empty());
+    Ok(())
 }
 
-/// The counts of what changed for some devices from one database to another.
+/// The same of a device, from one database to another. Answers whether something did.
+fn count_device<'a>(
+    alloc: Global,
+    review: &ReviewArgs,
+    stat: &mut Stat<'a>,
+    sides: Sides<'_, 'a>,
+    device: &[u8],
+) -> Result<bool, AllocError>
+    ensures stat { OnOk result (stat_shown stat.new ≡ with_told (stat_shown stat.old)
+        (device_changes (review_in review.now) sides.old.now sides.new.now device.now)) }
+    ensures differs { IfOk result (λ differs. differs ≡ are_some
+        (device_changes (review_in review.now) sides.old.now sides.new.now device.now)) }
+{
+    let old_ones = gifts(alloc, sides.old, device)?;
+    let new_ones = gifts(alloc, sides.new, device)?;
+    let changes = counting_changes(alloc, review, Pairs::new(&old_ones, &new_ones))?;
+    add_told(stat, &changes)?;
+    Ok(!changes.is_empty())
+}
+
+/// The counts of what changed for some devices, and whether something did.
 pub(crate) fn device_stat<'a>(
     alloc: Global,
-    old: &Db<'a>,
-    new: &Db<'a>,
+    review: &ReviewArgs,
+    sides: Sides<'_, 'a>,
     devices: &[&[u8]],
-) -> Result<Stat<'a>, AllocError>
-    ensures stat { IfOk result (λ stat. stat_shown stat
-        ≡ spec.stat_of (Some (map (λ d. d.now) devices.now)) old.now new.now) }
-    ensures differ { IfOk result (λ stat. stat.differ
-        ≡ has_changed (Some (map (λ d. d.now) devices.now)) old.now new.now) }
+) -> Result<(Stat<'a>, bool), AllocError>
+    ensures stat { IfOk result (λ found. stat_shown found.0 ≡ spec.stat_of (review_in review.now)
+        (Some (map (λ d. d.now) devices.now)) sides.old.now sides.new.now) }
+    ensures differ { IfOk result (λ found. found.1 ≡ has_changed (review_in review.now)
+        (Some (map (λ d. d.now) devices.now)) sides.old.now sides.new.now) }
 {
     let mut stat = empty(alloc);
     let mut differ = false;
     for device in devices {
-        differ |= count_device(alloc, &mut stat, old, new, *device)?;
+        differ |= count_device(alloc, review, &mut stat, sides, *device)?;
     }
-    stat.differ = differ;
-    Ok(stat)
+    Ok((stat, differ))
 }

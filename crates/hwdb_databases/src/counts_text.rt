@@ -71,7 +71,6 @@ fn lines_of(alloc: Global, of_devices: bool, stat: Stat<'_>) -> Result<Vec<u8>, 
         keys,
         total,
         devices,
-        ..
     } = stat;
     push_lines(&mut text, files)?;
     text.push(b'\n')?;
@@ -181,10 +180,9 @@ fn put_stat(json: &mut Writer, of_devices: bool, stat: Stat<'_>) -> Result<(), A
         keys,
         total,
         devices,
-        ..
     } = stat;
     json.begin_object()?;
-    put_array(json, "files", "path", files)?;
+    put_array(json, "files", "file", files)?;
     put_array(json, "keys", "key", keys)?;
     put_total(json, total)?;
     put_devices(json, of_devices, devices)?;

@@ -1,16 +1,18 @@
-//! The lines of what changed for a device.
-ghost use Rattle.std.specs.Prelude.{◌≡◌, ◌++◌, ◌∷◌, OnOk, IfOk};
+//! The lines of what changed for a device, or at a pattern.
+ghost use Rattle.std.specs.Prelude.{◌≡◌, ◌++◌, ◌∷◌, map, option_map, None, OnOk};
+ghost use Rattle.hwdb_spec_commands.specs.ChangeForms.{grouped_after, heading, pattern_line};
 ghost use Rattle.hwdb_spec_commands.specs.DeviceDifferences.{device_changes_text, told_change, told_changes};
-ghost use Rattle.hwdb_spec_commands.specs.Differences.{are_some, origin_text};
+ghost use Rattle.hwdb_spec_commands.specs.Differences.{origin_text};
 ghost use Rattle.hwdb_spec_commands.specs.Differences.Change.{Came, Went, Changed};
 ghost use Rattle.hwdb_spec.specs.Lines.{byte};
-ghost use Rattle.hwdb_databases.specs.Views.{assignment_of, change_shown, changes_of};
-ghost use Rattle.hwdb_databases.specs.Internal.Pairing.{to_tell};
+ghost use Rattle.hwdb_databases.specs.Views.{assignment_of, change_shown};
 
+use crate::json_changes::pattern_of;
 use crate::lines::push_origin;
-use crate::pairs::{Pair, Pairs, change_in};
+use crate::pairs::Pair;
+use crate::texts::is_same;
 use hwdb_query::StoredAssignment;
-use std::alloc::{AllocError, Global};
+use std::alloc::AllocError;
 
 /// Adds a sign, a tab, and an assignment. The only error, here and below, is `AllocError`.
 fn push_marked(text: &mut Vec<u8>, sign: u8, f: &StoredAssignment<'_>) -> Result<(), AllocError>
@@ -71,50 +73,85 @@ fn push_change(text: &mut Vec<u8>, change: Pair<'_, '_>) -> Result<(), AllocErro
     }
 }
 
-/// Adds the line of what happened at a key, and answers whether something did.
-fn push_told(text: &mut Vec<u8>, pair: Pair<'_, '_>) -> Result<bool, AllocError>
-    ensures text { OnOk result
-        (text.new.items ≡ text.old.items ++ told_changes (changes_of pair.entry)) }
-    ensures differs { IfOk result (λ differs. differs ≡ are_some (changes_of pair.entry)) }
+/// Adds the line of a change.
+fn push_told(text: &mut Vec<u8>, change: Pair<'_, '_>) -> Result<(), AllocError>
+    ensures { OnOk result
+        (text.new.items ≡ text.old.items ++ told_change (change_shown change.entry)) }
 {
-    let Some(change) = change_in(pair) else {
-        return Ok(false);
-    };
-    push_change(text, change)?;
-    Ok(true)
-}
-
-/// Adds the lines of the changes that are left, and answers whether there is one.
-fn push_all(text: &mut Vec<u8>, pairs: Pairs<'_, '_>) -> Result<bool, AllocError>
-    ensures text { OnOk result
-        (text.new.items ≡ text.old.items ++ told_changes (to_tell pairs.entry)) }
-    ensures differs { IfOk result (λ differs. differs ≡ are_some (to_tell pairs.entry)) }
-{
-    let mut left = pairs;
-    let mut differ = false;
-    'pairs: while let Some(pair) = left.next() {
-        differ |= push_told(text, pair)?;
+    match change {
+        Pair::Old(old) => push_went(text, old),
+        Pair::New(new) => push_came(text, new),
+        Pair::Both(old, new) => push_changed(text, old, new),
     }
-    Ok(differ)
 }
 
-/// Adds a device on a line, and below it the lines of what changed for it, if something did, and answers whether something did.
+/// Adds a device, or a pattern, on a line.
+fn push_heading(text: &mut Vec<u8>, name: &[u8]) -> Result<(), AllocError>
+    ensures { OnOk result (text.new.items ≡ text.old.items ++ pattern_line name.now) }
+{
+    text.extend_from_slice(name)?;
+    text.push(b'\n')?;
+    Ok(())
+}
+
+/// Adds a line for each change.
+fn push_all(text: &mut Vec<u8>, changes: &[Pair<'_, '_>]) -> Result<(), AllocError>
+    ensures { OnOk result
+        (text.new.items ≡ text.old.items ++ told_changes (map change_shown changes.now)) }
+{
+    for change in changes {
+        push_told(text, *change)?;
+    }
+    Ok(())
+}
+
+/// Adds a device on a line, and below it a line for each of its changes, if there are some.
 pub(crate) fn push_device(
-    alloc: Global,
     text: &mut Vec<u8>,
     device: &[u8],
-    pairs: Pairs<'_, '_>,
-) -> Result<bool, AllocError>
-    ensures text { OnOk result (text.new.items ≡ text.old.items
-        ++ device_changes_text device.now (to_tell pairs.entry)) }
-    ensures differs { IfOk result (λ differs. differs ≡ are_some (to_tell pairs.entry)) }
+    changes: &[Pair<'_, '_>],
+) -> Result<(), AllocError>
+    ensures { OnOk result (text.new.items ≡ text.old.items
+        ++ device_changes_text device.now (map change_shown changes.now)) }
 {
-    let mut lines = Vec::new(alloc);
-    let differs = push_all(&mut lines, pairs)?;
-    if differs {
-        text.extend_from_slice(device)?;
-        text.push(b'\n')?;
-        text.extend_from_slice(&lines)?;
+    if changes.is_empty() {
+        return Ok(());
     }
-    Ok(differs)
+    push_heading(text, device)?;
+    push_all(text, changes)
+}
+
+/// Adds the pattern of a change on a line, if the change before it hasn't the same.
+fn push_new_heading(
+    text: &mut Vec<u8>,
+    last: Option<&[u8]>,
+    pattern: &[u8],
+) -> Result<(), AllocError>
+    ensures { OnOk result (text.new.items
+        ≡ text.old.items ++ heading (option_map (λ t. t.now) last.entry) pattern.now) }
+{
+    if let Some(before) = last {
+        if is_same(before, pattern) {
+            return Ok(());
+        }
+    }
+    push_heading(text, pattern)
+}
+
+/// Adds changes by record: each pattern once, and below it a line for each change.
+pub(crate) fn push_grouped(
+    text: &mut Vec<u8>,
+    changes: &[Pair<'_, '_>],
+) -> Result<(), AllocError>
+    ensures { OnOk result
+        (text.new.items ≡ text.old.items ++ grouped_after None (map change_shown changes.now)) }
+{
+    let mut last = None;
+    for change in changes {
+        let pattern = pattern_of(*change);
+        push_new_heading(text, last, pattern)?;
+        push_told(text, *change)?;
+        last = Some(pattern);
+    }
+    Ok(())
 }

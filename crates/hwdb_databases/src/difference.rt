@@ -1,29 +1,33 @@
 //! `diff`: what came, went and changed from one database to another, of all that they assign, or for some devices.
-ghost use Rattle.std.specs.Prelude.{◌≡◌, ◌++◌, ℕ, List, None, Some, flat_map, true, map, IfOk, IfErr, OnOk};
-ghost use Rattle.std.specs.List.{list_any};
-ghost use Rattle.hwdb_spec_commands.specs.Comparisons.{changes_form, comparison_form, comparison_text, device_changes_form, has_changed};
-ghost use Rattle.hwdb_spec_commands.specs.DeviceDifferences.{device_differences};
+ghost use Rattle.std.specs.Prelude.{◌≡◌, ◌++◌, [], ℕ, List, None, Some, false, map, option_map, IfOk, IfErr, OnOk};
+ghost use Rattle.hwdb_spec_commands.specs.ChangeCounts as spec;
+ghost use Rattle.hwdb_spec_commands.specs.ChangeCounts.{no_stat, stat_form, with_changes};
+ghost use Rattle.hwdb_spec_commands.specs.ChangeForms.{changes_form, changes_lines, device_changes_form};
+ghost use Rattle.hwdb_spec_commands.specs.Comparisons.{assigned_changes, comparison_form, comparison_lines, comparison_said, comparison_text, device_changes, files_diff_form, has_changed};
 ghost use Rattle.hwdb_spec.specs.Folders.{Source};
 ghost use Rattle.hwdb_spec.specs.Format.{IsDatabase};
-ghost use Rattle.hwdb_spec.specs.Tree.{Tree, IsTree, map_of_files};
+ghost use Rattle.hwdb_spec.specs.Tree.{Tree, IsTree};
 ghost use Rattle.hwdb_spec.specs.Written.{IsCompiled};
-ghost use Rattle.hwdb_spec_commands.specs.Differences.{are_some, differences};
+ghost use Rattle.hwdb_spec_commands.specs.Differences.{are_some};
 ghost use Rattle.hwdb_spec_commands.specs.Databases.{IsDiffText, IsDifferent};
 ghost use Rattle.hwdb_spec_commands.specs.DiffErrors.{IsDiffRefusal};
-ghost use Rattle.hwdb_databases.specs.Views.{changes_of};
-ghost use Rattle.hwdb_databases.specs.Internal.Forms.{change_form};
-ghost use Rattle.hwdb_databases.specs.Internal.Pairing.{to_tell};
+ghost use Rattle.hwdb_spec_commands.specs.Reviews.{review_in};
+ghost use Rattle.hwdb_databases.specs.Internal.Unmet.{left_end, left_said};
+ghost use Rattle.hwdb_databases.specs.Views.{change_shown, held_shown};
 
-use crate::counting::{device_stat, stat_between};
+use crate::counting::{device_stat, stat_of};
 use crate::counts_text::form_of;
-use crate::device_lines::push_device;
+use crate::device_lines::{push_device, push_grouped};
 use crate::gifts::gifts;
+use crate::held::{Held, pairs_of};
 use crate::json_changes::{push_device_json, push_json};
-use crate::lines::push_pair;
 use crate::meeting::changes_met;
-use crate::pairs::{Pair, Pairs};
+use crate::pairs::{Pair, Pairs, Sides};
+use crate::reviewing::counting_changes;
+use crate::unmet::{left_json, left_text, push_lines, unmet_changes};
 use hwdb_reader::{Db, check, law_ascending, law_one_tree};
 use hwdb_spec::DiffError;
+use hwdb_spec_commands::ReviewArgs;
 use std::alloc::{AllocError, Global};
 
 /// What changed from one database to another.
@@ -31,102 +35,283 @@ use std::alloc::{AllocError, Global};
 pub struct Changes {
     /// What is printed of it.
     pub text: Vec<u8>,
+    /// What is said besides: what the devices don't meet.
+    pub said: Vec<u8>,
     /// Whether there is a change.
     pub differ: bool,
 }
 
-/// Adds the line of what happened at a pattern and key, and answers whether something did. The only error, here and below, is
-/// `AllocError`.
-pub(crate) fn push_form(
-    alloc: Global,
-    json: bool,
+/// What is printed of devices, and whether there is a change.
+#[derive(Drop)]
+struct Told {
+    text: Vec<u8>,
+    differ: bool,
+}
+
+/// Adds changes by record, or a line for each. The only error, here and below, is `AllocError`.
+fn push_text(
+    lines: bool,
     text: &mut Vec<u8>,
-    pair: Pair<'_, '_>,
-) -> Result<bool, AllocError>
-    ensures text { OnOk result
-        (text.new.items ≡ text.old.items ++ flat_map (change_form json) (changes_of pair.entry)) }
-    ensures differs { IfOk result (λ differs. differs ≡ are_some (changes_of pair.entry)) }
+    changes: &[Pair<'_, '_>],
+) -> Result<(), AllocError>
+    ensures { OnOk result
+        (text.new.items ≡ text.old.items ++ changes_lines lines (map change_shown changes.now)) }
 {
-    if json {
-        push_json(alloc, text, pair)
+    if lines {
+        push_lines(text, changes)
     } else {
-        push_pair(text, pair)
+        push_grouped(text, changes)
     }
 }
 
-/// What changed from one database to another. Both ascend, so that one pass goes over the two side by side.
-fn changes_between(
+/// Changes as text or JSON.
+fn form_of_changes(
     alloc: Global,
-    json: bool,
-    old: &Db<'_>,
-    new: &Db<'_>,
-) -> Result<Changes, AllocError>
-    requires old { IsTree old.now }
-    requires new { IsTree new.now }
-    ensures text { IfOk result
-        (λ changes. changes.text.items ≡ comparison_text json None old.now new.now) }
-    ensures differ { IfOk result (λ changes. changes.differ ≡ has_changed None old.now new.now) }
+    review: &ReviewArgs,
+    changes: &[Pair<'_, '_>],
+) -> Result<Vec<u8>, AllocError>
+    ensures { IfOk result (λ text. text.items ≡ changes_form (review_in review.now).json
+        (review_in review.now).lines (map change_shown changes.now)) }
 {
-    changes_met(alloc, json, old.root(), new.root())
+    let mut text = Vec::new(alloc);
+    if review.json {
+        push_json(alloc, &mut text, changes)?;
+    } else {
+        push_text(review.asks_lines(), &mut text, changes)?;
+    }
+    Ok(text)
 }
 
-/// Adds what changed for a device, as text or JSON, and answers whether something did.
+/// How many changes there are, as text or JSON.
+fn counts_of_changes(
+    alloc: Global,
+    json: bool,
+    changes: &[Pair<'_, '_>],
+) -> Result<Vec<u8>, AllocError>
+    ensures { IfOk result (λ text. text.items
+        ≡ stat_form json None (with_changes no_stat (map change_shown changes.now))) }
+{
+    let stat = stat_of(alloc, changes)?;
+    form_of(alloc, json, false, stat)
+}
+
+/// The changes of assignments as they are asked for, or their number.
+fn told_of_changes(
+    alloc: Global,
+    review: &ReviewArgs,
+    changes: &[Pair<'_, '_>],
+) -> Result<Vec<u8>, AllocError>
+    ensures { IfOk result (λ text. (old new : Tree)
+        → map change_shown changes.now ≡ assigned_changes (review_in review.now) old new
+        → text.items ≡ comparison_lines (review_in review.now) None old new) }
+{
+    if review.stat {
+        counts_of_changes(alloc, review.json, changes)
+    } else {
+        form_of_changes(alloc, review, changes)
+    }
+}
+
+/// Adds what changed for a device, as text or JSON.
 fn push_device_form(
     alloc: Global,
     json: bool,
     text: &mut Vec<u8>,
     device: &[u8],
-    pairs: Pairs<'_, '_>,
-) -> Result<bool, AllocError>
-    ensures text { OnOk result (text.new.items ≡ text.old.items
-        ++ device_changes_form json device.now (to_tell pairs.entry)) }
-    ensures differs { IfOk result (λ differs. differs ≡ are_some (to_tell pairs.entry)) }
+    changes: &[Pair<'_, '_>],
+) -> Result<(), AllocError>
+    ensures { OnOk result (text.new.items ≡ text.old.items
+        ++ device_changes_form json device.now (map change_shown changes.now)) }
 {
     if json {
-        push_device_json(alloc, text, device, pairs)
+        push_device_json(alloc, text, device, changes)
     } else {
-        push_device(alloc, text, device, pairs)
+        push_device(text, device, changes)
     }
 }
 
 /// Adds what changed for a device from one database to another, and answers whether something did.
 fn compare_device(
     alloc: Global,
-    json: bool,
+    review: &ReviewArgs,
     text: &mut Vec<u8>,
-    old: &Db<'_>,
-    new: &Db<'_>,
+    sides: Sides<'_, '_>,
     device: &[u8],
 ) -> Result<bool, AllocError>
-    ensures text { OnOk result (text.new.items ≡ text.old.items ++ device_changes_form json
-        device.now (device_differences device.now old.now new.now)) }
-    ensures differs { IfOk result
-        (λ differs. differs ≡ are_some (device_differences device.now old.now new.now)) }
+    ensures text { OnOk result (text.new.items ≡ text.old.items
+        ++ device_changes_form (review_in review.now).json device.now
+        (device_changes (review_in review.now) sides.old.now sides.new.now device.now)) }
+    ensures differs { IfOk result (λ differs. differs ≡ are_some
+        (device_changes (review_in review.now) sides.old.now sides.new.now device.now)) }
 {
-    let old_ones = gifts(alloc, old, device)?;
-    let new_ones = gifts(alloc, new, device)?;
-    push_device_form(alloc, json, text, device, Pairs::new(&old_ones, &new_ones))
+    let old_ones = gifts(alloc, sides.old, device)?;
+    let new_ones = gifts(alloc, sides.new, device)?;
+    let changes = counting_changes(alloc, review, Pairs::new(&old_ones, &new_ones))?;
+    push_device_form(alloc, review.json, text, device, &changes)?;
+    Ok(!changes.is_empty())
 }
 
 /// What changed for some devices from one database to another.
-fn device_changes(
+fn lines_of_devices(
     alloc: Global,
-    json: bool,
-    old: &Db<'_>,
-    new: &Db<'_>,
+    review: &ReviewArgs,
+    sides: Sides<'_, '_>,
     devices: &[&[u8]],
-) -> Result<Changes, AllocError>
-    ensures text { IfOk result (λ changes. changes.text.items
-        ≡ comparison_text json (Some (map (λ d. d.now) devices.now)) old.now new.now) }
-    ensures differ { IfOk result (λ changes. changes.differ
-        ≡ has_changed (Some (map (λ d. d.now) devices.now)) old.now new.now) }
+) -> Result<Told, AllocError>
+    ensures text { IfOk result (λ told. told.text.items ≡ comparison_text (review_in review.now)
+        (Some (map (λ d. d.now) devices.now)) sides.old.now sides.new.now) }
+    ensures differ { IfOk result (λ told. told.differ ≡ has_changed (review_in review.now)
+        (Some (map (λ d. d.now) devices.now)) sides.old.now sides.new.now) }
 {
     let mut text = Vec::new(alloc);
     let mut differ = false;
     for device in devices {
-        differ |= compare_device(alloc, json, &mut text, old, new, *device)?;
+        differ |= compare_device(alloc, review, &mut text, sides, *device)?;
     }
-    Ok(Changes { text, differ })
+    Ok(Told { text, differ })
+}
+
+/// How much did.
+fn counts_of_devices(
+    alloc: Global,
+    review: &ReviewArgs,
+    sides: Sides<'_, '_>,
+    devices: &[&[u8]],
+) -> Result<Told, AllocError>
+    ensures text { IfOk result (λ told. told.text.items ≡ stat_form (review_in review.now).json
+        (Some (map (λ d. d.now) devices.now)) (spec.stat_of (review_in review.now)
+        (Some (map (λ d. d.now) devices.now)) sides.old.now sides.new.now)) }
+    ensures differ { IfOk result (λ told. told.differ ≡ has_changed (review_in review.now)
+        (Some (map (λ d. d.now) devices.now)) sides.old.now sides.new.now) }
+{
+    let (stat, differ) = device_stat(alloc, review, sides, devices)?;
+    let text = form_of(alloc, review.json, true, stat)?;
+    Ok(Told { text, differ })
+}
+
+/// The changes for devices as they are asked for, or their number.
+fn told_of_devices(
+    alloc: Global,
+    review: &ReviewArgs,
+    sides: Sides<'_, '_>,
+    devices: &[&[u8]],
+) -> Result<Told, AllocError>
+    ensures text { IfOk result (λ told. told.text.items ≡ comparison_lines (review_in review.now)
+        (Some (map (λ d. d.now) devices.now)) sides.old.now sides.new.now) }
+    ensures differ { IfOk result (λ told. told.differ ≡ has_changed (review_in review.now)
+        (Some (map (λ d. d.now) devices.now)) sides.old.now sides.new.now) }
+{
+    if review.stat {
+        counts_of_devices(alloc, review, sides, devices)
+    } else {
+        lines_of_devices(alloc, review, sides, devices)
+    }
+}
+
+/// What is said of the changes that devices don't meet, for each output: as JSON it is the last line of the first.
+fn with_unmet(
+    alloc: Global,
+    review: &ReviewArgs,
+    told: Told,
+    all: usize,
+    devices: usize,
+    left: &[Pair<'_, '_>],
+) -> Result<Changes, AllocError>
+    ensures text { IfOk result (λ changes. changes.text.items ≡ told.entry.text.items
+        ++ left_end (review_in review.now) all (map change_shown left.now)) }
+    ensures said { IfOk result (λ changes. changes.said.items
+        ≡ left_said (review_in review.now) all devices (map change_shown left.now)) }
+    ensures differ { IfOk result (λ changes. changes.differ ≡ told.entry.differ) }
+{
+    let Told { mut text, differ } = told;
+    let mut said = Vec::new(alloc);
+    if review.json {
+        text.extend_from_slice(&left_json(alloc, review.verbose, all, left)?)?;
+    } else {
+        said = left_text(alloc, review.verbose, all, devices, left)?;
+    }
+    Ok(Changes { text, said, differ })
+}
+
+/// What changed for devices, and what they don't meet of these changes of assignments.
+fn compared_for(
+    alloc: Global,
+    review: &ReviewArgs,
+    changes: &[Pair<'_, '_>],
+    sides: Sides<'_, '_>,
+    devices: &[&[u8]],
+) -> Result<Changes, AllocError>
+    requires { map change_shown changes.now
+        ≡ assigned_changes (review_in review.now) sides.old.now sides.new.now }
+    ensures text { IfOk result (λ made. made.text.items ≡ comparison_form (review_in review.now)
+        (Some (map (λ d. d.now) devices.now)) sides.old.now sides.new.now) }
+    ensures said { IfOk result (λ made. made.said.items ≡ comparison_said (review_in review.now)
+        (Some (map (λ d. d.now) devices.now)) sides.old.now sides.new.now) }
+    ensures differ { IfOk result (λ made. made.differ ≡ has_changed (review_in review.now)
+        (Some (map (λ d. d.now) devices.now)) sides.old.now sides.new.now) }
+{
+    let told = told_of_devices(alloc, review, sides, devices)?;
+    let left = unmet_changes(alloc, changes, sides, devices)?;
+    with_unmet(alloc, review, told, changes.len(), devices.len(), &left)
+}
+
+/// What changed of assignments.
+fn compared_all(
+    alloc: Global,
+    review: &ReviewArgs,
+    changes: &[Pair<'_, '_>],
+) -> Result<Changes, AllocError>
+    ensures text { IfOk result (λ made. (old new : Tree)
+        → map change_shown changes.now ≡ assigned_changes (review_in review.now) old new
+        → made.text.items ≡ comparison_form (review_in review.now) None old new) }
+    ensures said { IfOk result (λ made. made.said.items ≡ []) }
+    ensures differ { IfOk result
+        (λ made. made.differ ≡ are_some (map change_shown changes.now)) }
+{
+    let text = told_of_changes(alloc, review, changes)?;
+    Ok(Changes {
+        text,
+        said: Vec::new(alloc),
+        differ: !changes.is_empty(),
+    })
+}
+
+/// The changes that count from one database to another.
+fn changes_between<'a>(
+    alloc: Global,
+    review: &ReviewArgs,
+    sides: Sides<'_, 'a>,
+) -> Result<Vec<Held<'a>>, AllocError>
+    requires old { IsTree sides.old.now }
+    requires new { IsTree sides.new.now }
+    ensures { IfOk result (λ held. map held_shown held.items
+        ≡ assigned_changes (review_in review.now) sides.old.now sides.new.now) }
+{
+    changes_met(alloc, review, sides.old.root(), sides.new.root())
+}
+
+/// What changed from one database to another, of all that they assign, or for devices.
+fn compared(
+    alloc: Global,
+    review: &ReviewArgs,
+    devices: Option<&[&[u8]]>,
+    sides: Sides<'_, '_>,
+) -> Result<Changes, AllocError>
+    requires old { IsTree sides.old.now }
+    requires new { IsTree sides.new.now }
+    ensures text { IfOk result (λ made. made.text.items ≡ comparison_form (review_in review.now)
+        (option_map (λ ds. map (λ d. d.now) ds.now) devices.entry) sides.old.now sides.new.now) }
+    ensures said { IfOk result (λ made. made.said.items ≡ comparison_said (review_in review.now)
+        (option_map (λ ds. map (λ d. d.now) ds.now) devices.entry) sides.old.now sides.new.now) }
+    ensures differ { IfOk result (λ made. made.differ ≡ has_changed (review_in review.now)
+        (option_map (λ ds. map (λ d. d.now) ds.now) devices.entry) sides.old.now sides.new.now) }
+{
+    let held = changes_between(alloc, review, sides)?;
+    let changes = pairs_of(alloc, &held)?;
+    match devices {
+        Some(some) => compared_for(alloc, review, &changes, sides, some),
+        None => compared_all(alloc, review, &changes),
+    }
 }
 
 /// The old database.
@@ -152,126 +337,42 @@ fn check_new(new: &[u8]) -> Result<Db<'_>, DiffError>
     }
 }
 
-/// Checks the bytes of both, and says what came, went and changed from the old database to the new one. There is a line
-/// for each pattern and key for which the two differ, by pattern and then by key, as text or JSON. Over the databases of an old
-/// and a new state of two folders that is what their files differ in.
+/// Checks the bytes of both, and says what came, went and changed from the old database to the new one, as `review` asks for it. That is
+/// each pattern and key for which the two differ, by pattern and then by key, or how many there are. Of devices it is what changed in
+/// what each of them gets, in their order, and what none of them meets. Over the databases of an old and a new state of two folders
+/// the changes are what their files differ in.
 ///
-/// The memory is the lines, and for each database the nodes of one path. Each is walked once.
-pub fn diff(alloc: Global, json: bool, old: &[u8], new: &[u8]) -> Result<Changes, DiffError>
-    ensures text { IfOk result (λ changes.
-        IsDiffText (comparison_text json None) old.now new.now changes.text.items) }
-    ensures differ { IfOk result
-        (λ changes. IsDifferent (has_changed None) old.now new.now changes.differ) }
-    ensures headline { IfOk result (λ changes. (old_etc old_usr new_etc new_usr : List Source)
+/// The memory is the changes and the lines, and for each database the nodes of one path. Each is walked once. Devices add four descents
+/// for each, and the answers of one.
+pub fn diff(
+    alloc: Global,
+    review: &ReviewArgs,
+    devices: Option<&[&[u8]]>,
+    old: &[u8],
+    new: &[u8],
+) -> Result<Changes, DiffError>
+    ensures text { IfOk result (λ made. IsDiffText (comparison_form (review_in review.now)
+        (option_map (λ ds. map (λ d. d.now) ds.now) devices.entry))
+        old.now new.now made.text.items) }
+    ensures said { IfOk result (λ made. IsDiffText (comparison_said (review_in review.now)
+        (option_map (λ ds. map (λ d. d.now) ds.now) devices.entry))
+        old.now new.now made.said.items) }
+    ensures differ { IfOk result (λ made. IsDifferent (has_changed (review_in review.now)
+        (option_map (λ ds. map (λ d. d.now) ds.now) devices.entry))
+        old.now new.now made.differ) }
+    ensures headline { IfOk result (λ made. (old_etc old_usr new_etc new_usr : List Source)
+        → devices.entry ≡ None → review.now.stat ≡ false
         → IsCompiled old_etc old_usr old.now → IsCompiled new_etc new_usr new.now
-        → changes.text.items ≡ changes_form json
-        (differences (map_of_files old_etc old_usr) (map_of_files new_etc new_usr))) }
+        → made.text.items ≡ files_diff_form (review_in review.now) old_etc old_usr new_etc new_usr) }
     ensures errors { IfErr result (IsDiffRefusal old.now new.now) }
 {
     law_one_tree();
     law_ascending();
     let before = check_old(old)?;
     let after = check_new(new)?;
-    Ok(changes_between(alloc, json, &before, &after)?)
-}
-
-/// Checks the bytes of both, and says for each of the devices, in their order, what came, went and changed by key, of what the old
-/// database gives it and the new one. A device for which nothing did isn't told.
-///
-/// Two descents for each device. The memory is the answers of one device, and the lines.
-pub fn diff_devices(
-    alloc: Global,
-    json: bool,
-    old: &[u8],
-    new: &[u8],
-    devices: &[&[u8]],
-) -> Result<Changes, DiffError>
-    ensures text { IfOk result (λ changes.
-        IsDiffText (comparison_text json (Some (map (λ d. d.now) devices.now)))
-        old.now new.now changes.text.items) }
-    ensures differ { IfOk result (λ changes.
-        IsDifferent (has_changed (Some (map (λ d. d.now) devices.now)))
-        old.now new.now changes.differ) }
-    ensures errors { IfErr result (IsDiffRefusal old.now new.now) }
-{
-    let before = check_old(old)?;
-    let after = check_new(new)?;
-    Ok(device_changes(alloc, json, &before, &after, devices)?)
-}
-
-/// How many changes there are from one database to another.
-fn stat_changes(
-    alloc: Global,
-    json: bool,
-    old: &Db<'_>,
-    new: &Db<'_>,
-) -> Result<Changes, AllocError>
-    requires old { IsTree old.now }
-    requires new { IsTree new.now }
-    ensures text { IfOk result
-        (λ changes. changes.text.items ≡ comparison_form true json None old.now new.now) }
-    ensures differ { IfOk result (λ changes. changes.differ ≡ has_changed None old.now new.now) }
-{
-    let stat = stat_between(alloc, old, new)?;
-    let differ = stat.differ;
-    let text = form_of(alloc, json, false, stat)?;
-    Ok(Changes { text, differ })
-}
-
-/// The same of what devices get.
-fn device_stat_changes(
-    alloc: Global,
-    json: bool,
-    old: &Db<'_>,
-    new: &Db<'_>,
-    devices: &[&[u8]],
-) -> Result<Changes, AllocError>
-    ensures text { IfOk result (λ changes. changes.text.items
-        ≡ comparison_form true json (Some (map (λ d. d.now) devices.now)) old.now new.now) }
-    ensures differ { IfOk result (λ changes. changes.differ
-        ≡ has_changed (Some (map (λ d. d.now) devices.now)) old.now new.now) }
-{
-    let stat = device_stat(alloc, old, new, devices)?;
-    let differ = stat.differ;
-    let text = form_of(alloc, json, true, stat)?;
-    Ok(Changes { text, differ })
-}
-
-/// Checks the bytes of both, and says how many assignments came, went and changed from the old database to the new one, by file and
-/// by key, as text or JSON.
-///
-/// The memory is all assignments of both, and a count for each file and key. Each database is walked once.
-pub fn stat(alloc: Global, json: bool, old: &[u8], new: &[u8]) -> Result<Changes, DiffError>
-    ensures text { IfOk result (λ changes.
-        IsDiffText (comparison_form true json None) old.now new.now changes.text.items) }
-    ensures differ { IfOk result
-        (λ changes. IsDifferent (has_changed None) old.now new.now changes.differ) }
-    ensures errors { IfErr result (IsDiffRefusal old.now new.now) }
-{
-    law_one_tree();
-    law_ascending();
-    let before = check_old(old)?;
-    let after = check_new(new)?;
-    Ok(stat_changes(alloc, json, &before, &after)?)
-}
-
-/// The same of what the two databases give some devices. It says too how many of these have a change.
-pub fn stat_devices(
-    alloc: Global,
-    json: bool,
-    old: &[u8],
-    new: &[u8],
-    devices: &[&[u8]],
-) -> Result<Changes, DiffError>
-    ensures text { IfOk result (λ changes.
-        IsDiffText (comparison_form true json (Some (map (λ d. d.now) devices.now)))
-        old.now new.now changes.text.items) }
-    ensures differ { IfOk result (λ changes.
-        IsDifferent (has_changed (Some (map (λ d. d.now) devices.now)))
-        old.now new.now changes.differ) }
-    ensures errors { IfErr result (IsDiffRefusal old.now new.now) }
-{
-    let before = check_old(old)?;
-    let after = check_new(new)?;
-    Ok(device_stat_changes(alloc, json, &before, &after, devices)?)
+    let sides = Sides {
+        old: &before,
+        new: &after,
+    };
+    Ok(compared(alloc, review, devices, sides)?)
 }

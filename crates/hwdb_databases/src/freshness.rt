@@ -84,7 +84,7 @@ impl ChangeCount {
         }
         self.changes += 1;
         if self.first.is_empty() {
-            tell(alloc, twins, false, &mut self.first, old, new, side)?;
+            tell(alloc, twins, &mut self.first, old, new, side)?;
         }
         Ok(())
     }

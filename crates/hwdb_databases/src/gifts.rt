@@ -1,9 +1,11 @@
 //! What a database gives a device.
 ghost use Rattle.std.specs.Prelude.{◌≡◌, ◌++◌, flat_map, map, take, IfOk, OnOk};
 ghost use Rattle.hwdb_spec_commands.specs.DeviceDifferences.{counting_answers, given_to};
+ghost use Rattle.hwdb_spec_commands.specs.Reviews.{as_given};
 ghost use Rattle.hwdb_query.specs.Views.{assignment_of_answer, explained_values};
 ghost use Rattle.hwdb_databases.specs.Views.{assignment_of};
 
+use crate::held::given_path;
 use hwdb_query::{Explained, StoredAssignment, explain};
 use hwdb_reader::Db;
 use std::alloc::{AllocError, Global};
@@ -24,8 +26,8 @@ fn push_gift<'a>(
     explained: &Explained<'a>,
 ) -> Result<(), AllocError>
     ensures { OnOk result (map assignment_of gifts.new.items ≡ map assignment_of gifts.old.items
-        ++ map (given_to device.now.value.items)
-        (take 1 (map assignment_of_answer explained.now.answers.items))) }
+        ++ map as_given (map (given_to device.now.value.items)
+        (take 1 (map assignment_of_answer explained.now.answers.items)))) }
 {
     let Some((last, _)) = explained.answers.split_first() else {
         return Ok(());
@@ -36,7 +38,7 @@ fn push_gift<'a>(
         pattern: device.clone()?,
         key: last.key,
         value: last.value,
-        path: last.path,
+        path: given_path(last.path),
     })?;
     Ok(())
 }
@@ -47,8 +49,8 @@ fn gifts_of<'a>(
     device: &Rc<Vec<u8>>,
     list: &[Explained<'a>],
 ) -> Result<Vec<StoredAssignment<'a>>, AllocError>
-    ensures { IfOk result (λ gifts. map assignment_of gifts.items ≡ flat_map
-        (λ p. map (given_to device.now.value.items) (take 1 p.1)) (explained_values list.now)) }
+    ensures { IfOk result (λ gifts. map assignment_of gifts.items ≡ flat_map (λ p. map as_given
+        (map (given_to device.now.value.items) (take 1 p.1))) (explained_values list.now)) }
 {
     let mut gifts = Vec::new(alloc);
     for explained in list {
@@ -58,14 +60,14 @@ fn gifts_of<'a>(
 }
 
 /// For each key that the database gives the device the answer that counts, ascending by key, as an assignment to the device: that
-/// is in the place of the pattern. One descent of the tree.
+/// is in the place of the pattern. Paths are those that were given. One descent of the tree.
 pub(crate) fn gifts<'a>(
     alloc: Global,
     db: &Db<'a>,
     device: &[u8],
 ) -> Result<Vec<StoredAssignment<'a>>, AllocError>
     ensures { IfOk result (λ gifts. map assignment_of gifts.items
-        ≡ map (given_to device.now) (counting_answers device.now db.now)) }
+        ≡ map as_given (map (given_to device.now) (counting_answers device.now db.now))) }
 {
     let copy = shared(alloc, device)?;
     let list = explain(alloc, db, device)?;

@@ -2,15 +2,13 @@
 ghost use Rattle.std.specs.Prelude.{◌≡◌, ◌++◌, flat_map, map, IfOk, OnOk};
 ghost use Rattle.json.specs.Tree.{json_tokens};
 ghost use Rattle.hwdb_show.specs.JsonTokens.{tokens_of_member, tokens_of_members};
-ghost use Rattle.hwdb_spec_commands.specs.Comparisons.{change_json, change_members, changed_pattern, device_changes_json, given_json};
-ghost use Rattle.hwdb_spec_commands.specs.Differences.{are_some};
+ghost use Rattle.hwdb_spec_commands.specs.ChangeForms.{change_json, change_members, changed_pattern, device_changes_json, given_json, whole_object};
 ghost use Rattle.hwdb_spec_commands.specs.Differences.Change.{Came, Went, Changed};
 ghost use Rattle.hwdb_spec_commands.specs.Json.{array_of};
-ghost use Rattle.hwdb_databases.specs.Views.{assignment_of, change_shown, changes_of};
-ghost use Rattle.hwdb_databases.specs.Internal.Pairing.{to_tell};
-ghost use Rattle.hwdb_databases.specs.Internal.Forms.{change_object, changed_device, whole_object};
+ghost use Rattle.hwdb_databases.specs.Views.{assignment_of, change_shown};
+ghost use Rattle.hwdb_databases.specs.Internal.Forms.{change_object, changed_device};
 
-use crate::pairs::{Pair, Pairs, change_in};
+use crate::pairs::Pair;
 use hwdb_query::StoredAssignment;
 use hwdb_show::{ended, put_member, put_number};
 use json::Writer;
@@ -103,7 +101,7 @@ fn put_object(json: &mut Writer, change: Pair<'_, '_>) -> Result<(), AllocError>
 }
 
 /// The pattern of a change.
-fn pattern_of<'r>(change: Pair<'r, '_>) -> &'r [u8]
+pub(crate) fn pattern_of<'r>(change: Pair<'r, '_>) -> &'r [u8]
     ensures { result.now ≡ changed_pattern (change_shown change.entry) }
 {
     match change {
@@ -114,7 +112,7 @@ fn pattern_of<'r>(change: Pair<'r, '_>) -> &'r [u8]
 }
 
 /// Adds the object of a line: the pattern, and the change.
-fn put_whole(json: &mut Writer, change: Pair<'_, '_>) -> Result<(), AllocError>
+pub(crate) fn put_whole(json: &mut Writer, change: Pair<'_, '_>) -> Result<(), AllocError>
     ensures before { json.new.before ≡ json.old.before }
     ensures tokens { OnOk result (json.new.tokens ≡ json.old.tokens
         ++ json_tokens (whole_object (change_shown change.entry))) }
@@ -134,97 +132,68 @@ fn line_of(alloc: Global, change: Pair<'_, '_>) -> Result<Vec<u8>, AllocError>
     ended(alloc, json)
 }
 
-/// Adds the line of what happened at a pattern and key, and answers whether something did.
+/// Adds the lines of some changes.
 pub(crate) fn push_json(
     alloc: Global,
     text: &mut Vec<u8>,
-    pair: Pair<'_, '_>,
-) -> Result<bool, AllocError>
-    ensures text { OnOk result
-        (text.new.items ≡ text.old.items ++ flat_map change_json (changes_of pair.entry)) }
-    ensures differs { IfOk result (λ differs. differs ≡ are_some (changes_of pair.entry)) }
+    changes: &[Pair<'_, '_>],
+) -> Result<(), AllocError>
+    ensures { OnOk result
+        (text.new.items ≡ text.old.items ++ flat_map change_json (map change_shown changes.now)) }
 {
-    let Some(change) = change_in(pair) else {
-        return Ok(false);
-    };
-    let line = line_of(alloc, change)?;
-    text.extend_from_slice(&line)?;
-    Ok(true)
-}
-
-/// Adds the object of what happened at a key, and answers whether something did.
-fn put_pair(json: &mut Writer, pair: Pair<'_, '_>) -> Result<bool, AllocError>
-    ensures before { json.new.before ≡ json.old.before }
-    ensures tokens { OnOk result (json.new.tokens ≡ json.old.tokens
-        ++ flat_map (λ c. json_tokens (change_object c)) (changes_of pair.entry)) }
-    ensures differs { IfOk result (λ differs. differs ≡ are_some (changes_of pair.entry)) }
-{
-    let Some(change) = change_in(pair) else {
-        return Ok(false);
-    };
-    put_object(json, change)?;
-    Ok(true)
-}
-
-/// Adds the objects of the changes that are left, and answers whether there is one.
-fn put_pairs(json: &mut Writer, pairs: Pairs<'_, '_>) -> Result<bool, AllocError>
-    ensures before { json.new.before ≡ json.old.before }
-    ensures tokens { OnOk result (json.new.tokens ≡ json.old.tokens
-        ++ flat_map (λ c. json_tokens (change_object c)) (to_tell pairs.entry)) }
-    ensures differs { IfOk result (λ differs. differs ≡ are_some (to_tell pairs.entry)) }
-{
-    let mut left = pairs;
-    let mut differ = false;
-    'pairs: while let Some(pair) = left.next() {
-        differ |= put_pair(json, pair)?;
+    for change in changes {
+        let line = line_of(alloc, *change)?;
+        text.extend_from_slice(&line)?;
     }
-    Ok(differ)
+    Ok(())
 }
 
-/// Adds the changes that are left as an array, and answers whether there is one.
-fn put_array(json: &mut Writer, pairs: Pairs<'_, '_>) -> Result<bool, AllocError>
+/// Adds the array of some changes.
+fn put_array(json: &mut Writer, changes: &[Pair<'_, '_>]) -> Result<(), AllocError>
     ensures before { json.new.before ≡ json.old.before }
     ensures tokens { OnOk result (json.new.tokens ≡ json.old.tokens
-        ++ json_tokens (array_of (map change_object (to_tell pairs.entry)))) }
-    ensures differs { IfOk result (λ differs. differs ≡ are_some (to_tell pairs.entry)) }
+        ++ json_tokens (array_of (map change_object (map change_shown changes.now)))) }
 {
     json.begin_array()?;
-    let differ = put_pairs(json, pairs)?;
-    json.end_array()?;
-    Ok(differ)
+    for change in changes {
+        put_object(json, *change)?;
+    }
+    json.end_array()
 }
 
-/// Adds the object of a device, and answers whether something changed for it.
-fn put_device(json: &mut Writer, device: &[u8], pairs: Pairs<'_, '_>) -> Result<bool, AllocError>
+/// Adds the object of a device.
+fn put_device(
+    json: &mut Writer,
+    device: &[u8],
+    changes: &[Pair<'_, '_>],
+) -> Result<(), AllocError>
     ensures before { json.new.before ≡ json.old.before }
     ensures tokens { OnOk result (json.new.tokens ≡ json.old.tokens
-        ++ json_tokens (changed_device device.now (to_tell pairs.entry))) }
-    ensures differs { IfOk result (λ differs. differs ≡ are_some (to_tell pairs.entry)) }
+        ++ json_tokens (changed_device device.now (map change_shown changes.now))) }
 {
     json.begin_object()?;
     put_member(json, "device", device)?;
     json.key("changes")?;
-    let differ = put_array(json, pairs)?;
-    json.end_object()?;
-    Ok(differ)
+    put_array(json, changes)?;
+    json.end_object()
 }
 
-/// Adds the line of a device if something changed for it, and answers whether something did.
+/// Adds the line of a device, if something changed for it.
 pub(crate) fn push_device_json(
     alloc: Global,
     text: &mut Vec<u8>,
     device: &[u8],
-    pairs: Pairs<'_, '_>,
-) -> Result<bool, AllocError>
-    ensures text { OnOk result (text.new.items ≡ text.old.items
-        ++ device_changes_json device.now (to_tell pairs.entry)) }
-    ensures differs { IfOk result (λ differs. differs ≡ are_some (to_tell pairs.entry)) }
+    changes: &[Pair<'_, '_>],
+) -> Result<(), AllocError>
+    ensures { OnOk result (text.new.items ≡ text.old.items
+        ++ device_changes_json device.now (map change_shown changes.now)) }
 {
-    let mut json = Writer::new(Vec::new(alloc));
-    let differs = put_device(&mut json, device, pairs)?;
-    let line = ended(alloc, json)?;
-    if differs {
-        text.extend_from_slice(&line)?;
+    if changes.is_empty() {
+        return Ok(());
     }
-    Ok(differs)
+    let mut json = Writer::new(Vec::new(alloc));
+    put_device(&mut json, device, changes)?;
+    let line = ended(alloc, json)?;
+    text.extend_from_slice(&line)?;
+    Ok(())
 }

@@ -3,12 +3,14 @@
 //!
 //! Each of these walks the whole tree, without a device. The time is that of one look at each node, and of the bytes of
 //! the patterns. `dump` holds all assignments at once, and sorts them. `diff` and `status` hold the next one of each
-//! database.
+//! database, and `diff` each change.
 //!
 //! | Module | What it does |
 //! |---|---|
 //! | `pairs` | two ascending lists of assignments, gone through side by side |
-//! | `lines` | the lines of changes; `device_lines`: those of a device; `json_changes`: both as JSON |
+//! | `held` | changes, each with its assignments; `reviewing`: which of them count |
+//! | `lines` | the lines of changes; `device_lines`: those of a device, and by record; `json_changes`: all as JSON |
+//! | `unmet` | the changes that no device meets |
 //! | `counting` | how many changes there are, by file and by key; `counts_text`: the same as lines or JSON |
 //! | `gifts` | what a database gives a device |
 //! | `listing` | `dump`: a database as text |
@@ -38,6 +40,7 @@ mod device_lines;
 mod difference;
 mod freshness;
 mod gifts;
+mod held;
 mod holding;
 mod inventory;
 mod json_changes;
@@ -52,16 +55,18 @@ mod pairs;
 mod plain;
 mod records;
 mod reports;
+mod reviewing;
 mod spelling;
 mod summary;
 mod texts;
 mod trail;
+mod unmet;
 mod verification;
 mod walk;
 
 pub use amounts::{Amount, amount_of};
 pub use depths::depth_of;
-pub use difference::{Changes, diff, diff_devices, stat, stat_devices};
+pub use difference::{Changes, diff};
 pub use freshness::{Standing, State, standing_of};
 pub use hwdb_spec::{DiffError, DumpError, VerifyError};
 pub use laws::{dump_says, dump_tells, gifts_are_effective, members_are_the_map};

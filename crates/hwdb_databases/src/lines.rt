@@ -2,7 +2,7 @@
 ghost use Rattle.std.specs.Prelude.{◌≡◌, ◌++◌, OnOk, IfOk};
 ghost use Rattle.hwdb_spec_commands.specs.Differences.{origin_text, signed_text, change_text, changes_text, are_some};
 ghost use Rattle.hwdb_spec_commands.specs.Differences.Change.{Came, Went, Changed};
-ghost use Rattle.hwdb_databases.specs.Views.{assignment_of, changes_of};
+ghost use Rattle.hwdb_databases.specs.Views.{assignment_of, change_shown, changes_of};
 
 use crate::pairs::Pair;
 use hwdb_query::StoredAssignment;
@@ -74,6 +74,18 @@ fn push_changed(
     push_origin(text, new)?;
     text.push(b'\n')?;
     Ok(())
+}
+
+/// Adds the line of a change.
+pub(crate) fn push_line(text: &mut Vec<u8>, change: Pair<'_, '_>) -> Result<(), AllocError>
+    ensures { OnOk result
+        (text.new.items ≡ text.old.items ++ change_text (change_shown change.entry)) }
+{
+    match change {
+        Pair::Old(old) => push_went(text, old),
+        Pair::New(new) => push_came(text, new),
+        Pair::Both(old, new) => push_changed(text, old, new),
+    }
 }
 
 /// Adds the line of what happened at a pattern and key, and answers whether something did.

@@ -1,22 +1,26 @@
 //! What changed from one database to another: both are walked side by side, and neither's assignments are held.
-ghost use Rattle.std.specs.Prelude.{◌≡◌, ◌<◌, ◌+◌, ◌++◌, ◌∷◌, [], ℕ, List, true, None, Some, drop, flat_map, length, IfNone, IfOk, IfSome, OnOk};
+ghost use Rattle.std.specs.Prelude.{◌≡◌, ◌<◌, ◌+◌, ◌++◌, ◌∷◌, [], ℕ, List, true, None, Some, drop, filter, length, map, IfNone, IfOk, IfSome, OnOk};
 ghost use Rattle.hwdb_spec.specs.Assignment.{text_cmp};
-ghost use Rattle.hwdb_spec_commands.specs.Differences.{are_some, change_between};
+ghost use Rattle.hwdb_spec_commands.specs.Differences.{are_some, change_between, changes_text};
 ghost use Rattle.hwdb_spec_commands.specs.Differences.Change.{Came, Went};
+ghost use Rattle.hwdb_spec_commands.specs.Reviews.{change_counts, given_change, review_in, reviewed};
 ghost use Rattle.hwdb_spec.specs.Tree.{Tree, members_under};
 ghost use Rattle.hwdb_reader.specs.Unread.{IsFrom, new_file, old_file, text_of};
 ghost use Rattle.hwdb_reader.specs.Views.{tree_of};
-ghost use Rattle.hwdb_databases.specs.Internal.Forms.{change_form};
+ghost use Rattle.hwdb_databases.specs.Views.{held_of, held_shown};
 ghost use Rattle.hwdb_databases.specs.Internal.Merging.{by_place, merged};
 ghost use Rattle.hwdb_databases.specs.Internal.Trails.{AreKeptOf, path_of};
 ghost use Rattle.hwdb_databases.specs.Internal.Meeting.{AreFrom, AreOf, IsMet, IsNext, IsUnderWay, changes_at, changes_by, left_of, unread_of, new_at, old_at, to_meet};
 
 use crate::abreast::Abreast;
-use crate::difference::{Changes, push_form};
+use crate::held::{Held, as_given};
+use crate::lines::push_pair;
 use crate::members::{Members, key_of};
 use crate::pairs::Pair;
+use crate::reviewing;
 use crate::texts::is_same;
 use hwdb_reader::{Node, Twins, UnreadEntry};
+use hwdb_spec_commands::ReviewArgs;
 use std::alloc::{AllocError, Global};
 use std::cmp::Ordering;
 
@@ -71,45 +75,109 @@ fn compare(
     }
 }
 
-/// Adds the line of the old side's next assignment, which went. The only error, here and below, is `AllocError`.
+/// The change of two next assignments with one pattern and key, if their values differ. The only error, here and below, is
+/// `AllocError`.
+fn both_here<'a>(
+    alloc: Global,
+    twins: &Twins<'_, '_>,
+    old: &Members<'a>,
+    x: UnreadEntry<'a>,
+    new: &Members<'a>,
+    y: UnreadEntry<'a>,
+) -> Result<Option<Held<'a>>, AllocError>
+    requires old { IsFrom (old_file twins.now) x }
+    requires new { IsFrom (new_file twins.now) y }
+    ensures { IfOk result (λ held. map given_change
+        (change_between (unread_of (path_of old.now.walk.trail) x.entry)
+        (unread_of (path_of new.now.walk.trail) y.entry)) ≡ held_of held) }
+{
+    if twins.are_same(x.value, y.value) {
+        return Ok(None);
+    }
+    let went = as_given(old.copied(alloc, &x)?);
+    let came = as_given(new.copied(alloc, &y)?);
+    Ok(Some(Held::Both(went, came)))
+}
+
+/// What happened at the least pattern and key that are left, with the paths that were given, if something did.
+fn change_here<'a>(
+    alloc: Global,
+    twins: &Twins<'_, '_>,
+    old: &Members<'a>,
+    new: &Members<'a>,
+    side: Side<'a, 'a>,
+) -> Result<Option<Held<'a>>, AllocError>
+    requires { AreFrom (old_file twins.now) (new_file twins.now) side }
+    ensures { IfOk result
+        (λ held. map given_change (changes_at old.now new.now side.entry) ≡ held_of held) }
+{
+    match side {
+        Side::Old(x) => {
+            let went = old.copied(alloc, &x)?;
+            Ok(Some(Held::Old(as_given(went))))
+        }
+        Side::New(y) => {
+            let came = new.copied(alloc, &y)?;
+            Ok(Some(Held::New(as_given(came))))
+        }
+        Side::Both(x, y) => both_here(alloc, twins, old, x, new, y),
+    }
+}
+
+/// Adds a change to some, if it counts.
+fn push_held<'a>(
+    review: &ReviewArgs,
+    all: &mut Vec<Held<'a>>,
+    change: Option<Held<'a>>,
+) -> Result<(), AllocError>
+    ensures { OnOk result (map held_shown all.new.items ≡ map held_shown all.old.items
+        ++ filter (change_counts (review_in review.now)) (held_of change.entry)) }
+{
+    let Some(held) = change else {
+        return Ok(());
+    };
+    if reviewing::change_counts(review, held.pair()) {
+        all.push(held)?;
+    }
+    Ok(())
+}
+
+/// Adds the line of the old side's next assignment, which went.
 fn tell_old(
     alloc: Global,
-    json: bool,
     text: &mut Vec<u8>,
     old: &Members<'_>,
     x: UnreadEntry<'_>,
 ) -> Result<bool, AllocError>
     ensures text { OnOk result (text.new.items ≡ text.old.items
-        ++ flat_map (change_form json)
+        ++ changes_text
         (Went (unread_of (path_of old.now.walk.trail) x.entry) ∷ [])) }
     ensures some { IfOk result (λ differs. differs ≡ true) }
 {
     let made = old.copied(alloc, &x)?;
-    push_form(alloc, json, text, Pair::Old(&made))
+    push_pair(text, Pair::Old(&made))
 }
 
 /// Adds the line of the new side's next assignment, which came.
 fn tell_new(
     alloc: Global,
-    json: bool,
     text: &mut Vec<u8>,
     new: &Members<'_>,
     y: UnreadEntry<'_>,
 ) -> Result<bool, AllocError>
     ensures text { OnOk result (text.new.items ≡ text.old.items
-        ++ flat_map (change_form json)
+        ++ changes_text
         (Came (unread_of (path_of new.now.walk.trail) y.entry) ∷ [])) }
     ensures some { IfOk result (λ differs. differs ≡ true) }
 {
     let made = new.copied(alloc, &y)?;
-    push_form(alloc, json, text, Pair::New(&made))
+    push_pair(text, Pair::New(&made))
 }
 
 /// Adds the line of two next assignments with one pattern and key, if their values differ, and answers whether they do.
 fn tell_both(
     alloc: Global,
     twins: &Twins<'_, '_>,
-    json: bool,
     text: &mut Vec<u8>,
     old: &Members<'_>,
     x: UnreadEntry<'_>,
@@ -118,7 +186,7 @@ fn tell_both(
 ) -> Result<bool, AllocError>
     requires old { IsFrom (old_file twins.now) x }
     requires new { IsFrom (new_file twins.now) y }
-    ensures text { OnOk result (text.new.items ≡ text.old.items ++ flat_map (change_form json)
+    ensures text { OnOk result (text.new.items ≡ text.old.items ++ changes_text
         (change_between (unread_of (path_of old.now.walk.trail) x.entry)
         (unread_of (path_of new.now.walk.trail) y.entry))) }
     ensures some { IfOk result (λ differs. differs
@@ -130,7 +198,7 @@ fn tell_both(
     }
     let went = old.copied(alloc, &x)?;
     let came = new.copied(alloc, &y)?;
-    push_form(alloc, json, text, Pair::Both(&went, &came))
+    push_pair(text, Pair::Both(&went, &came))
 }
 
 /// Whether two values differ.
@@ -162,7 +230,6 @@ pub(crate) fn is_change(twins: &Twins<'_, '_>, side: Side<'_, '_>) -> bool
 pub(crate) fn tell<'a, 'b>(
     alloc: Global,
     twins: &Twins<'_, '_>,
-    json: bool,
     text: &mut Vec<u8>,
     old: &Members<'a>,
     new: &Members<'b>,
@@ -170,14 +237,14 @@ pub(crate) fn tell<'a, 'b>(
 ) -> Result<bool, AllocError>
     requires { AreFrom (old_file twins.now) (new_file twins.now) side }
     ensures text { OnOk result (text.new.items ≡ text.old.items
-        ++ flat_map (change_form json) (changes_at old.now new.now side.entry)) }
+        ++ changes_text (changes_at old.now new.now side.entry)) }
     ensures some { IfOk result
         (λ differs. differs ≡ are_some (changes_at old.now new.now side.entry)) }
 {
     match side {
-        Side::Old(x) => tell_old(alloc, json, text, old, x),
-        Side::New(y) => tell_new(alloc, json, text, new, y),
-        Side::Both(x, y) => tell_both(alloc, twins, json, text, old, x, new, y),
+        Side::Old(x) => tell_old(alloc, text, old, x),
+        Side::New(y) => tell_new(alloc, text, new, y),
+        Side::Both(x, y) => tell_both(alloc, twins, text, old, x, new, y),
     }
 }
 
@@ -282,16 +349,14 @@ pub(crate) fn pass_over<'a, 'b>(
     }
 }
 
-/// What changed from one database to another, as text or JSON.
-pub(crate) fn changes_met(
+/// The changes from one database to another that count, with the paths that were given.
+pub(crate) fn changes_met<'a>(
     alloc: Global,
-    json: bool,
-    old: Node<'_>,
-    new: Node<'_>,
-) -> Result<Changes, AllocError>
-    ensures text { IfOk result (λ changes. changes.text.items ≡ flat_map (change_form json)
-        (merged (members_under [] (tree_of old.entry)) (members_under [] (tree_of new.entry)))) }
-    ensures differ { IfOk result (λ changes. changes.differ ≡ are_some
+    review: &ReviewArgs,
+    old: Node<'a>,
+    new: Node<'a>,
+) -> Result<Vec<Held<'a>>, AllocError>
+    ensures { IfOk result (λ all. map held_shown all.items ≡ reviewed (review_in review.now)
         (merged (members_under [] (tree_of old.entry)) (members_under [] (tree_of new.entry)))) }
 {
     let twins = Twins::new(alloc, old, new)?;
@@ -299,13 +364,12 @@ pub(crate) fn changes_met(
     let mut after = Members::start_at(alloc, false, new)?;
     let mut abreast = Abreast::new(alloc);
     abreast.meet(&twins, &before.walk.trail, &after.walk.trail)?;
-    let mut text = Vec::new(alloc);
-    let mut differ = false;
+    let mut all = Vec::new(alloc);
     'pairs: while let Some(side) = least(&twins, abreast.order, &before, &after) {
-        let differs = tell(alloc, &twins, json, &mut text, &before, &after, side)?;
-        differ |= differs;
+        let change = change_here(alloc, &twins, &before, &after, side)?;
+        push_held(review, &mut all, change)?;
         pass_over(side, &mut before, &mut after)?;
         abreast.meet(&twins, &before.walk.trail, &after.walk.trail)?;
     }
-    Ok(Changes { text, differ })
+    Ok(all)
 }

@@ -6,7 +6,15 @@ ghost use Rattle.hwdb_databases.specs.Internal.Merging.{by_place, merged};
 ghost use Rattle.hwdb_databases.specs.Internal.Pairing.{to_tell, size};
 
 use hwdb_query::StoredAssignment;
+use hwdb_reader::Db;
 use std::cmp::Ordering;
+
+/// Two databases, from the first of which it is to the second.
+#[derive(Clone, Copy)]
+pub(crate) struct Sides<'s, 'a> {
+    pub old: &'s Db<'a>,
+    pub new: &'s Db<'a>,
+}
 
 /// What two databases have at a pattern and key.
 #[derive(Clone, Copy)]

@@ -1,8 +1,9 @@
 -- The plan of `diff`. Our choice.
-use Rattle.std.specs.Prelude.{ℕ, Bool, List, [], Result, if◌then◌else◌}
+use Rattle.std.specs.Prelude.{ℕ, List, Result, if◌then◌else◌}
 use Rattle.hwdb_spec.specs.Folders.{Source}
 use Rattle.hwdb_spec.specs.Tree.{Tree}
-use Rattle.hwdb_spec_commands.specs.Comparisons.{comparison_form, devices_named, has_changed}
+use Rattle.hwdb_spec_commands.specs.Comparisons.{comparison_form, comparison_said, devices_named, has_changed}
+use Rattle.hwdb_spec_commands.specs.Reviews.{Review}
 use Rattle.hwdb_spec.specs.declared.errors.DiffError.{DiffError}
 use Rattle.hwdb_spec.specs.declared.errors.DiffError.TheVariants.{Memory, New, Old}
 use Rattle.hwdb_spec.specs.declared.errors.ToolError.TheVariants.{Memory as OutOfMemory}
@@ -18,9 +19,10 @@ use Rattle.hwdb_plan.specs.Requests.{Request, told_plan}
 use Rattle.hwdb_plan.specs.Requests.Request.{Alone, OfSide, Texts}
 
 -- what is said of two trees, for the devices of some files, or of all that they assign; the status is 1 if something changed
-abbrev pub change_of : (stat json : Bool) → List Source → (old new : Tree) → End
-change_of stat json sources old new =
-    Answers (if has_changed (devices_named sources) old new then 1 else 0) [] (comparison_form stat json (devices_named sources) old new)
+abbrev pub change_of : Review → List Source → (old new : Tree) → End
+change_of r sources old new =
+    let devices = devices_named sources in
+    Answers (if has_changed r devices old new then 1 else 0) (comparison_said r devices old new) (comparison_form r devices old new)
 
 -- two sides' bytes are compared: a fault of the old one is told before one of the new
 abbrev pub compared : (old_path new_path old new : List ℕ) → (say : Tree → Tree → End) → Plan

@@ -9,6 +9,8 @@ use Rattle.hwdb_spec_commands.specs.DeviceDifferences.{device_differences}
 use Rattle.hwdb_spec_commands.specs.Differences.{Change, are_some, differences}
 use Rattle.hwdb_spec_commands.specs.Differences.Change.{Came, Went, Changed}
 use Rattle.hwdb_spec_commands.specs.Json.{array_of, json_line, number_json, object_of, text_json}
+use Rattle.hwdb_spec_commands.specs.Reviews.{Review, reviewed}
+use Rattle.hwdb_spec_commands.specs.Sides.{file_name}
 use Rattle.hwdb_spec.specs.Lines.{byte}
 use Rattle.hwdb_spec.specs.Tree.{Tree, map_of}
 use Rattle.hwdb_spec.specs.Visible.{shown_name}
@@ -37,11 +39,11 @@ counted name change [] = (name, one_more change no_count) ∷ []
 counted name change (n ∷ more) =
     match_ordering (text_cmp name n.0) ((name, one_more change no_count) ∷ n ∷ more) ((n.0, one_more change n.1) ∷ more) (n ∷ counted name change more)
 
--- the file of a change: that of the new assignment, or of one that went
-abbrev pub changed_path : Change → List ℕ
-changed_path (Came new) = new.path
-changed_path (Went old) = old.path
-changed_path (Changed old new) = new.path
+-- the name of a change's file: that of the new assignment, or of one that went. Two sides seldom have one folder.
+abbrev pub changed_file : Change → List ℕ
+changed_file (Came new) = file_name new.path
+changed_file (Went old) = file_name old.path
+changed_file (Changed old new) = file_name new.path
 
 -- the key of a change
 abbrev pub changed_key : Change → List ℕ
@@ -63,7 +65,7 @@ no_stat = record { files = []; keys = []; total = no_count; devices = 0 }
 -- one change more
 abbrev pub with_change : Stat → Change → Stat
 with_change s change = record {
-  files = counted (changed_path change) change s.files;
+  files = counted (changed_file change) change s.files;
   keys = counted (changed_key change) change s.keys;
   total = one_more change s.total;
   devices = s.devices;
@@ -79,16 +81,19 @@ abbrev pub with_device : (has_changed : Bool) → Stat → Stat
 with_device false s = s
 with_device true s = record { files = s.files; keys = s.keys; total = s.total; devices = both s.devices 1 }
 
+-- one device more with these changes
+abbrev pub with_told : Stat → List Change → Stat
+with_told s changes = with_device (are_some changes) (with_changes s changes)
+
 -- the changes for some more devices from one database to another
-unfoldable pub with_devices : Stat → (devices : List (List ℕ)) → (old new : Tree) → Stat
-with_devices s [] old new = s
-with_devices s (d ∷ more) old new =
-    with_devices (with_device (are_some (device_differences d old new)) (with_changes s (device_differences d old new))) more old new
+unfoldable pub with_devices : Review → Stat → (devices : List (List ℕ)) → (old new : Tree) → Stat
+with_devices r s [] old new = s
+with_devices r s (d ∷ more) old new = with_devices r (with_told s (reviewed r (device_differences d old new))) more old new
 
 -- the changes from one database to another: of all that they assign, or for these devices
-abbrev pub stat_of : Option (List (List ℕ)) → (old new : Tree) → Stat
-stat_of None old new = with_changes no_stat (differences (map_of old) (map_of new))
-stat_of (Some devices) old new = with_devices no_stat devices old new
+abbrev pub stat_of : Review → Option (List (List ℕ)) → (old new : Tree) → Stat
+stat_of r None old new = with_changes no_stat (reviewed r (differences (map_of old) (map_of new)))
+stat_of r (Some devices) old new = with_devices r no_stat devices old new
 
 -- ---- what is printed
 
@@ -123,7 +128,7 @@ devices_member (Some devices) n = (codes "devices", number_json n) ∷ []
 
 -- one object of all counts
 abbrev pub stat_object : Option (List (List ℕ)) → Stat → Json
-stat_object devices s = object_of ((codes "files", array_of (map (count_object (codes "path")) s.files))
+stat_object devices s = object_of ((codes "files", array_of (map (count_object (codes "file")) s.files))
     ∷ (codes "keys", array_of (map (count_object (codes "key")) s.keys)) ∷ (codes "total", object_of (count_members s.total)) ∷ devices_member devices s.devices)
 
 -- as text; nothing if no file has a change

@@ -1,7 +1,7 @@
 -- The command line of hwdb, as the command that `clap` is given: `update` and `query` of systemd-hwdb(8), and commands of our own.
 -- `clap` adds the options for help and the version, and the command `help`.
 use Rattle.std.specs.Prelude.{Some, codes, true}
-use Rattle.clap.specs.Walk.{Rule}
+use Rattle.clap.specs.Walk.{Rule, Text}
 use Rattle.clap.specs.declared.builder.action.ArgAction.TheVariants.{SetTrue, Set, Append}
 use Rattle.clap.specs.Simple.{new_rule, App, with_rule, new_app, Shape, on_top, with_subcommand}
 use Rattle.clap.specs.declared.builder.value_parser.ValueParser.TheVariants as vp
@@ -61,6 +61,10 @@ record_rule = record (new_rule (codes "record")) { long = Some (codes "record");
 -- files that name devices, or none
 abbrev pub devices_option_rule : Rule
 devices_option_rule = record (new_rule (codes "devices")) { value_names = 1; long = Some (codes "devices"); action = Some Append }
+
+-- an option with a value that may come more than once, as its name
+abbrev pub values_rule : (name : Text) → Rule
+values_rule name = record (new_rule name) { value_names = 1; long = Some name; action = Some Append }
 
 -- a database, or none
 abbrev pub database_rule : Rule
@@ -202,9 +206,17 @@ abbrev pub test_app : App
 test_app =
     with_rule (with_rule (with_rule (with_rule (with_rule (with_shared (new_app (codes "test"))) record_rule) database_option_rule) text_rule) json_rule) test_files_rule
 
+-- the options of `diff` that say which changes count
+abbrev pub with_choice : App → App
+with_choice app = with_rule (with_rule (with_rule app (values_rule (codes "only"))) (values_rule (codes "not"))) (values_rule (codes "prefix"))
+
+-- and how they are told
+abbrev pub with_review : App → App
+with_review app = with_rule (with_rule (with_rule (with_choice (with_rule app verbose_rule)) stat_rule) format_rule) json_rule
+
 -- `diff`
 abbrev pub diff_app : App
-diff_app = with_rule (with_rule (with_rule (with_rule (with_rule (with_shared (new_app (codes "diff"))) devices_option_rule) stat_rule) json_rule) old_database_rule) new_database_rule
+diff_app = with_rule (with_rule (with_review (with_rule (with_shared (new_app (codes "diff"))) devices_option_rule)) old_database_rule) new_database_rule
 
 -- `verify`
 abbrev pub verify_app : App

@@ -9,6 +9,7 @@ use Rattle.clap.specs.Walk.{Row, Rule, Text, all_of, first_of, one_of}
 use Rattle.clap.specs.declared.builder.value_parser.ValueParser.{ValueParser}
 use Rattle.clap.specs.declared.builder.value_parser.ValueParser.TheVariants as vp
 use Rattle.hwdb_spec_commands.specs.CommandLine.{hwdb_app}
+use Rattle.hwdb_spec_commands.specs.Reviews.{Review, asks_lines, review_in}
 use Rattle.hwdb_spec_commands.specs.declared.job.Task.TheVariants.{Ask, Check, Device, Diff, Dump, Explain, Fresh, Keys, List as ListHits, Near, Query, Record, Scan, Status, Test, Update, Verify}
 use Rattle.hwdb_spec_commands.specs.declared.job.Task.{Task}
 use Rattle.hwdb_spec_commands.specs.declared.job.Job.{Job}
@@ -35,6 +36,18 @@ IsLimit None limit = limit ≡ None
 IsLimit (Some text) None = ⊥
 IsLimit (Some text) (Some n) = ParsesUnsigned {E = ParseIntError} 64 10 text (Ok n)
 
+-- how `diff` is asked to compare
+abbrev pub review_of : List Row → Review
+review_of rows = record {
+  json = has_flag (codes "json") rows;
+  stat = has_flag (codes "stat") rows;
+  lines = asks_lines (first_of (codes "format") rows);
+  verbose = has_flag (codes "verbose") rows;
+  only = unwrap_or (all_of (codes "only") rows) [];
+  without = unwrap_or (all_of (codes "not") rows) [];
+  prefixes = unwrap_or (all_of (codes "prefix") rows) [];
+}
+
 -- the task that a command's name and its matches ask for
 abbrev pub IsTask : Text → List Row → Task → Type 0
 IsTask name inner (Update u) = (name ≡ codes "update") × (has_flag (codes "check") inner ≡ false) × (u.verbose ≡ has_flag (codes "verbose") inner) × (u.skip_unreadable ≡ has_flag (codes "skip-unreadable") inner)
@@ -55,7 +68,7 @@ IsTask name inner (Test t) = (name ≡ codes "test") × (has_flag (codes "record
     × AreValues (codes "FILE") inner (map string_bytes t.files.items)
 IsTask name inner (Record r) = (name ≡ codes "test") × (has_flag (codes "record") inner ≡ true) × (r.json ≡ has_flag (codes "json") inner) × (option_map string_bytes r.database ≡ first_of (codes "database") inner)
     × AreValues (codes "FILE") inner (map string_bytes r.devices.items)
-IsTask name inner (Diff d) = (name ≡ codes "diff") × (d.json ≡ has_flag (codes "json") inner) × (d.stat ≡ has_flag (codes "stat") inner) × AreAnyValues (codes "devices") inner (map string_bytes d.devices.items)
+IsTask name inner (Diff d) = (name ≡ codes "diff") × (review_in d.review ≡ review_of inner) × AreAnyValues (codes "devices") inner (map string_bytes d.devices.items)
     × IsValue (codes "OLD") inner (string_bytes d.old) × IsValue (codes "NEW") inner (string_bytes d.new)
 IsTask name inner (Verify v) = (name ≡ codes "verify") × (option_map string_bytes v.database ≡ first_of (codes "DATABASE") inner)
 IsTask name inner (Dump d) = (name ≡ codes "dump") × (option_map string_bytes d.database ≡ first_of (codes "DATABASE") inner)

@@ -27,6 +27,9 @@ pub mod Once
 pub mod Progress
 pub mod ManyDevices
 pub mod Reloads
+pub mod Reviews
+pub mod ChangeForms
+pub mod Unmet
 pub mod ChangeCounts
 pub mod Comparisons
 pub mod LoneFile

@@ -62,9 +62,13 @@ IsKind Empty path contents = (is_file contents path ≡ false) × HasTexts (fold
 
 -- ---- the bytes of a side
 
--- a text file, as if it was in /etc/udev/hwdb.d
+-- what stands before the path of a text file of a side, where the database stores it. No file that `update` reads has two slashes there.
+abbrev pub given_front : List ℕ
+given_front = codes "/etc/udev/hwdb.d//"
+
+-- A text file, as if it was in /etc/udev/hwdb.d, under the path that was given. Files of one folder have one order by name and by path.
 abbrev pub as_etc : Source → Source
-as_etc s = record { name = file_name s.name; bytes = s.bytes }
+as_etc s = record { name = byte "/" ∷ s.name; bytes = s.bytes }
 
 -- the text files that a path means, as `check` reads them; standard input isn't read
 abbrev pub AreSideFiles : (path : List ℕ) → Contents → List Source → Type 0

@@ -1,4 +1,6 @@
 //! What the words of each command ask for.
+ghost use Rattle.std.specs.Prelude.{◌≡◌};
+ghost use Rattle.hwdb_spec_commands.specs.Reviews.{review_in};
 
 /// What the words of `update` ask for.
 #[derive(Debug, Drop)]
@@ -129,10 +131,39 @@ pub struct DiffArgs {
     pub new: String,
     /// The paths of files that name devices; none if assignments are compared.
     pub devices: Vec<String>,
+    /// How they are compared, and what is printed.
+    pub review: ReviewArgs,
+}
+
+/// What the words of `diff` ask for besides its files.
+#[derive(Debug, Drop)]
+pub struct ReviewArgs {
     /// Whether as JSON.
     pub json: bool,
     /// Whether changes are counted by file and key.
     pub stat: bool,
+    /// The name of the text's form, if one is given.
+    pub format: Option<String>,
+    /// Whether the changes that no device meets are told.
+    pub verbose: bool,
+    /// The globs of the files that count; none if all do.
+    pub only: Vec<String>,
+    /// The globs of files that don't.
+    pub without: Vec<String>,
+    /// What the patterns that count begin with; none if all count.
+    pub prefixes: Vec<String>,
+}
+
+impl ReviewArgs {
+    /// Whether each change has a line of its own: the word after `--format` is `lines`.
+    pub fn asks_lines(&self) -> bool
+        ensures { result ≡ (review_in self.now).lines }
+    {
+        match &self.format {
+            Some(name) => name.as_str() == "lines",
+            None => false,
+        }
+    }
 }
 
 /// What the words of `verify` ask for.

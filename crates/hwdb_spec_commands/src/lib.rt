@@ -114,7 +114,7 @@ mod vocabulary;
 
 pub use args::{
     AskArgs, CheckArgs, DeviceArgs, DiffArgs, DumpArgs, ExplainArgs, KeysArgs, ListArgs, NearArgs,
-    QueryArgs, RecordArgs, ScanArgs, StatusArgs, TestArgs, UpdateArgs, VerifyArgs,
+    QueryArgs, RecordArgs, ReviewArgs, ScanArgs, StatusArgs, TestArgs, UpdateArgs, VerifyArgs,
 };
 pub use attributes::ATTRIBUTES;
 pub use colours::{LinePart, Style, TextKind};

@@ -12,7 +12,7 @@ use Rattle.hwdb_spec_commands.specs.CommandLine.{hwdb_app}
 use Rattle.hwdb_spec_commands.specs.DeviceAsked.{device_form}
 use Rattle.hwdb_spec_commands.specs.DeviceTree.{Sight, last_after}
 use Rattle.hwdb_spec_commands.specs.Given.{is_dash}
-use Rattle.hwdb_spec_commands.specs.Jobs.{has_flag, text_if, text_taker}
+use Rattle.hwdb_spec_commands.specs.Jobs.{has_flag, review_of, text_if, text_taker}
 use Rattle.hwdb_spec_commands.specs.NearAsked.{near_form, near_limit}
 use Rattle.hwdb_spec_commands.specs.OverText.{said_besides}
 use Rattle.hwdb_spec.specs.Store.{Contents, Outcomes}
@@ -132,7 +132,7 @@ diff_of rows =
     let given = values_of (codes "devices") rows in
     let old = value_of (codes "OLD") rows in
     let new = value_of (codes "NEW") rows in
-    Fit (text_if (names_twice given old new) twice_text) (changes_request given old new (change_of (has_flag (codes "stat") rows) (has_flag (codes "json") rows)))
+    Fit (text_if (names_twice given old new) twice_text) (changes_request given old new (change_of (review_of rows)))
 
 -- `update`, with its word: with `--check` it is `status`, of which the status alone is told; without it there is none
 abbrev pub update_rows : (root : List ℕ) → List Row → List (Text × Command)

@@ -10,7 +10,7 @@ ghost use Rattle.hwdb_spec.specs.Visible.{are_kept, visible};
 ghost use Rattle.hwdb_tool.specs.Colours.{IsColoured, IsShown, told_through};
 
 use crate::outlet::Outlet;
-use hwdb_cli::Task;
+use hwdb_cli::{DiffArgs, Task};
 use hwdb_io::{Cause, DeviceFailed, Sink, write_text};
 use hwdb_show::{
     colours_are_taken_out, painted, push_visible, shown_has_no_control, write_visible,
@@ -177,16 +177,19 @@ pub fn kind_of(task: &Task) -> TextKind {
         Task::Check(args) if !args.json && !args.diff => TextKind::Reports,
         Task::Near(args) if !args.json => TextKind::Reports,
         Task::Test(args) if !args.json => TextKind::Reports,
-        Task::Diff(args) if !args.json && !args.stat => changes_kind(&args.devices),
+        Task::Diff(args) => changes_kind(args),
         Task::Verify(_) => TextKind::Counts,
         Task::Dump(_) | Task::Record(_) => TextKind::Records,
         _ => TextKind::Plain,
     }
 }
 
-/// What kind of text changes are: of assignments, or for the devices of some files.
-fn changes_kind(devices: &[String]) -> TextKind {
-    if devices.is_empty() {
+/// What kind of text changes are: a line each with its pattern, or below a pattern or a device.
+fn changes_kind(args: &DiffArgs) -> TextKind {
+    if args.review.json || args.review.stat {
+        return TextKind::Plain;
+    }
+    if args.devices.is_empty() && args.review.asks_lines() {
         TextKind::Changes
     } else {
         TextKind::DeviceChanges

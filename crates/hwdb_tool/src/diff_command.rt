@@ -1,13 +1,14 @@
 //! `diff`: two sides that are read and compared, in all that they assign, or in what the devices of files get.
-ghost use Rattle.std.specs.Prelude.{◌≡◌, ◌≤◌, ◌++◌, ◌∷◌, None, Some, false, flat_map, if◌then◌else◌, map, string_bytes, IfOk, IfErr, OnOk};
+ghost use Rattle.std.specs.Prelude.{◌≡◌, ◌≤◌, ◌++◌, ◌∷◌, false, flat_map, if◌then◌else◌, map, string_bytes, IfOk, IfErr, OnOk};
 ghost use Rattle.hwdb_check.specs.Checks.{source_of};
-ghost use Rattle.hwdb_spec_commands.specs.Comparisons.{comparison_form, devices_named, has_changed};
+ghost use Rattle.hwdb_spec_commands.specs.Comparisons.{comparison_form, comparison_said, devices_named, has_changed};
 ghost use Rattle.hwdb_spec_commands.specs.Databases.{IsDiffText, IsDifferent};
 ghost use Rattle.hwdb_spec_commands.specs.DiffErrors.{IsDiffRefusal};
 ghost use Rattle.hwdb_spec.specs.Folders as folders;
 ghost use Rattle.hwdb_spec_commands.specs.Given.{any_dash, is_dash};
 ghost use Rattle.hwdb_spec_program.specs.GivenDatabases.{names_twice, twice_text};
 ghost use Rattle.hwdb_spec_commands.specs.Refusals.{IsInWords};
+ghost use Rattle.hwdb_spec_commands.specs.Reviews.{review_in};
 ghost use Rattle.hwdb_spec_commands.specs.Undone.{told_path};
 ghost use Rattle.hwdb_spec_program.specs.ComparedDatabases.{IsOfDiff};
 ghost use Rattle.hwdb_spec.specs.Texts.{devices_of};
@@ -28,8 +29,8 @@ use crate::sides::side;
 use crate::verb::Verb;
 use hwdb_answers::ToolError;
 use hwdb_check::TextFile;
-use hwdb_cli::{DiffArgs, Job};
-use hwdb_databases::{Changes, DiffError, diff_devices, stat, stat_devices};
+use hwdb_cli::{DiffArgs, Job, ReviewArgs};
+use hwdb_databases::{Changes, DiffError};
 use hwdb_io::Source;
 use hwdb_reader::law_one_tree;
 use hwdb_system::{Machine, Refusal, TextsBelow};
@@ -39,10 +40,8 @@ use std::alloc::{AllocError, Global};
 /// What is said if standard input would be read twice.
 const TWICE: &str = "only one of OLD, NEW and --devices FILE may be -: standard input is read once";
 
-/// What changed from the side at one path to that at another, as text or JSON. For the devices of the given files, a line each, it is
-/// what changed in what each of them gets; without a file it is each pattern and key for which the two differ. `-` is what `input` has
-/// left, of a file or of one side. If `stat` it is how many assignments came, went and changed. The status is 1 if something changed,
-/// else 0.
+/// What changed from the side at one path to that at another, as `review` asks for it. For the devices of the given files, a line each, it is what changed in what each of them gets; without a file it is each pattern and key for which the two differ. `-` is
+/// what `input` has left, of a file or of one side. The status is 1 if something changed, else 0.
 ///
 /// All files of devices are read first, in their order, and then the old side and the new one: the error is the first that comes so.
 /// Before them it is an error if both sides are `-`, or one of them and a file.
@@ -51,8 +50,7 @@ pub fn diff<D: TextsBelow, I: Source>(
     old_path: &str,
     new_path: &str,
     given: &[String],
-    stat: bool,
-    json: bool,
+    review: &ReviewArgs,
     system: &D,
     input: &mut I,
 ) -> Result<Answer, Refusal>
@@ -60,7 +58,7 @@ pub fn diff<D: TextsBelow, I: Source>(
         (I.failures input.new) (λ told. Follows end_of (D.System.reads system.now)
         (if_fit (text_if (names_twice (map string_bytes given.now) old_path.now new_path.now)
         twice_text) (diff_plan told (map string_bytes given.now) old_path.now new_path.now
-        (change_of stat json))) result) }
+        (change_of (review_in review.now)))) result) }
     ensures unread { any_dash (old_path.now ∷ new_path.now ∷ map string_bytes given.now) ≡ false
         → input.new ≡ input.old }
 {
@@ -69,7 +67,7 @@ pub fn diff<D: TextsBelow, I: Source>(
     }
     let texts = given_texts(alloc, given, given, system, input)?;
     let files = with_paths(alloc, given, &texts)?;
-    compared(alloc, old_path, new_path, stat, json, &files, system, input)
+    compared(alloc, old_path, new_path, review, &files, system, input)
 }
 
 /// Whether standard input would be read twice: as both sides, or as one of them and a file of devices.
@@ -97,8 +95,7 @@ fn compared<D: TextsBelow, I: Source>(
     alloc: Global,
     old_path: &str,
     new_path: &str,
-    stat: bool,
-    json: bool,
+    review: &ReviewArgs,
     files: &[TextFile<'_>],
     system: &D,
     input: &mut I,
@@ -107,84 +104,53 @@ fn compared<D: TextsBelow, I: Source>(
         → OfInput (I.left input.old) (I.failures input.old) (I.failures input.new)
         (λ told. Follows end_of (D.System.reads system.now)
         (sides_compared told old_path.now new_path.now
-        (change_of stat json (map source_of files.now))) result) }
+        (change_of (review_in review.now) (map source_of files.now))) result) }
     ensures unread { is_dash old_path.now ≡ false → is_dash new_path.now ≡ false
         → input.new ≡ input.old }
 {
     law_one_tree();
     let old = side(alloc, old_path, system, input)?;
     let new = side(alloc, new_path, system, input)?;
-    match changes_of(alloc, stat, json, files, &old, &new) {
-        Ok(changes) => Ok(Answer::new(alloc, changes.text, status_of(changes.differ))),
+    match changes_of(alloc, review, files, &old, &new) {
+        Ok(changes) => Ok(answer_of(changes)),
         Err(error) => Err(refusal_of(alloc, error, old_path, new_path)),
     }
 }
 
-/// What changed from one database to another, of all that they assign.
-fn assigned_changes(
-    alloc: Global,
-    counts: bool,
-    json: bool,
-    old: &[u8],
-    new: &[u8],
-) -> Result<Changes, DiffError>
-    ensures text { IfOk result (λ changes. IsDiffText
-        (comparison_form counts json None) old.now new.now changes.text.items) }
-    ensures differ { IfOk result
-        (λ changes. IsDifferent (has_changed None) old.now new.now changes.differ) }
-    ensures errors { IfErr result (IsDiffRefusal old.now new.now) }
+/// What is printed and said of changes, and the status.
+fn answer_of(changes: Changes) -> Answer
+    ensures err { result.err.items ≡ changes.entry.said.items }
+    ensures out { result.out.items ≡ changes.entry.text.items }
+    ensures status { result.status ≡ (if changes.entry.differ then 1 else 0) }
 {
-    if counts {
-        stat(alloc, json, old, new)
-    } else {
-        hwdb_databases::diff(alloc, json, old, new)
-    }
-}
-
-/// The same of what some devices get.
-fn device_changes(
-    alloc: Global,
-    counts: bool,
-    json: bool,
-    old: &[u8],
-    new: &[u8],
-    devices: &[&[u8]],
-) -> Result<Changes, DiffError>
-    ensures text { IfOk result (λ changes. IsDiffText
-        (comparison_form counts json (Some (map (λ d. d.now) devices.now)))
-        old.now new.now changes.text.items) }
-    ensures differ { IfOk result (λ changes. IsDifferent
-        (has_changed (Some (map (λ d. d.now) devices.now))) old.now new.now changes.differ) }
-    ensures errors { IfErr result (IsDiffRefusal old.now new.now) }
-{
-    if counts {
-        stat_devices(alloc, json, old, new, devices)
-    } else {
-        diff_devices(alloc, json, old, new, devices)
-    }
+    let Changes { text, said, differ } = changes;
+    Answer::with_error(said, text, status_of(differ))
 }
 
 /// What changed from one database to another, for the devices of some files if there are any.
 fn changes_of(
     alloc: Global,
-    counts: bool,
-    json: bool,
+    review: &ReviewArgs,
     files: &[TextFile<'_>],
     old: &[u8],
     new: &[u8],
 ) -> Result<Changes, DiffError>
     ensures text { IfOk result (λ changes. IsDiffText
-        (comparison_form counts json (devices_named (map source_of files.now)))
+        (comparison_form (review_in review.now) (devices_named (map source_of files.now)))
         old.now new.now changes.text.items) }
+    ensures said { IfOk result (λ changes. IsDiffText
+        (comparison_said (review_in review.now) (devices_named (map source_of files.now)))
+        old.now new.now changes.said.items) }
     ensures differ { IfOk result (λ changes. IsDifferent
-        (has_changed (devices_named (map source_of files.now))) old.now new.now changes.differ) }
+        (has_changed (review_in review.now) (devices_named (map source_of files.now)))
+        old.now new.now changes.differ) }
     ensures errors { IfErr result (IsDiffRefusal old.now new.now) }
 {
     if files.is_empty() {
-        return assigned_changes(alloc, counts, json, old, new);
+        return hwdb_databases::diff(alloc, review, None, old, new);
     }
     let devices = devices_in(alloc, files)?;
-    device_changes(alloc, counts, json, old, new, &devices)
+    hwdb_databases::diff(alloc, review, Some(&devices), old, new)
 }
 
 /// Adds the devices that a text names, a line each. The only error, here and below, is `AllocError`.
@@ -269,15 +235,6 @@ impl<D: Machine, I: Source> Verb<D, I> for DiffArgs {
         input: &mut I,
     ) -> Result<Answer, Refusal> {
         let (old, new) = (self.old.as_str(), self.new.as_str());
-        diff(
-            alloc,
-            old,
-            new,
-            &self.devices,
-            self.stat,
-            self.json,
-            system,
-            input,
-        )
+        diff(alloc, old, new, &self.devices, &self.review, system, input)
     }
 }

@@ -9,7 +9,7 @@ ghost use Rattle.hwdb_plan.specs.GivenFolders.{if_few};
 ghost use Rattle.hwdb_plan.specs.Plans.{ReachesValue};
 ghost use Rattle.hwdb_plan.specs.Sides.{file_bytes, folder_bytes, made_at, made_of, own_made, plain_side, side, taken_from};
 ghost use Rattle.hwdb_spec_commands.specs.Given.{is_dash};
-ghost use Rattle.hwdb_spec.specs.Lines.{has};
+ghost use Rattle.hwdb_spec.specs.Lines.{byte, has};
 ghost use Rattle.hwdb_spec_commands.specs.Refusals.{IsInWords, IsUnreadAt};
 ghost use Rattle.hwdb_spec_commands.specs.Sides;
 ghost use Rattle.hwdb_spec_commands.specs.Sides.{as_etc, names_text, no_texts_text};
@@ -80,12 +80,22 @@ fn names_text(path: &str) -> bool
     counts(file_name(path).as_bytes())
 }
 
-/// A text file, as if it was in /etc/udev/hwdb.d. The only error, here and below, is `AllocError`.
+/// The name that a text file of a side has in /etc/udev/hwdb.d: a slash, and the path that was given. The only error, here and below,
+/// is `AllocError`.
+fn given_name(alloc: Global, path: &str) -> Result<String, AllocError>
+    ensures { IfOk result (λ name. string_bytes name ≡ byte "/" ∷ path.now) }
+{
+    let mut name = String::from_str(alloc, "/")?;
+    name.push_str(path)?;
+    Ok(name)
+}
+
+/// A text file, as if it was in /etc/udev/hwdb.d, under that name.
 fn as_etc(alloc: Global, file: &TextFile<'_>) -> Result<SourceFile, AllocError>
     ensures { IfOk result (λ etc. compiled.source_of etc ≡ as_etc (source_of file.now)) }
 {
     Ok(SourceFile {
-        name: String::from_str(alloc, file_name(file.path))?,
+        name: given_name(alloc, file.path)?,
         bytes: Vec::from_slice(alloc, file.bytes)?,
     })
 }

@@ -9,7 +9,8 @@ use Rattle.hwdb_spec.specs.Tree.{Tree}
 use Rattle.hwdb_spec.specs.declared.errors.DiffError.{DiffError}
 use Rattle.hwdb_spec.specs.declared.errors.DiffError.TheVariants.{Memory, New, Old}
 use Rattle.hwdb_spec.specs.declared.errors.ToolError.TheVariants as error
-use Rattle.hwdb_spec_commands.specs.Comparisons.{comparison_form, devices_named, has_changed}
+use Rattle.hwdb_spec_commands.specs.Comparisons.{comparison_form, comparison_said, devices_named, has_changed}
+use Rattle.hwdb_spec_commands.specs.Reviews.{Review}
 use Rattle.hwdb_spec_commands.specs.Databases.{IsDiffText, IsDifferent}
 use Rattle.hwdb_spec_commands.specs.DiffErrors.{IsDiffRefusal}
 use Rattle.hwdb_spec_commands.specs.Given.{any_dash, is_dash}
@@ -88,28 +89,33 @@ module _ (w : Reads) where
           )
 
   -- ---- two databases
-  module _ (one : (bytes : List ℕ) (t u : Tree) → IsDatabase bytes t → IsDatabase bytes u → t ≡ u) (stat json : Bool) (sources : List Source) (old_path new_path old new : List ℕ) where
+  module _ (one : (bytes : List ℕ) (t u : Tree) → IsDatabase bytes t → IsDatabase bytes u → t ≡ u) (r : Review) (sources : List Source) (old_path new_path old new : List ℕ) where
     abbrev Compared : Plan
-    Compared = compared old_path new_path old new (change_of stat json sources)
+    Compared = compared old_path new_path old new (change_of r sources)
+
+    abbrev devices : Option (List (List ℕ))
+    devices = devices_named sources
 
     -- they are compared
-    pub compared_end : (answer : Bool) (status : ℕ) (err out : List ℕ) → IsDiffText (comparison_form stat json (devices_named sources)) old new out → IsDifferent (has_changed (devices_named sources)) old new answer
-        → status ≡ (if answer then 1 else 0) → err ≡ [] → Ends w Compared (Answers status err out)
+    pub compared_end : (answer : Bool) (status : ℕ) (err out : List ℕ) → IsDiffText (comparison_form r devices) old new out → IsDiffText (comparison_said r devices) old new err
+        → IsDifferent (has_changed r devices) old new answer → status ≡ (if answer then 1 else 0) → Ends w Compared (Answers status err out)
     unfolding Ends
-    compared_end answer status err out text differs says none =
+    compared_end answer status err out text said differs says =
         inl (text.old_tree, text.old_database, inl (text.new_tree, text.new_database, same))
       where
-        change : Tree → Tree → Bool
-        change t u = has_changed (devices_named sources) t u
+        -- what two trees give is what the text's two do
+        as_text : {X : Type 0} (f : Tree → Tree → X) (t u : Tree) → IsDatabase old t → IsDatabase new u → f t u ≡ f text.old_tree text.new_tree
+        as_text f t u is_old is_new = ap (λ (v : Tree). f v u) (one old t text.old_tree is_old text.old_database)
+            ∙ ap (f text.old_tree) (one new u text.new_tree is_new text.new_database)
 
-        is : answer ≡ has_changed (devices_named sources) text.old_tree text.new_tree
-        is = differs.is ∙ ap (λ (t : Tree). has_changed (devices_named sources) t differs.new_tree) (one old differs.old_tree text.old_tree differs.old_database text.old_database)
-            ∙ ap (has_changed (devices_named sources) text.old_tree) (one new differs.new_tree text.new_tree differs.new_database text.new_database)
+        status_is : status ≡ (if has_changed r devices text.old_tree text.new_tree then 1 else 0)
+        status_is = says ∙ ap (λ (b : Bool). if b then 1 else 0) (differs.is ∙ as_text (has_changed r devices) differs.old_tree differs.new_tree differs.old_database differs.new_database)
 
-        same : Answers status err out ≡ change_of stat json sources text.old_tree text.new_tree
-        same = ap (λ (n : ℕ). Answers n err out) (says ∙ ap (λ (b : Bool). if b then 1 else 0) is)
-            ∙ ap (λ (e : List ℕ). Answers (if has_changed (devices_named sources) text.old_tree text.new_tree then 1 else 0) e out) none
-            ∙ ap (Answers (if has_changed (devices_named sources) text.old_tree text.new_tree then 1 else 0) []) text.is
+        said_is : err ≡ comparison_said r devices text.old_tree text.new_tree
+        said_is = said.is ∙ as_text (comparison_said r devices) said.old_tree said.new_tree said.old_database said.new_database
+
+        same : Answers status err out ≡ change_of r sources text.old_tree text.new_tree
+        same = λ i. Answers (status_is i) (said_is i) (text.is i)
 
     -- or one of them is none
     pub uncompared_end : (e : DiffError) (r : Refusal) → IsDiffRefusal old new e → IsStop (diff_stop old_path new_path e) r → (r ≡ refusal.Plain error.Memory) ⊎ Ends w Compared (Stops (stop_of r))

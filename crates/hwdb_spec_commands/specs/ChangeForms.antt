@@ -1,0 +1,74 @@
+-- How `diff` tells changes: of assignments by record, a line for each, or as JSON; for a device, as text or JSON. Our choice.
+use Rattle.std.specs.Prelude.{◌++◌, Bool, true, false, List, ℕ, [], ◌∷◌, None, Option, Some, codes, flat_map, if◌then◌else◌, map}
+use Rattle.json.specs.Json.{Json}
+use Rattle.hwdb_spec.specs.Assignment.{Assignment}
+use Rattle.hwdb_spec.specs.Folders.{same}
+use Rattle.hwdb_spec.specs.Lines.{byte}
+use Rattle.hwdb_spec_commands.specs.DeviceDifferences.{device_changes_text, told_change}
+use Rattle.hwdb_spec_commands.specs.Differences.{Change, changes_text}
+use Rattle.hwdb_spec_commands.specs.Differences.Change.{Came, Went, Changed}
+use Rattle.hwdb_spec_commands.specs.Json.{array_of, json_line, number_json, object_of, text_json}
+
+-- ---- JSON
+
+-- what an assignment gives, and where it comes from
+abbrev pub given_json : Assignment → Json
+given_json f = object_of ((codes "value", text_json f.value) ∷ (codes "path", text_json f.path) ∷ (codes "line", number_json f.position.line) ∷ [])
+
+-- what happened, the key, and what was and what is there
+abbrev pub change_members : Change → List (List ℕ × Json)
+change_members (Came new) = (codes "change", text_json (codes "added")) ∷ (codes "key", text_json new.position.key) ∷ (codes "new", given_json new) ∷ []
+change_members (Went old) = (codes "change", text_json (codes "removed")) ∷ (codes "key", text_json old.position.key) ∷ (codes "old", given_json old) ∷ []
+change_members (Changed old new) =
+    (codes "change", text_json (codes "changed")) ∷ (codes "key", text_json old.position.key) ∷ (codes "old", given_json old) ∷ (codes "new", given_json new) ∷ []
+
+-- the pattern of a change
+abbrev pub changed_pattern : Change → List ℕ
+changed_pattern (Came new) = new.position.pattern
+changed_pattern (Went old) = old.position.pattern
+changed_pattern (Changed old new) = old.position.pattern
+
+-- a change as an object: its pattern, and what happened
+abbrev pub whole_object : Change → Json
+whole_object change = object_of ((codes "pattern", text_json (changed_pattern change)) ∷ change_members change)
+
+-- the line of a change
+abbrev pub change_json : Change → List ℕ
+change_json change = json_line (whole_object change)
+
+-- the line of a device: its changes; no line if there is none
+abbrev pub device_changes_json : (device : List ℕ) → List Change → List ℕ
+device_changes_json device [] = []
+device_changes_json device (change ∷ more) =
+    json_line (object_of ((codes "device", text_json device) ∷ (codes "changes", array_of (map (λ c. object_of (change_members c)) (change ∷ more))) ∷ []))
+
+-- ---- what is printed
+
+-- a pattern on a line
+abbrev pub pattern_line : (pattern : List ℕ) → List ℕ
+pattern_line pattern = pattern ++ byte "\n" ∷ []
+
+-- the same, if the change before hasn't the same pattern
+abbrev pub heading : (last : Option (List ℕ)) → (pattern : List ℕ) → List ℕ
+heading None pattern = pattern_line pattern
+heading (Some last) pattern = if same last pattern then [] else pattern_line pattern
+
+-- changes by record, after one of this pattern: each pattern once, and below it a line for each change
+unfoldable pub grouped_after : (last : Option (List ℕ)) → List Change → List ℕ
+grouped_after last [] = []
+grouped_after last (c ∷ more) = heading last (changed_pattern c) ++ (told_change c ++ grouped_after (Some (changed_pattern c)) more)
+
+-- the changes of assignments as text: by record, or a line for each
+abbrev pub changes_lines : (lines : Bool) → List Change → List ℕ
+changes_lines true changes = changes_text changes
+changes_lines false changes = grouped_after None changes
+
+-- the same, or as JSON
+abbrev pub changes_form : (json lines : Bool) → List Change → List ℕ
+changes_form false lines changes = changes_lines lines changes
+changes_form true lines changes = flat_map change_json changes
+
+-- the changes for a device, as text or JSON
+abbrev pub device_changes_form : (json : Bool) → (device : List ℕ) → List Change → List ℕ
+device_changes_form false = device_changes_text
+device_changes_form true = device_changes_json
