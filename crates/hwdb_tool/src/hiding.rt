@@ -23,7 +23,7 @@ ghost use Rattle.hwdb_tool.specs.Verbs.{ShowsAsked};
 
 use crate::databases::database_folder;
 use crate::printing::say;
-use crate::update_command::{Update, update};
+use crate::update_command::{UpdateAsked, update};
 use crate::verb::root_of;
 use hwdb_cli::{Job, UpdateArgs};
 use hwdb_io::{Sink, Source};
@@ -89,7 +89,7 @@ fn hiding_text<D: System>(
 /// Says it.
 fn tell_hiding<D: System, E: Sink>(
     alloc: Global,
-    asked: Update<'_>,
+    asked: UpdateAsked<'_>,
     system: &D,
     err: &mut E,
 ) -> Result<(), Refusal>
@@ -107,7 +107,7 @@ fn tell_hiding<D: System, E: Sink>(
 /// Says it, and then updates, as [`update`] does. After an error the old database is as it was, and there is no new file.
 pub fn update_telling<D: System, E: Sink>(
     alloc: Global,
-    asked: Update<'_>,
+    asked: UpdateAsked<'_>,
     system: &mut D,
     err: &mut E,
 ) -> Result<u8, Refusal>
@@ -168,7 +168,7 @@ pub(crate) fn update_asked<D: Machine, I: Source, O: Sink, E: Sink>(
     ensures hands_on { HandsOn (E.is_flushed err.old) (E.is_flushed err.new)
         (E.failures err.old) (E.failures err.new) }
 {
-    let asked = Update {
+    let asked = UpdateAsked {
         root: root_of(job),
         usr: job.usr,
         strict: job.strict,

@@ -36,7 +36,7 @@ use std::alloc::Global;
 
 /// What an update asks for.
 #[derive(Clone, Copy)]
-pub struct Update<'a> {
+pub struct UpdateAsked<'a> {
     /// What is in front of the paths of folders and databases.
     pub root: &'a str,
     /// Whether /usr/lib's database is made, and not /etc's.
@@ -124,7 +124,7 @@ fn listing(verbose: bool, listed: &[String]) -> Option<&[String]>
 fn update_selected<D: System, E: Sink>(
     alloc: Global,
     selection: &Selection,
-    asked: Update<'_>,
+    asked: UpdateAsked<'_>,
     system: &mut D,
     err: &mut E,
 ) -> Result<u8, Refusal>
@@ -189,7 +189,7 @@ fn status_less(strict: bool, said: &[u8], status: u8) -> u8
 /// that can't be read is left out: its line goes to `err` first, and if `strict` the status is 1.
 pub fn update<D: System, E: Sink>(
     alloc: Global,
-    asked: Update<'_>,
+    asked: UpdateAsked<'_>,
     system: &mut D,
     err: &mut E,
 ) -> Result<u8, Refusal>
