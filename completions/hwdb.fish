@@ -149,7 +149,7 @@ complete -c hwdb -n '__hwdb_at device' -l from -x -a '(__hwdb_file)' -d 'Take de
 complete -c hwdb -n '__hwdb_at device' -l strings -d 'Print the strings alone, one a line'
 complete -c hwdb -n '__hwdb_at device' -l pattern -d 'Print records to begin with, which fit the device; before --json and --strings'
 complete -c hwdb -n '__hwdb_at device' -l all -d 'With --strings: print those of all devices, each once'
-complete -c hwdb -n '__hwdb_at check' -l allow -x -a 'byte-order-mark leading-tab carriage-return open-bracket empty-range spaced-equals cut-value repeated-match replaced near-name old-name scan-code unknown-key unfit-value zero-row singular-matrix two-defaults unread unknown-property unpaired unknown-prefix dead-pattern unlikely-pattern too-long-for-udev fragile-pattern' -d 'Leave out warnings of these kinds, with commas between; may come more than once'
+complete -c hwdb -n '__hwdb_at check' -l allow -x -a 'byte-order-mark leading-tab carriage-return open-bracket empty-range spaced-equals cut-value repeated-match replaced near-name old-name scan-code unknown-key unfit-value zero-row singular-matrix two-defaults unread unknown-property unpaired unknown-prefix dead-pattern unlikely-pattern too-long-for-udev fragile-pattern taken-as-set no-separator' -d 'Leave out warnings of these kinds, with commas between; may come more than once'
 complete -c hwdb -n '__hwdb_at check' -l baseline -x -a '(__hwdb_file)' -d 'Leave out what this file has, which check --json printed once, as often as it is there'
 complete -c hwdb -n '__hwdb_at check' -l name -x -a '(__hwdb_file)' -d 'The path that findings of standard input have'
 complete -c hwdb -n '__hwdb_at check' -l diff -d 'Print a patch of all sure mends instead, as patch -p0 and git apply -p0 take it'

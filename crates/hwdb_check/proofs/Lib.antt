@@ -33,3 +33,4 @@ pub mod HunkLemmas
 pub mod SureLaws
 pub mod AmongLemmas
 pub mod RuleLemmas
+pub mod ToldLemmas

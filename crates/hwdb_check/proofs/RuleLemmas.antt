@@ -1,7 +1,11 @@
 -- The laws of rules files.
 use Rattle.std.proofs.Common.{refl}
+use Rattle.std.specs.Char.{encode_utf8}
 use Rattle.std.specs.Fmt.{digits}
+use Rattle.std.specs.Str.{chars, is_utf8}
+use Rattle.hex.specs.Hex.{encode_with}
 use Rattle.hwdb_spec.specs.Lines.{pieces, trimmed}
+use Rattle.hwdb_spec.specs.Visible.{visible_after}
 use Rattle.hwdb_rulefiles.specs.RuleText.{first_rows, steps, long_row}
 use Rattle.hwdb_rulefiles.specs.RuleLines.{taking_most}
 use Rattle.hwdb_rulefiles.specs.RuleOrder.{by_rank}
@@ -41,7 +45,7 @@ named_rule_kinds NoLabel = refl
 named_rule_kinds LongRow = refl
 
 pub rule_file_rows : RuleFileRows
-unfolding digits pieces trimmed first_rows steps long_row taking_most by_rank resolved first_pieces spot_in one_found
+unfolding digits encode_utf8 chars is_utf8 encode_with visible_after pieces trimmed first_rows steps long_row taking_most by_rank resolved first_pieces spot_in one_found
 rule_file_rows = record {
   names = refl;
   kinds = refl;
