@@ -70,7 +70,7 @@ _hwdb() {
         [device]='-r --root --color --from --text --strings --json --pattern --all -h --help'
         [check]='-s --strict -r --root --color --allow --baseline --name --diff --format --json -h --help'
         [test]='-r --root --color --record --database --text --json -h --help'
-        [diff]='-r --root --color --devices --stat --json -h --help'
+        [diff]='-r --root --color --devices --verbose --only --not --prefix --stat --format --json -h --help'
         [verify]='-r --root --color --text -h --help'
         [dump]='-r --root --color --text -h --help'
         [status]='-r --root --color --json -h --help'
@@ -91,10 +91,13 @@ _hwdb() {
         [--format]='FORMAT'
         [--database]='DATABASE'
         [--devices]='FILE'
+        [--only]='GLOB'
+        [--not]='GLOB'
+        [--prefix]='TEXT'
         [--count]='N'
     )
     local -A kinds_of=(
-        [FORMAT]='text json github sarif'
+        [FORMAT]='text json github sarif grouped lines'
         [KIND]='byte-order-mark leading-tab carriage-return open-bracket empty-range spaced-equals cut-value repeated-match replaced near-name old-name scan-code unknown-key unfit-value zero-row singular-matrix two-defaults unread unknown-property unpaired unknown-prefix dead-pattern unlikely-pattern too-long-for-udev fragile-pattern taken-as-set no-separator'
         [WHEN]='auto always never'
     )

@@ -72,7 +72,7 @@ end
 complete -c hwdb -f
 # From here on completions/from-help has made it of the program's help.
 function __hwdb_takes_value
-    contains -- $argv[1] -r --root --color --after --limit --from --allow --baseline --name --format --database --devices --count
+    contains -- $argv[1] -r --root --color --after --limit --from --allow --baseline --name --format --database --devices --only --not --prefix --count
 end
 
 # The words that `help` takes.
@@ -153,11 +153,16 @@ complete -c hwdb -n '__hwdb_at check' -l allow -x -a 'byte-order-mark leading-ta
 complete -c hwdb -n '__hwdb_at check' -l baseline -x -a '(__hwdb_file)' -d 'Leave out what this file has, which check --json printed once, as often as it is there'
 complete -c hwdb -n '__hwdb_at check' -l name -x -a '(__hwdb_file)' -d 'The path that findings of standard input have'
 complete -c hwdb -n '__hwdb_at check' -l diff -d 'Print a patch of all sure mends instead, as patch -p0 and git apply -p0 take it'
-complete -c hwdb -n '__hwdb_at check' -l format -x -a 'text json github sarif' -d 'Print findings as text, json, github (annotations) or sarif; --json is --format json'
+complete -c hwdb -n '__hwdb_at check' -l format -x -a 'text json github sarif grouped lines' -d 'Print findings as text, json, github (annotations) or sarif; --json is --format json'
 complete -c hwdb -n '__hwdb_at test' -l record -d 'Print a test file of what the devices have, which holds'
 complete -c hwdb -n '__hwdb_at test' -l database -x -a '(__hwdb_database)' -d 'Ask this database, in place of that of /etc/udev or /usr/lib/udev'
 complete -c hwdb -n '__hwdb_at diff' -l devices -x -a '(__hwdb_file)' -d 'Compare what the devices of a file get, a line each, or of - for standard input; may come more than once'
+complete -c hwdb -n '__hwdb_at diff' -l verbose -d 'With --devices, say which changed assignments none of them meets'
+complete -c hwdb -n '__hwdb_at diff' -l only -x -d 'Compare only files whose name matches this, as 60-*; may come more than once'
+complete -c hwdb -n '__hwdb_at diff' -l not -x -d 'Leave out files whose name matches this, as 20-*; may come more than once'
+complete -c hwdb -n '__hwdb_at diff' -l prefix -x -d 'Compare only patterns, or devices, that begin with this, as evdev:; may come more than once'
 complete -c hwdb -n '__hwdb_at diff' -l stat -d 'Print how many assignments came, went and changed, by file and by key'
+complete -c hwdb -n '__hwdb_at diff' -l format -x -a 'text json github sarif grouped lines' -d 'Print changes grouped by record, or as lines: one for each, with its pattern'
 complete -c hwdb -n '__hwdb_at scan' -l count -x -d 'End after N keys'
 
 complete -c hwdb -n '__hwdb_at query' -a '(__hwdb_modalias)' -d MODALIAS

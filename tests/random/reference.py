@@ -930,6 +930,19 @@ def differences(old, new):
     return text
 
 
+def grouped_differences(old, new):
+    """The same by record: each pattern on a line, and below it the lines of its keys, without it."""
+    was, now = ({(a.pattern, a.key): a for a in assignments} for assignments in (old, new))
+    records = {}
+    for place in {*was, *now}:
+        before, after = was.get(place), now.get(place)
+        if before is None or after is None or before.value != after.value:
+            sign = b"+" if before is None else b"-" if after is None else b"~"
+            told = b"\t".join([sign] + [sourced(a) for a in (before, after) if a is not None])
+            records.setdefault(place[0], {})[place[1]] = told + b"\n"
+    return b"".join(pattern + b"\n" + b"".join(keys[key] for key in sorted(keys)) for pattern, keys in sorted(records.items()))
+
+
 def sourced(a):
     return b"%s=%s\t%s:%d" % (a.key, a.value, a.path, a.line)
 

@@ -19,17 +19,16 @@ unfolding file_name
 text_rows = refl
 
 pub etc_rows : EtcRows
-unfolding file_name
 etc_rows = refl
 
 pub stat_rows : StatRows
-unfolding counted with_changes digits visible_after is_utf8 chars encode_utf8
+unfolding counted with_changes digits visible_after is_utf8 chars encode_utf8 file_name
 stat_rows = refl
 
 pub device_stat_rows : DeviceStatRows
-unfolding counted with_changes digits visible_after is_utf8 chars encode_utf8
+unfolding counted with_changes digits visible_after is_utf8 chars encode_utf8 file_name
 device_stat_rows = refl
 
 pub stat_json_rows : StatJsonRows
-unfolding counted with_changes digits escape_byte print_from items_of members_of is_utf8 chars encode_utf8 escaped_after
+unfolding counted with_changes digits escape_byte print_from items_of members_of is_utf8 chars encode_utf8 escaped_after file_name
 stat_json_rows = refl

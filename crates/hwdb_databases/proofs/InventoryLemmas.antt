@@ -6,7 +6,7 @@ use Rattle.std.specs.List.{dedup_from}
 use Rattle.std.specs.Cmp.Lexicographic.{texts_ties}
 use Rattle.std.proofs.lemmas.List.{length-append, map-append}
 use Rattle.hwdb_spec.specs.Assignment.{Assignment, ascending, put, text_cmp}
-use Rattle.hwdb_spec_commands.specs.Differences.{Change, are_some, change_text}
+use Rattle.hwdb_spec_commands.specs.Differences.{Change, are_some, change_text, changes_text}
 use Rattle.hwdb_spec_commands.specs.Differences.Change.{Came, Went, Changed}
 use Rattle.hwdb_spec.specs.Folders.{same}
 use Rattle.hwdb_spec.specs.Lemmas.Orders.{same_itself}
@@ -18,7 +18,6 @@ use Rattle.hwdb_reader.specs.Unread.{IsFrom, file_of, text_of}
 use Rattle.hwdb_reader.specs.declared.unread.UnreadEntry.{UnreadEntry}
 use Rattle.hwdb_databases.specs.declared.inventory.Inventory.{Inventory}
 use Rattle.hwdb_databases.specs.Internal.Counting.{IsHeldFrom, first_kept}
-use Rattle.hwdb_databases.specs.Internal.Forms.{change_form}
 use Rattle.hwdb_databases.specs.Internal.Meeting.{changes_by, unread_of, new_by, old_by}
 use Rattle.hwdb_databases.specs.declared.meeting.Side.{Side}
 use Rattle.hwdb_databases.specs.declared.meeting.Side.TheVariants.{Old, New, Both}
@@ -113,9 +112,9 @@ pub kept_none : (kept : List ℕ) (cs : List Change) → cs ≡ [] → kept ≡ 
 kept_none [] cs is = sym (ap first_text is)
 kept_none (b ∷ more) cs is = refl
 
-pub kept_first : (kept now : List ℕ) (cs : List Change) (c : Change) → cs ≡ c ∷ [] → kept ≡ [] → now ≡ kept ++ flat_map (change_form false) cs → now ≡ first_kept kept cs
+pub kept_first : (kept now : List ℕ) (cs : List Change) (c : Change) → cs ≡ c ∷ [] → kept ≡ [] → now ≡ kept ++ changes_text cs → now ≡ first_kept kept cs
 kept_first kept now cs c one empty is =
-    is ∙ ap (λ (g : List ℕ × List Change). g.0 ++ flat_map (change_form false) g.1) (λ i. (empty i, one i)) ∙ append-nil (change_text c)
+    is ∙ ap (λ (g : List ℕ × List Change). g.0 ++ changes_text g.1) (λ i. (empty i, one i)) ∙ append-nil (change_text c)
     ∙ sym (ap (λ (g : List ℕ × List Change). first_kept g.0 g.1) (λ i. (empty i, one i)))
 
 pub kept_still : (kept : List ℕ) (cs : List Change) → (kept ≡ [] → ⊥) → kept ≡ first_kept kept cs

@@ -7,7 +7,6 @@ pub mod WalkLemmas
 pub mod OrderLemmas
 pub mod MergeLemmas
 pub mod PairLemmas
-pub mod DiffLemmas
 pub mod DepthLemmas
 pub mod DifferentLemmas
 pub mod TallyLemmas
@@ -24,6 +23,9 @@ pub mod PlacedLemmas
 pub mod StateLemmas
 pub mod ToldLemmas
 pub mod AlikeLemmas
-pub mod ChangeLemmas
 pub mod GiftLemmas
 pub mod ReportLemmas
+pub mod ReviewLemmas
+pub mod GivenLemmas
+pub mod UnmetLemmas
+pub mod LineLemmas

@@ -1,5 +1,6 @@
 -- Counts of changes, one change more at a time.
-use Rattle.std.proofs.Common.{◌≡◌, ◌∙◌, ◌||◌, ap, sym, refl, cond, Bool, true, false, ℕ, List, [], ◌∷◌, ◌++◌, flat_map, map, Some, None, append_assoc}
+use Rattle.std.proofs.Common.{◌≡◌, ◌∙◌, ◌<◌, ◌+◌, ◌||◌, ap, sym, refl, cond, Bool, true, false, ℕ, List, [], ◌∷◌, ◌++◌, flat_map, get_or, length, map, take, Some, None, append_assoc}
+use Rattle.std.proofs.lemmas.List.{map_more}
 use Rattle.std.specs.Borrow.{Bor}
 use Rattle.std.specs.List.Sorted.{IsStrictlySortedBy}
 use Rattle.std.specs.Cmp.{IsTotalOrder}
@@ -16,12 +17,15 @@ use Rattle.json.specs.Token.{Token}
 use Rattle.json.specs.Tree.{json_tokens}
 use Rattle.hwdb_spec.specs.Assignment.{text_cmp}
 use Rattle.hwdb_spec_commands.specs.ChangeCounts as spec
-use Rattle.hwdb_spec_commands.specs.ChangeCounts.{count_object, counted, no_count, one_more, with_change, with_changes, with_device, with_devices}
-use Rattle.hwdb_spec_commands.specs.DeviceDifferences.{device_differences}
-use Rattle.hwdb_spec_commands.specs.Differences.{Change, are_some}
+use Rattle.hwdb_spec_commands.specs.ChangeCounts.{count_object, counted, no_count, one_more, with_change, with_changes, with_devices, with_told}
+use Rattle.hwdb_spec_commands.specs.Comparisons.{device_changes}
+use Rattle.hwdb_spec_commands.specs.Differences.{Change}
+use Rattle.hwdb_spec_commands.specs.Reviews.{Review}
 use Rattle.hwdb_spec.specs.Tree.{Tree}
 use Rattle.hwdb_databases.specs.Internal.Counts.{count_shown, named_count}
+use Rattle.hwdb_databases.specs.Views.{change_shown}
 use Rattle.hwdb_databases.specs.declared.counting.Count.{Count}
+use Rattle.hwdb_databases.specs.declared.pairs.Pair.{Pair}
 
 abbrev Entries : Type 0
 Entries = List (Bor (List ℕ) × Count)
@@ -83,21 +87,28 @@ pub one_change : (s : spec.Stat) (cs : List Change) (c : Change) → cs ≡ c �
 unfolding with_changes
 one_change s cs c is = ap (with_changes s) is
 
-pub no_change : (s : spec.Stat) (cs : List Change) → cs ≡ [] → with_changes s cs ≡ s
-unfolding with_changes
-no_change s cs is = ap (with_changes s) is
-
--- what was counted, the next changes and those after them
-pub counted_step : (so_far next : spec.Stat) (all changes more : List Change) → all ≡ changes ++ more → next ≡ with_changes so_far changes → with_changes next more ≡ with_changes so_far all
-counted_step so_far next all changes more is n =
-    ap (λ (s : spec.Stat). with_changes s more) n ∙ sym (changes_append so_far changes more) ∙ ap (with_changes so_far) (sym is)
-
 -- one device more
-pub devices_step : (s : spec.Stat) (xs : List (List ℕ)) (d : List ℕ) (old new : Tree) → with_devices s (xs ++ d ∷ []) old new
-    ≡ with_device (are_some (device_differences d old new)) (with_changes (with_devices s xs old new) (device_differences d old new))
+pub devices_step : (r : Review) (s : spec.Stat) (xs : List (List ℕ)) (d : List ℕ) (old new : Tree) → with_devices r s (xs ++ d ∷ []) old new
+    ≡ with_told (with_devices r s xs old new) (device_changes r old new d)
 unfolding with_devices
-devices_step s [] d old new = refl
-devices_step s (x ∷ xs) d old new = devices_step (with_device (are_some (device_differences x old new)) (with_changes s (device_differences x old new))) xs d old new
+devices_step r s [] d old new = refl
+devices_step r s (x ∷ xs) d old new = devices_step r (with_told s (device_changes r old new x)) xs d old new
+
+pub no_changes : (s : spec.Stat) → s ≡ with_changes s []
+unfolding with_changes
+no_changes s = refl
+
+last_change : (s : spec.Stat) (c : Change) → with_changes s (c ∷ []) ≡ with_change s c
+unfolding with_changes
+last_change s c = refl
+
+-- one change more
+pub change_step : (all : List Pair) (i : ℕ) (d : Pair) (first before now : spec.Stat) → i < length all → now ≡ with_change before (change_shown (get_or all i d))
+    → before ≡ with_changes first (map change_shown (take i all)) → now ≡ with_changes first (map change_shown (take (i + 1) all))
+change_step all i d first before now h is so_far =
+    let c = change_shown (get_or all i d) in
+    is ∙ ap (λ (s : spec.Stat). with_change s c) so_far ∙ sym (last_change (with_changes first (map change_shown (take i all))) c)
+    ∙ sym (changes_append first (map change_shown (take i all)) (c ∷ [])) ∙ ap (with_changes first) (sym (map_more change_shown all i d h))
 
 -- what was written of some counts, and of the next one
 pub counts_step : {X : Type 0} (f : List ℕ × spec.Count → List X) (before after : List X) (left rest : Entries) (name : Bor (List ℕ)) (count : Count) (whole : List X)
@@ -118,16 +129,16 @@ counts_after before begun now word ns opened is =
     is ∙ ap (λ l. l ++ flat_map (λ n. json_tokens (count_object word n)) ns) opened ∙ ap (λ l. (before ++ Token.begin_array ∷ []) ++ l) (counts_run word ns)
 
 -- no device
-pub no_devices : (s : spec.Stat) (old new : Tree) → with_devices s [] old new ≡ s
+pub no_devices : (r : Review) (s : spec.Stat) (old new : Tree) → with_devices r s [] old new ≡ s
 unfolding with_devices
-no_devices s old new = refl
+no_devices r s old new = refl
 
 -- some devices, and one more of them
-pub devices_more : (s before next : spec.Stat) (done more : List (List ℕ)) (d : List ℕ) (old new : Tree) → more ≡ done ++ d ∷ [] → before ≡ with_devices s done old new
-    → next ≡ with_device (are_some (device_differences d old new)) (with_changes before (device_differences d old new)) → next ≡ with_devices s more old new
-devices_more s before next done more d old new are so_far is =
-    is ∙ ap (λ (b : spec.Stat). with_device (are_some (device_differences d old new)) (with_changes b (device_differences d old new))) so_far
-    ∙ sym (devices_step s done d old new) ∙ ap (λ (ds : List (List ℕ)). with_devices s ds old new) (sym are)
+pub devices_more : (r : Review) (s before next : spec.Stat) (done more : List (List ℕ)) (d : List ℕ) (old new : Tree) → more ≡ done ++ d ∷ [] → before ≡ with_devices r s done old new
+    → next ≡ with_told before (device_changes r old new d) → next ≡ with_devices r s more old new
+devices_more r s before next done more d old new are so_far is =
+    is ∙ ap (λ (b : spec.Stat). with_told b (device_changes r old new d)) so_far
+    ∙ sym (devices_step r s done d old new) ∙ ap (λ (ds : List (List ℕ)). with_devices r s ds old new) (sym are)
 
 any_last : (f : List ℕ → Bool) (done : List (List ℕ)) (d : List ℕ) → list_any f (done ++ d ∷ []) ≡ (list_any f done || f d)
 any_last f [] d = or_false (f d)

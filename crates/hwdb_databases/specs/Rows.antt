@@ -19,9 +19,9 @@ TextRows =
     map names_text (codes "d/a.hwdb" ∷ codes "d/hwdb.bin" ∷ codes "d/.a.hwdb" ∷ codes "d.hwdb/a" ∷ codes "d.hwdb/" ∷ codes "-" ∷ [])
     ≡ true ∷ false ∷ false ∷ false ∷ false ∷ false ∷ []
 
--- A text file of a folder gets its own name alone.
+-- A text file of a folder has the path that was given, after a slash.
 abbrev pub EtcRows : Type 0
-EtcRows = as_etc (record { name = codes "new/60-a.hwdb"; bytes = codes "x" }) ≡ record { name = codes "60-a.hwdb"; bytes = codes "x" }
+EtcRows = as_etc (record { name = codes "new/60-a.hwdb"; bytes = codes "x" }) ≡ record { name = codes "/new/60-a.hwdb"; bytes = codes "x" }
 
 -- an assignment of a file
 abbrev pub of_file : (path key value : List ℕ) → Assignment
@@ -50,4 +50,4 @@ abbrev pub StatJsonRows : Type 0
 StatJsonRows =
     stat_form true None no_stat ∷ stat_form true (Some []) (with_changes no_stat (Went (of_file (codes "f") (codes "K") (codes "1")) ∷ [])) ∷ []
     ≡ codes "{\"files\":[],\"keys\":[],\"total\":{\"added\":0,\"removed\":0,\"changed\":0}}\n"
-    ∷ codes "{\"files\":[{\"path\":\"f\",\"added\":0,\"removed\":1,\"changed\":0}],\"keys\":[{\"key\":\"K\",\"added\":0,\"removed\":1,\"changed\":0}],\"total\":{\"added\":0,\"removed\":1,\"changed\":0},\"devices\":0}\n" ∷ []
+    ∷ codes "{\"files\":[{\"file\":\"f\",\"added\":0,\"removed\":1,\"changed\":0}],\"keys\":[{\"key\":\"K\",\"added\":0,\"removed\":1,\"changed\":0}],\"total\":{\"added\":0,\"removed\":1,\"changed\":0},\"devices\":0}\n" ∷ []

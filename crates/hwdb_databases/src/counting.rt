@@ -10,7 +10,7 @@ ghost use Rattle.hwdb_databases.specs.Views.{change_shown};
 ghost use Rattle.hwdb_databases.specs.Internal.Counts.{count_shown, counts_shown, stat_shown};
 
 use crate::gifts::gifts;
-use crate::pairs::{Pair, Pairs, Sides};
+use crate::pairs::{Pair, Pairs, Sides, are_any};
 use crate::reviewing::{base_name, counting_changes};
 use hwdb_spec_commands::ReviewArgs;
 use std::alloc::{AllocError, Global};
@@ -180,7 +180,7 @@ fn add_told<'a>(stat: &mut Stat<'a>, changes: &[Pair<'_, 'a>]) -> Result<(), All
         ≡ with_told (stat_shown stat.old) (map change_shown changes.now)) }
 {
     add_changes(stat, changes)?;
-    add_device(stat, !changes.is_empty());
+    add_device(stat, are_any(changes));
     Ok(())
 }
 
@@ -193,15 +193,15 @@ fn count_device<'a>(
     device: &[u8],
 ) -> Result<bool, AllocError>
     ensures stat { OnOk result (stat_shown stat.new ≡ with_told (stat_shown stat.old)
-        (device_changes (review_in review.now) sides.old.now sides.new.now device.now)) }
+        (device_changes (review_in review.now) sides.entry.old.now sides.entry.new.now device.now)) }
     ensures differs { IfOk result (λ differs. differs ≡ are_some
-        (device_changes (review_in review.now) sides.old.now sides.new.now device.now)) }
+        (device_changes (review_in review.now) sides.entry.old.now sides.entry.new.now device.now)) }
 {
     let old_ones = gifts(alloc, sides.old, device)?;
     let new_ones = gifts(alloc, sides.new, device)?;
     let changes = counting_changes(alloc, review, Pairs::new(&old_ones, &new_ones))?;
     add_told(stat, &changes)?;
-    Ok(!changes.is_empty())
+    Ok(are_any(&changes))
 }
 
 /// The counts of what changed for some devices, and whether something did.
@@ -212,9 +212,9 @@ pub(crate) fn device_stat<'a>(
     devices: &[&[u8]],
 ) -> Result<(Stat<'a>, bool), AllocError>
     ensures stat { IfOk result (λ found. stat_shown found.0 ≡ spec.stat_of (review_in review.now)
-        (Some (map (λ d. d.now) devices.now)) sides.old.now sides.new.now) }
+        (Some (map (λ d. d.now) devices.now)) sides.entry.old.now sides.entry.new.now) }
     ensures differ { IfOk result (λ found. found.1 ≡ has_changed (review_in review.now)
-        (Some (map (λ d. d.now) devices.now)) sides.old.now sides.new.now) }
+        (Some (map (λ d. d.now) devices.now)) sides.entry.old.now sides.entry.new.now) }
 {
     let mut stat = empty(alloc);
     let mut differ = false;

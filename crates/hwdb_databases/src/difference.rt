@@ -12,7 +12,7 @@ ghost use Rattle.hwdb_spec_commands.specs.Differences.{are_some};
 ghost use Rattle.hwdb_spec_commands.specs.Databases.{IsDiffText, IsDifferent};
 ghost use Rattle.hwdb_spec_commands.specs.DiffErrors.{IsDiffRefusal};
 ghost use Rattle.hwdb_spec_commands.specs.Reviews.{review_in};
-ghost use Rattle.hwdb_databases.specs.Internal.Unmet.{left_end, left_said};
+ghost use Rattle.hwdb_databases.specs.Internal.Unmet.{assigned_text, left_end, left_said};
 ghost use Rattle.hwdb_databases.specs.Views.{change_shown, held_shown};
 
 use crate::counting::{device_stat, stat_of};
@@ -22,7 +22,7 @@ use crate::gifts::gifts;
 use crate::held::{Held, pairs_of};
 use crate::json_changes::{push_device_json, push_json};
 use crate::meeting::changes_met;
-use crate::pairs::{Pair, Pairs, Sides};
+use crate::pairs::{Pair, Pairs, Sides, are_any};
 use crate::reviewing::counting_changes;
 use crate::unmet::{left_json, left_text, push_lines, unmet_changes};
 use hwdb_reader::{Db, check, law_ascending, law_one_tree};
@@ -101,9 +101,8 @@ fn told_of_changes(
     review: &ReviewArgs,
     changes: &[Pair<'_, '_>],
 ) -> Result<Vec<u8>, AllocError>
-    ensures { IfOk result (λ text. (old new : Tree)
-        → map change_shown changes.now ≡ assigned_changes (review_in review.now) old new
-        → text.items ≡ comparison_lines (review_in review.now) None old new) }
+    ensures { IfOk result (λ text.
+        text.items ≡ assigned_text (review_in review.now) (map change_shown changes.now)) }
 {
     if review.stat {
         counts_of_changes(alloc, review.json, changes)
@@ -140,15 +139,15 @@ fn compare_device(
 ) -> Result<bool, AllocError>
     ensures text { OnOk result (text.new.items ≡ text.old.items
         ++ device_changes_form (review_in review.now).json device.now
-        (device_changes (review_in review.now) sides.old.now sides.new.now device.now)) }
+        (device_changes (review_in review.now) sides.entry.old.now sides.entry.new.now device.now)) }
     ensures differs { IfOk result (λ differs. differs ≡ are_some
-        (device_changes (review_in review.now) sides.old.now sides.new.now device.now)) }
+        (device_changes (review_in review.now) sides.entry.old.now sides.entry.new.now device.now)) }
 {
     let old_ones = gifts(alloc, sides.old, device)?;
     let new_ones = gifts(alloc, sides.new, device)?;
     let changes = counting_changes(alloc, review, Pairs::new(&old_ones, &new_ones))?;
     push_device_form(alloc, review.json, text, device, &changes)?;
-    Ok(!changes.is_empty())
+    Ok(are_any(&changes))
 }
 
 /// What changed for some devices from one database to another.
@@ -159,9 +158,9 @@ fn lines_of_devices(
     devices: &[&[u8]],
 ) -> Result<Told, AllocError>
     ensures text { IfOk result (λ told. told.text.items ≡ comparison_text (review_in review.now)
-        (Some (map (λ d. d.now) devices.now)) sides.old.now sides.new.now) }
+        (Some (map (λ d. d.now) devices.now)) sides.entry.old.now sides.entry.new.now) }
     ensures differ { IfOk result (λ told. told.differ ≡ has_changed (review_in review.now)
-        (Some (map (λ d. d.now) devices.now)) sides.old.now sides.new.now) }
+        (Some (map (λ d. d.now) devices.now)) sides.entry.old.now sides.entry.new.now) }
 {
     let mut text = Vec::new(alloc);
     let mut differ = false;
@@ -180,9 +179,9 @@ fn counts_of_devices(
 ) -> Result<Told, AllocError>
     ensures text { IfOk result (λ told. told.text.items ≡ stat_form (review_in review.now).json
         (Some (map (λ d. d.now) devices.now)) (spec.stat_of (review_in review.now)
-        (Some (map (λ d. d.now) devices.now)) sides.old.now sides.new.now)) }
+        (Some (map (λ d. d.now) devices.now)) sides.entry.old.now sides.entry.new.now)) }
     ensures differ { IfOk result (λ told. told.differ ≡ has_changed (review_in review.now)
-        (Some (map (λ d. d.now) devices.now)) sides.old.now sides.new.now) }
+        (Some (map (λ d. d.now) devices.now)) sides.entry.old.now sides.entry.new.now) }
 {
     let (stat, differ) = device_stat(alloc, review, sides, devices)?;
     let text = form_of(alloc, review.json, true, stat)?;
@@ -197,9 +196,9 @@ fn told_of_devices(
     devices: &[&[u8]],
 ) -> Result<Told, AllocError>
     ensures text { IfOk result (λ told. told.text.items ≡ comparison_lines (review_in review.now)
-        (Some (map (λ d. d.now) devices.now)) sides.old.now sides.new.now) }
+        (Some (map (λ d. d.now) devices.now)) sides.entry.old.now sides.entry.new.now) }
     ensures differ { IfOk result (λ told. told.differ ≡ has_changed (review_in review.now)
-        (Some (map (λ d. d.now) devices.now)) sides.old.now sides.new.now) }
+        (Some (map (λ d. d.now) devices.now)) sides.entry.old.now sides.entry.new.now) }
 {
     if review.stat {
         counts_of_devices(alloc, review, sides, devices)
@@ -217,11 +216,11 @@ fn with_unmet(
     devices: usize,
     left: &[Pair<'_, '_>],
 ) -> Result<Changes, AllocError>
-    ensures text { IfOk result (λ changes. changes.text.items ≡ told.entry.text.items
+    ensures text { IfOk result (λ changes. changes.text.items ≡ told.text.items
         ++ left_end (review_in review.now) all (map change_shown left.now)) }
     ensures said { IfOk result (λ changes. changes.said.items
         ≡ left_said (review_in review.now) all devices (map change_shown left.now)) }
-    ensures differ { IfOk result (λ changes. changes.differ ≡ told.entry.differ) }
+    ensures differ { IfOk result (λ changes. changes.differ ≡ told.differ) }
 {
     let Told { mut text, differ } = told;
     let mut said = Vec::new(alloc);
@@ -244,11 +243,11 @@ fn compared_for(
     requires { map change_shown changes.now
         ≡ assigned_changes (review_in review.now) sides.old.now sides.new.now }
     ensures text { IfOk result (λ made. made.text.items ≡ comparison_form (review_in review.now)
-        (Some (map (λ d. d.now) devices.now)) sides.old.now sides.new.now) }
+        (Some (map (λ d. d.now) devices.now)) sides.entry.old.now sides.entry.new.now) }
     ensures said { IfOk result (λ made. made.said.items ≡ comparison_said (review_in review.now)
-        (Some (map (λ d. d.now) devices.now)) sides.old.now sides.new.now) }
+        (Some (map (λ d. d.now) devices.now)) sides.entry.old.now sides.entry.new.now) }
     ensures differ { IfOk result (λ made. made.differ ≡ has_changed (review_in review.now)
-        (Some (map (λ d. d.now) devices.now)) sides.old.now sides.new.now) }
+        (Some (map (λ d. d.now) devices.now)) sides.entry.old.now sides.entry.new.now) }
 {
     let told = told_of_devices(alloc, review, sides, devices)?;
     let left = unmet_changes(alloc, changes, sides, devices)?;
@@ -261,9 +260,8 @@ fn compared_all(
     review: &ReviewArgs,
     changes: &[Pair<'_, '_>],
 ) -> Result<Changes, AllocError>
-    ensures text { IfOk result (λ made. (old new : Tree)
-        → map change_shown changes.now ≡ assigned_changes (review_in review.now) old new
-        → made.text.items ≡ comparison_form (review_in review.now) None old new) }
+    ensures text { IfOk result (λ made.
+        made.text.items ≡ assigned_text (review_in review.now) (map change_shown changes.now)) }
     ensures said { IfOk result (λ made. made.said.items ≡ []) }
     ensures differ { IfOk result
         (λ made. made.differ ≡ are_some (map change_shown changes.now)) }
@@ -272,7 +270,7 @@ fn compared_all(
     Ok(Changes {
         text,
         said: Vec::new(alloc),
-        differ: !changes.is_empty(),
+        differ: are_any(changes),
     })
 }
 
@@ -285,7 +283,7 @@ fn changes_between<'a>(
     requires old { IsTree sides.old.now }
     requires new { IsTree sides.new.now }
     ensures { IfOk result (λ held. map held_shown held.items
-        ≡ assigned_changes (review_in review.now) sides.old.now sides.new.now) }
+        ≡ assigned_changes (review_in review.now) sides.entry.old.now sides.entry.new.now) }
 {
     changes_met(alloc, review, sides.old.root(), sides.new.root())
 }
@@ -300,11 +298,11 @@ fn compared(
     requires old { IsTree sides.old.now }
     requires new { IsTree sides.new.now }
     ensures text { IfOk result (λ made. made.text.items ≡ comparison_form (review_in review.now)
-        (option_map (λ ds. map (λ d. d.now) ds.now) devices.entry) sides.old.now sides.new.now) }
+        (option_map (λ ds. map (λ d. d.now) ds.now) devices.entry) sides.entry.old.now sides.entry.new.now) }
     ensures said { IfOk result (λ made. made.said.items ≡ comparison_said (review_in review.now)
-        (option_map (λ ds. map (λ d. d.now) ds.now) devices.entry) sides.old.now sides.new.now) }
+        (option_map (λ ds. map (λ d. d.now) ds.now) devices.entry) sides.entry.old.now sides.entry.new.now) }
     ensures differ { IfOk result (λ made. made.differ ≡ has_changed (review_in review.now)
-        (option_map (λ ds. map (λ d. d.now) ds.now) devices.entry) sides.old.now sides.new.now) }
+        (option_map (λ ds. map (λ d. d.now) ds.now) devices.entry) sides.entry.old.now sides.entry.new.now) }
 {
     let held = changes_between(alloc, review, sides)?;
     let changes = pairs_of(alloc, &held)?;

@@ -1,6 +1,6 @@
 //! Two ascending lists of assignments, gone through side by side.
 ghost use Rattle.std.specs.Prelude.{◌≡◌, ◌<◌, ◌+◌, ◌++◌, ◌∷◌, [], map, drop, length, IfSome, IfNone, OnSome};
-ghost use Rattle.hwdb_spec_commands.specs.Differences.{change_between};
+ghost use Rattle.hwdb_spec_commands.specs.Differences.{are_some, change_between};
 ghost use Rattle.hwdb_databases.specs.Views.{assignment_of, change_shown, changes_of};
 ghost use Rattle.hwdb_databases.specs.Internal.Merging.{by_place, merged};
 ghost use Rattle.hwdb_databases.specs.Internal.Pairing.{to_tell, size};
@@ -73,6 +73,13 @@ pub(crate) fn change_in<'r, 'a>(pair: Pair<'r, 'a>) -> Option<Pair<'r, 'a>>
         Pair::Both(old, new) => both(old, new),
         change => Some(change),
     }
+}
+
+/// Whether there is a change.
+pub(crate) fn are_any(changes: &[Pair<'_, '_>]) -> bool
+    ensures { result ≡ are_some (map change_shown changes.now) }
+{
+    !changes.is_empty()
 }
 
 /// The member number `i`, if there is one.

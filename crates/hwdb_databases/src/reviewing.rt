@@ -1,7 +1,7 @@
 //! Which changes count, by the name of their file and by their pattern.
-ghost use Rattle.std.specs.Prelude.{◌≡◌, ◌<◌, ◌++◌, ◌∷◌, [], filter, false, length, map, nat_eq, string_bytes, IfNone, IfOk, IfSome, OnOk};
+ghost use Rattle.std.specs.Prelude.{◌≡◌, ◌++◌, filter, map, nat_eq, string_bytes, IfOk, OnOk};
 ghost use Rattle.std.specs.List.{list_any, starts_with};
-ghost use Rattle.hwdb_spec.specs.Lines.{has};
+ghost use Rattle.hwdb_spec.specs.Answers.{is_match};
 ghost use Rattle.hwdb_spec_commands.specs.Reviews as spec;
 ghost use Rattle.hwdb_spec_commands.specs.Reviews.{review_in};
 ghost use Rattle.hwdb_spec_commands.specs.Sides.{file_name};
@@ -9,7 +9,7 @@ ghost use Rattle.hwdb_databases.specs.Views.{assignment_of, change_shown, change
 ghost use Rattle.hwdb_databases.specs.Internal.Pairing.{to_tell};
 
 use crate::pairs::{Pair, Pairs, change_in};
-use hwdb_pattern::glob;
+use hwdb_pattern::{glob, matches_is_tested};
 use hwdb_query::StoredAssignment;
 use hwdb_spec_commands::ReviewArgs;
 use memchr::memrchr;
@@ -25,12 +25,20 @@ pub(crate) fn base_name(path: &[u8]) -> &[u8]
     }
 }
 
+/// Whether a glob matches a name.
+fn fits(pattern: &[u8], name: &[u8]) -> bool
+    ensures { result ≡ is_match name.now pattern.now }
+{
+    matches_is_tested();
+    glob(pattern, name)
+}
+
 /// Whether some glob matches the name.
 fn is_among(globs: &[String], name: &[u8]) -> bool
     ensures { result ≡ spec.is_among (map string_bytes globs.now) name.now }
 {
     for own in globs {
-        if glob(own.as_bytes(), name) {
+        if fits(own.as_bytes(), name) {
             return true;
         }
     }

@@ -3,13 +3,12 @@
 //! Their patterns are a set. Of each device both databases are asked, and the patterns that answer are taken out of it. So the time is
 //! that of the queries, and no pattern is held against each device.
 ghost use Rattle.std.specs.Prelude.{◌≡◌, ◌++◌, ◌∷◌, [], map, IfOk, OnOk};
+ghost use Rattle.std.specs.Fmt.{decimal};
 ghost use Rattle.json.specs.Tree.{json_tokens};
 ghost use Rattle.hwdb_show.specs.JsonTokens.{tokens_of_members};
-ghost use Rattle.hwdb_spec.specs.Tree.{answers};
-ghost use Rattle.hwdb_spec_commands.specs.Comparisons.{assigned_changes};
+ghost use Rattle.hwdb_spec_commands.specs.ChangeForms.{whole_object};
 ghost use Rattle.hwdb_spec_commands.specs.Differences.{changes_text};
-ghost use Rattle.hwdb_spec_commands.specs.Json.{json_line};
-ghost use Rattle.hwdb_spec_commands.specs.Reviews.{Review};
+ghost use Rattle.hwdb_spec_commands.specs.Json.{array_of, json_line};
 ghost use Rattle.hwdb_spec_commands.specs.Unmet as spec;
 ghost use Rattle.hwdb_query.specs.Views.{explained_values};
 ghost use Rattle.hwdb_databases.specs.Views.{assignment_of, change_shown};
@@ -40,12 +39,19 @@ fn patterns_of<'r>(
     Ok(still)
 }
 
+/// The pattern of an answer.
+fn pattern_bytes<'f>(answer: &'f StoredAssignment<'_>) -> &'f [u8]
+    ensures { result.now ≡ (assignment_of answer.now).position.pattern }
+{
+    answer.pattern.as_slice()
+}
+
 /// Takes the patterns of some answers out of a set.
 fn take_answers(still: &mut BTreeSet<&[u8]>, found: &[StoredAssignment<'_>])
     ensures { HasTaken still.old still.new (map assignment_of found.now) }
 {
     for answer in found {
-        let _ = still.remove(answer.pattern.as_slice());
+        let _ = still.remove(pattern_bytes(answer));
     }
 }
 
@@ -65,7 +71,7 @@ fn take_met(
     db: &Db<'_>,
     device: &[u8],
 ) -> Result<(), AllocError>
-    ensures { OnOk result (HasTaken still.old still.new (answers device.now db.now)) }
+    ensures { OnOk result (HasTaken still.old still.new (spec.told_to device.now db.now)) }
 {
     let list = explain(alloc, db, device)?;
     take_explained(still, &list);
@@ -79,8 +85,8 @@ fn left_patterns<'r>(
     sides: Sides<'_, '_>,
     devices: &[&[u8]],
 ) -> Result<BTreeSet<&'r [u8]>, AllocError>
-    ensures { IfOk result (λ still. AreLeft (map (λ d. d.now) devices.now) sides.old.now
-        sides.new.now (map change_shown changes.now) still) }
+    ensures { IfOk result (λ still. AreLeft (map (λ d. d.now) devices.now) sides.entry.old.now
+        sides.entry.new.now (map change_shown changes.now) still) }
 {
     let mut still = patterns_of(alloc, changes)?;
     for device in devices {
@@ -130,20 +136,62 @@ pub(crate) fn unmet_changes<'r, 'a>(
     sides: Sides<'_, '_>,
     devices: &[&[u8]],
 ) -> Result<Vec<Pair<'r, 'a>>, AllocError>
-    requires { (r : Review)
-        × (map change_shown changes.now ≡ assigned_changes r sides.old.now sides.new.now) }
     ensures { IfOk result (λ left. map change_shown left.items
-        ≡ spec.unmet (map (λ d. d.now) devices.now) (map change_shown changes.now)) }
+        ≡ spec.unmet (map (λ d. d.now) devices.now) sides.entry.old.now sides.entry.new.now
+        (map change_shown changes.now)) }
 {
     let still = left_patterns(alloc, changes, sides, devices)?;
     left_changes(alloc, changes, &still)
 }
 
-/// One text, or another if it is another number.
-fn by_number<'t>(one: &'t str, other: &'t str, n: usize) -> &'t str
-    ensures { result.now ≡ spec.by_number one.now other.now n }
+/// Adds a number.
+fn push_count(text: &mut Vec<u8>, n: usize) -> Result<(), AllocError>
+    ensures { OnOk result (text.new.items ≡ text.old.items ++ decimal n) }
 {
-    if n == 1 { one } else { other }
+    let mut number = Buffer::new();
+    text.extend_from_slice(number.format(n).as_bytes())?;
+    Ok(())
+}
+
+/// Adds one text, or another if it is another number.
+fn push_by_number(
+    text: &mut Vec<u8>,
+    one: &str,
+    other: &str,
+    n: usize,
+) -> Result<(), AllocError>
+    ensures { OnOk result
+        (text.new.items ≡ text.old.items ++ spec.by_number one.now other.now n) }
+{
+    if n == 1 {
+        text.extend_from_slice(one.as_bytes())?;
+    } else {
+        text.extend_from_slice(other.as_bytes())?;
+    }
+    Ok(())
+}
+
+/// Adds that so many are met, or not, by so many devices.
+fn push_met(text: &mut Vec<u8>, unmet: usize, devices: usize) -> Result<(), AllocError>
+    ensures { OnOk result (text.new.items ≡ text.old.items ++ spec.met_text unmet devices) }
+{
+    push_by_number(text, " is", " are", unmet)?;
+    push_by_number(
+        text,
+        " not met by this device\n",
+        " met by none of these devices\n",
+        devices,
+    )
+}
+
+/// Adds how many of so many assignments there are.
+fn push_amount(text: &mut Vec<u8>, unmet: usize, all: usize) -> Result<(), AllocError>
+    ensures { OnOk result (text.new.items ≡ text.old.items ++ spec.amount_text unmet all) }
+{
+    push_count(text, unmet)?;
+    text.extend_from_slice(b" of ")?;
+    push_count(text, all)?;
+    push_by_number(text, " changed assignment", " changed assignments", all)
 }
 
 /// Adds how many of so many assignments so many devices don't meet.
@@ -155,21 +203,8 @@ fn push_unmet(
 ) -> Result<(), AllocError>
     ensures { OnOk result (text.new.items ≡ text.old.items ++ spec.unmet_line unmet all devices) }
 {
-    let mut number = Buffer::new();
-    let assignments = by_number(" changed assignment", " changed assignments", all);
-    let verb = by_number(" is", " are", unmet);
-    let by = by_number(
-        " not met by this device\n",
-        " met by none of these devices\n",
-        devices,
-    );
-    text.extend_from_slice(number.format(unmet).as_bytes())?;
-    text.extend_from_slice(b" of ")?;
-    text.extend_from_slice(number.format(all).as_bytes())?;
-    text.extend_from_slice(assignments.as_bytes())?;
-    text.extend_from_slice(verb.as_bytes())?;
-    text.extend_from_slice(by.as_bytes())?;
-    Ok(())
+    push_amount(text, unmet, all)?;
+    push_met(text, unmet, devices)
 }
 
 /// Adds a line for each change.
@@ -205,7 +240,20 @@ pub(crate) fn left_text(
     Ok(text)
 }
 
-/// Adds the changes that are left, if they are asked for.
+/// Adds the array of the changes that are left.
+fn put_array(json: &mut Writer, left: &[Pair<'_, '_>]) -> Result<(), AllocError>
+    ensures before { json.new.before ≡ json.old.before }
+    ensures tokens { OnOk result (json.new.tokens ≡ json.old.tokens
+        ++ json_tokens (array_of (map whole_object (map change_shown left.now)))) }
+{
+    json.begin_array()?;
+    for change in left {
+        put_whole(json, *change)?;
+    }
+    json.end_array()
+}
+
+/// Adds the member that has them, if they are asked for.
 fn put_which(
     json: &mut Writer,
     verbose: bool,
@@ -215,15 +263,11 @@ fn put_which(
     ensures tokens { OnOk result (json.new.tokens ≡ json.old.tokens
         ++ tokens_of_members (spec.which_member verbose (map change_shown left.now))) }
 {
-    if !verbose {
-        return Ok(());
+    if verbose {
+        json.key("changes")?;
+        put_array(json, left)?;
     }
-    json.key("changes")?;
-    json.begin_array()?;
-    for change in left {
-        put_whole(json, *change)?;
-    }
-    json.end_array()
+    Ok(())
 }
 
 /// Adds the object of the changes that are left of so many.

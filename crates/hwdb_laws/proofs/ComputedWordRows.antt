@@ -1,5 +1,5 @@
 -- The rows, computed.
-use Rattle.hwdb_laws.specs.WordRows.{AskRows, BareDeviceRows, BareUpdateRows, BeforeRows, CheckRows, DeviceRows, DiffRows, DumpRows, ExplainRows, KeysRows, ListRows, NearRows, NumberRows, QueryRows, RightRows, ScanRows, StatusRows, TestRows, UpdateRows, VerifyRows, WrongRows}
+use Rattle.hwdb_laws.specs.WordRows.{AskRows, BareDeviceRows, BareUpdateRows, BeforeRows, CheckRows, DeviceRows, DiffRows, DumpRows, ExplainRows, KeysRows, ListRows, NearRows, NumberRows, QueryRows, ReviewRows, RightRows, ScanRows, StatusRows, TestRows, UpdateRows, VerifyRows, WrongRows}
 use Rattle.clap.specs.Faults.{defaults_fault, flags_fault, walk_fault}
 use Rattle.clap.specs.Walk.{bundle_met, walked}
 use Rattle.hex.specs.Hex.{encode_with}
@@ -70,6 +70,10 @@ test_rows = refl
 pub diff_rows : DiffRows
 unfolding pieces numbered trimmed first_section sections_from behind records_from tokens_from token_at item_at items_from bracket_at classes nodes nodes_of depth depth_of explained first_of once last_up_to first_up_to some_up_to values_under values_below ascending put put_all assignment_cmp position_cmp matches some_ending byte_then piece_then visible_after is_utf8 chars encode_utf8 digits encode_with items_of members_of escaped_after escape_byte print_from answers effective_of last_of_each last_value bundle_met walked flags_fault walk_fault defaults_fault
 diff_rows = refl
+
+pub review_rows : ReviewRows
+unfolding pieces numbered trimmed first_section sections_from behind records_from tokens_from token_at item_at items_from bracket_at classes nodes nodes_of depth depth_of explained first_of once last_up_to first_up_to some_up_to values_under values_below ascending put put_all assignment_cmp position_cmp matches some_ending byte_then piece_then visible_after is_utf8 chars encode_utf8 digits encode_with items_of members_of escaped_after escape_byte print_from answers effective_of last_of_each last_value bundle_met walked flags_fault walk_fault defaults_fault
+review_rows = refl
 
 pub verify_rows : VerifyRows
 unfolding pieces numbered trimmed first_section sections_from behind records_from tokens_from token_at item_at items_from bracket_at classes nodes nodes_of depth depth_of explained first_of once last_up_to first_up_to some_up_to values_under values_below ascending put put_all assignment_cmp position_cmp matches some_ending byte_then piece_then visible_after is_utf8 chars encode_utf8 digits encode_with items_of members_of escaped_after escape_byte print_from answers effective_of last_of_each last_value bundle_met walked flags_fault walk_fault defaults_fault

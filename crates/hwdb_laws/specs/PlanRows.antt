@@ -23,6 +23,7 @@ use Rattle.hwdb_plan.specs.Baseline.{over_baseline}
 use Rattle.hwdb_plan.specs.Device.{device_plan, strings_plan}
 use Rattle.hwdb_plan.specs.Sysfs.{says}
 use Rattle.hwdb_plan.specs.Diff.{change_of, diff_plan}
+use Rattle.hwdb_spec_commands.specs.Reviews.{Review}
 use Rattle.hwdb_plan.specs.Dump.{dump_plan}
 use Rattle.hwdb_plan.specs.Folders.{texts_of_folders}
 use Rattle.hwdb_plan.specs.Keys.{keys_plan}
@@ -112,14 +113,29 @@ BaselineRows =
     ∷ Some (over_baseline (Some (codes "b")) (λ known. check_plan a.input (codes "-" ∷ []) [] (said_of Reports false [] (Some (codes "n")) known)))
     ∷ Some (Done (Stops (Says (codes "--name names standard input: give - as FILE")))) ∷ Some (Done (Stops (Says (codes "--name names standard input: give - as FILE")))) ∷ []
 
+-- how changes are counted, and how some are chosen
+abbrev pub counting : Review
+counting = record { json = false; stat = true; lines = false; verbose = false; only = []; without = []; prefixes = [] }
+
+abbrev pub chosen : Review
+chosen = record {
+  json = true;
+  stat = false;
+  lines = true;
+  verbose = true;
+  only = codes "6*" ∷ [];
+  without = codes "20-*" ∷ codes "30-*" ∷ [];
+  prefixes = codes "evdev:" ∷ [];
+}
+
 -- Files of devices are told as they are given, and both sides by their places. Two of `diff` that are `-` are an error before anything is
 -- asked.
 abbrev pub DiffRows : Type 0
 DiffRows =
     (a : Around)
-    → asked a (codes "diff" ∷ codes "--stat" ∷ codes "--devices" ∷ codes "f" ∷ codes "--devices=g" ∷ codes "o" ∷ codes "n" ∷ []) ∷ asked a (codes "diff" ∷ codes "--json" ∷ codes "o" ∷ codes "-" ∷ [])
+    → asked a (codes "diff" ∷ codes "--stat" ∷ codes "--devices" ∷ codes "f" ∷ codes "--devices=g" ∷ codes "o" ∷ codes "n" ∷ []) ∷ asked a (codes "diff" ∷ codes "--json" ∷ codes "--not" ∷ codes "20-*" ∷ codes "--only=6*" ∷ codes "o" ∷ codes "--not=30-*" ∷ codes "-" ∷ codes "--prefix" ∷ codes "evdev:" ∷ codes "--verbose" ∷ codes "--format=lines" ∷ [])
     ∷ asked a (codes "diff" ∷ codes "-" ∷ codes "-" ∷ []) ∷ []
-    ≡ Some (diff_plan a.input (codes "f" ∷ codes "g" ∷ []) (codes "o") (codes "n") (change_of true false)) ∷ Some (diff_plan a.input [] (codes "o") (codes "-") (change_of false true))
+    ≡ Some (diff_plan a.input (codes "f" ∷ codes "g" ∷ []) (codes "o") (codes "n") (change_of counting)) ∷ Some (diff_plan a.input [] (codes "o") (codes "-") (change_of chosen))
     ∷ Some (Done (Stops (Says twice_text))) ∷ []
 
 -- Whether the database is fresh: `update --check` asks what `status` asks, and is told the status alone.

@@ -14,6 +14,7 @@ use Rattle.hwdb_spec.specs.Store.{Contents, database_file}
 use Rattle.hwdb_spec_program.specs.TaskRefusals.{refused_status, with_err}
 use Rattle.hwdb_spec_commands.specs.declared.job.Job.{Job}
 use Rattle.hwdb_spec_commands.specs.declared.job.Task.{Task}
+use Rattle.hwdb_spec_commands.specs.declared.args.ReviewArgs.{ReviewArgs}
 use Rattle.hwdb_spec_commands.specs.declared.job.Task.TheVariants.{Ask, Check, Device, Diff, Dump, Explain, Keys, List as ListHits, Near, Query, Record, Scan, Status, Test, Update, Verify}
 
 -- ---- tasks, by what their words ask for
@@ -48,8 +49,12 @@ recording devices database = Record (record { devices = devices; database = data
 abbrev pub devices : Task
 devices = Device (record { path = None; strings = false; json = false; pattern = false; all = false; from = None })
 
+-- globs are no files, whatever they are
+abbrev pub reviewing : (globs : Vec (String Global) Global) → ReviewArgs
+reviewing globs = record { json = false; stat = false; format = None; verbose = false; only = globs; without = globs; prefixes = globs }
+
 abbrev pub diff : (old new : String Global) → Vec (String Global) Global → Task
-diff old new given = Diff (record { old = old; new = new; devices = given; json = false; stat = false })
+diff old new given = Diff (record { old = old; new = new; devices = given; review = reviewing given })
 
 abbrev pub verify : Option (String Global) → Task
 verify database = Verify (record { database = database })

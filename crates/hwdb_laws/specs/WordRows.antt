@@ -101,6 +101,13 @@ DiffRows =
     (codes "stat" ∷ codes "json" ∷ []) (codes "devices" ∷ codes "OLD" ∷ codes "NEW" ∷ [])
     ≡ (codes "diff", true ∷ true ∷ [], Some (codes "d" ∷ codes "e" ∷ []) ∷ Some (codes "old" ∷ []) ∷ Some (codes "new" ∷ []) ∷ [])
 
+-- globs and prefixes, each as often as wanted
+abbrev pub ReviewRows : Type 0
+ReviewRows =
+    read (codes "diff" ∷ codes "--only" ∷ codes "6*" ∷ codes "--not=20-*" ∷ codes "old" ∷ codes "--not" ∷ codes "30-*" ∷ codes "--prefix" ∷ codes "evdev:" ∷ codes "new" ∷ codes "--format" ∷ codes "lines" ∷ codes "--verbose" ∷ [])
+    (codes "verbose" ∷ codes "stat" ∷ []) (codes "only" ∷ codes "not" ∷ codes "prefix" ∷ codes "format" ∷ codes "OLD" ∷ codes "NEW" ∷ [])
+    ≡ (codes "diff", true ∷ false ∷ [], Some (codes "6*" ∷ []) ∷ Some (codes "20-*" ∷ codes "30-*" ∷ []) ∷ Some (codes "evdev:" ∷ []) ∷ Some (codes "lines" ∷ []) ∷ Some (codes "old" ∷ []) ∷ Some (codes "new" ∷ []) ∷ [])
+
 abbrev pub VerifyRows : Type 0
 VerifyRows =
     read (codes "verify" ∷ codes "--text" ∷ codes "d" ∷ [])

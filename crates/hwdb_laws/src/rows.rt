@@ -190,9 +190,15 @@ pub fn compare_rows()
     ensures second_device { CompareRows.SecondDeviceRows }
     ensures last_device { CompareRows.LastDeviceRows }
     ensures text { CompareRows.TextRows }
+    ensures by_record { CompareRows.RecordRows }
     ensures devices { CompareRows.DeviceTextRows }
     ensures status { CompareRows.StatusRows }
     ensures same { CompareRows.SameRows }
+    ensures unmet { CompareRows.UnmetRows }
+    ensures which { CompareRows.WhichRows }
+    ensures chosen { CompareRows.ChosenRows }
+    ensures pass { CompareRows.PassRows }
+    ensures given { CompareRows.GivenRows }
     ensures named { CompareRows.NamedRows }
     ensures stale { CompareRows.StaleRows }
     ensures amount { CompareRows.AmountRows }
@@ -225,6 +231,7 @@ pub fn word_rows()
     ensures check { WordRows.CheckRows }
     ensures test { WordRows.TestRows }
     ensures diff { WordRows.DiffRows }
+    ensures review { WordRows.ReviewRows }
     ensures verify { WordRows.VerifyRows }
     ensures dump { WordRows.DumpRows }
     ensures status { WordRows.StatusRows }

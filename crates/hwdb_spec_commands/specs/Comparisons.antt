@@ -36,11 +36,11 @@ comparison_lines r devices old new =
 
 -- as JSON a last line says what the devices don't meet
 abbrev pub comparison_form : Review → Option (List (List ℕ)) → (old new : Tree) → List ℕ
-comparison_form r devices old new = comparison_lines r devices old new ++ unmet_end r devices (assigned_changes r old new)
+comparison_form r devices old new = comparison_lines r devices old new ++ unmet_end r devices old new (assigned_changes r old new)
 
 -- as text standard error says it
 abbrev pub comparison_said : Review → Option (List (List ℕ)) → (old new : Tree) → List ℕ
-comparison_said r devices old new = unmet_said r devices (assigned_changes r old new)
+comparison_said r devices old new = unmet_said r devices old new (assigned_changes r old new)
 
 -- whether something did
 abbrev pub has_changed : Review → Option (List (List ℕ)) → (old new : Tree) → Bool

@@ -1,9 +1,10 @@
 -- What the words of `diff` ask for is what its function follows.
-use Rattle.std.proofs.Common.{◌≡◌, ◌∙◌, refl, subst, map, string_bytes, Bool, List, Result, ℕ, []}
+use Rattle.std.proofs.Common.{◌≡◌, ◌∙◌, refl, subst, map, string_bytes, List, Result, ℕ, []}
 use Rattle.std.specs.Prelude.{codes}
 use Rattle.clap.specs.Walk.{Row, Text}
 use Rattle.hwdb_spec_commands.specs.DeviceTree.{Sight}
-use Rattle.hwdb_spec_commands.specs.Jobs.{IsTask, has_flag, text_if}
+use Rattle.hwdb_spec_commands.specs.Jobs.{IsTask, text_if}
+use Rattle.hwdb_spec_commands.specs.Reviews.{Review, review_in}
 use Rattle.hwdb_spec_commands.specs.Runs.{Told}
 use Rattle.hwdb_spec_commands.specs.Told.{Reads}
 use Rattle.hwdb_spec_commands.specs.declared.args.DiffArgs.{DiffArgs}
@@ -21,8 +22,8 @@ use Rattle.hwdb_tool.specs.declared.answer.Answer.{Answer}
 use Rattle.hwdb_tool.proofs.ProgramPlanLemmas.{At, around, at_word, some_value}
 
 -- ---- the plan of `diff`
-abbrev diff_once : (told : Result (List ℕ) Unread) (given : List Text) (old new : Text) (stat json : Bool) → Plan
-diff_once told given old new stat json = if_fit (text_if (names_twice given old new) twice_text) (diff_plan told given old new (change_of stat json))
+abbrev diff_once : (told : Result (List ℕ) Unread) (given : List Text) (old new : Text) → Review → Plan
+diff_once told given old new r = if_fit (text_if (names_twice given old new) twice_text) (diff_plan told given old new (change_of r))
 
 module _ (w : Reads) (sight : Sight) (input_before input_now : Told) (root : List ℕ) (strict : Bool) (word : Text) (rows : List Row) (answer : Result Answer Refusal) where
   abbrev Answers : Plan → Type 0
@@ -30,22 +31,22 @@ module _ (w : Reads) (sight : Sight) (input_before input_now : Told) (root : Lis
 
   pub diff_planned : (args : DiffArgs) → IsTask word rows (Diff args)
       → (given : List Text) (o n : Text) → given ≡ map string_bytes args.devices.items → o ≡ string_bytes args.old → n ≡ string_bytes args.new
-      → OfInput input_before.bytes input_before.failures input_now.failures (λ told. Follows end_of w (diff_once told given o n args.stat args.json) answer) → At sight input_before input_now Answers root strict word rows
+      → OfInput input_before.bytes input_before.failures input_now.failures (λ told. Follows end_of w (diff_once told given o n (review_in args.review)) answer) → At sight input_before input_now Answers root strict word rows
   diff_planned args is given o n of_given of_old of_new (told, so, follows) =
-      let old_is : o ≡ value_of (codes "OLD") rows = of_old ∙ some_value (codes "OLD") rows (string_bytes args.old) is.4 in
-      let new_is : n ≡ value_of (codes "NEW") rows = of_new ∙ some_value (codes "NEW") rows (string_bytes args.new) is.5 in
+      let old_is : o ≡ value_of (codes "OLD") rows = of_old ∙ some_value (codes "OLD") rows (string_bytes args.old) is.3 in
+      let new_is : n ≡ value_of (codes "NEW") rows = of_new ∙ some_value (codes "NEW") rows (string_bytes args.new) is.4 in
       let o2 = value_of (codes "OLD") rows in
-      let n2 = value_of (codes "NEW") rows in (
+      let n2 = value_of (codes "NEW") rows in
+      let r = review_in args.review in (
         told,
         so,
         (
           [],
           refl,
           at_word sight input_before input_now Answers root strict word rows (around sight told []) (codes "diff") is.0
-              (subst (λ (j : Bool). Answers (diff_once told (values_of (codes "devices") rows) o2 n2 (has_flag (codes "stat") rows) j)) is.1
-              (subst (λ (s : Bool). Answers (diff_once told (values_of (codes "devices") rows) o2 n2 s args.json)) is.2
-              (subst (λ (ds : List Text). Answers (diff_once told ds o2 n2 args.stat args.json)) (of_given ∙ is.3)
-              (subst (λ (x : Text). Answers (diff_once told given x n2 args.stat args.json)) old_is
-              (subst (λ (x : Text). Answers (diff_once told given o x args.stat args.json)) new_is follows))))),
+              (subst (λ (q : Review). Answers (diff_once told (values_of (codes "devices") rows) o2 n2 q)) is.1
+              (subst (λ (ds : List Text). Answers (diff_once told ds o2 n2 r)) (of_given ∙ is.2)
+              (subst (λ (x : Text). Answers (diff_once told given x n2 r)) old_is
+              (subst (λ (x : Text). Answers (diff_once told given o x r)) new_is follows)))),
         ),
       )

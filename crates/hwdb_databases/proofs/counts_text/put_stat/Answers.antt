@@ -12,7 +12,7 @@ pub returns-clause-tokens : goal.returns-clause-tokens
 returns-clause-tokens c =
     let s = stat_shown c.args.stat in
     let front = c.args.json.now.tokens ++ begin_object ∷ [] in
-    let a : List ℕ × Json = (codes "files", array_of (map (count_object (codes "path")) s.files)) in
+    let a : List ℕ × Json = (codes "files", array_of (map (count_object (codes "file")) s.files)) in
     let b : List ℕ × Json = (codes "keys", array_of (map (count_object (codes "key")) s.keys)) in
     let d : List ℕ × Json = (codes "total", object_of (count_members s.total)) in
     let none = no_members_yet front c.begin_object.new.self.tokens c.in_ok-begin_object.ensures.ok in

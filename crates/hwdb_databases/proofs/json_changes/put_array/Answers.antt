@@ -1,12 +1,16 @@
-use Rattle.std.proofs.Common.{map, refl}
+use Rattle.std.proofs.Common.{ap, arith, map}
+use Rattle.std.proofs.lemmas.List.{take_all}
+use Rattle.std.proofs.lemmas.Result.{on_ok_weaker}
+use Rattle.std.specs.Prelude.{take}
 use Rattle.hwdb_databases.specs.Internal.Forms.{change_object}
-use Rattle.hwdb_databases.specs.Internal.Pairing.{to_tell}
+use Rattle.hwdb_databases.specs.Views.{change_shown}
 use Rattle.hwdb_show.specs.Lemmas.Json.{array_closed}
-use Rattle.hwdb_databases.proofs.ChangeLemmas.{objects_after}
 use Rattle.hwdb_databases.proofs.json_changes.put_array.Goals as goal
 
 pub returns-clause-tokens : goal.returns-clause-tokens
 returns-clause-tokens c =
-    let all = to_tell c.args.pairs in
-    array_closed c.args.json.now.tokens c.put_pairs.new.json.tokens c.end_array.new.self.tokens (map change_object all) (map change_object all)
-    (objects_after c.args.json.now.tokens c.begin_array.new.self.tokens c.put_pairs.new.json.tokens all c.in_ok-begin_array.ensures.ok c.in_ok-differ.ensures.tokens) refl c.in_ok-end_array.ensures.ok
+    let all = c.args.changes.now in
+    let last = c.loop-change-test.false in
+    on_ok_weaker c.end_array.result
+    (array_closed c.args.json.now.tokens _ _ (map change_object (map change_shown (take c.loop-change.change-index all))) (map change_object (map change_shown all))
+    c.loop-change.invariant.tokens (ap (λ cs. map change_object (map change_shown cs)) (take_all c.loop-change.change-index all (omega (arith, last))))) c.end_array.ensures.ok

@@ -1,7 +1,7 @@
 use Rattle.std.proofs.Common.{List, ℕ, ◌∷◌, [], codes, refl}
 use Rattle.std.proofs.lemmas.Result.{on_ok_weaker}
 use Rattle.json.specs.Json.{Json}
-use Rattle.hwdb_spec_commands.specs.Comparisons.{given_json}
+use Rattle.hwdb_spec_commands.specs.ChangeForms.{given_json}
 use Rattle.hwdb_spec_commands.specs.Json.{text_json}
 use Rattle.hwdb_show.specs.Lemmas.Json.{member_behind, no_members_yet}
 use Rattle.hwdb_databases.specs.Views.{assignment_of}

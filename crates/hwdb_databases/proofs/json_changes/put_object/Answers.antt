@@ -1,7 +1,7 @@
 use Rattle.std.proofs.Common.{◌++◌, ◌∷◌, [], refl}
 use Rattle.std.proofs.lemmas.Result.{on_ok_weaker}
 use Rattle.json.specs.Token.{begin_object}
-use Rattle.hwdb_spec_commands.specs.Comparisons.{change_members}
+use Rattle.hwdb_spec_commands.specs.ChangeForms.{change_members}
 use Rattle.hwdb_databases.specs.Views.{change_shown}
 use Rattle.hwdb_show.specs.Lemmas.Json.{members_behind, no_members_yet, object_closed}
 use Rattle.hwdb_databases.proofs.json_changes.put_object.Goals as goal

@@ -1,14 +1,13 @@
-use Rattle.std.proofs.Common.{All, ◌≡◌, ◌∙◌, ◌++◌, ◌||◌, List, [], ap, refl, subst, sym}
-use Rattle.std.specs.Prelude.{flat_map}
+use Rattle.std.proofs.Common.{All, ◌≡◌, ◌∙◌, ◌++◌, List, [], ap, map, refl, subst, sym}
 use Rattle.hwdb_spec.specs.Assignment.{Assignment}
-use Rattle.hwdb_spec_commands.specs.Differences.{are_some}
+use Rattle.hwdb_spec_commands.specs.Reviews.{review_in, reviewed}
 use Rattle.hwdb_spec.specs.Tree.{members_under}
 use Rattle.hwdb_databases.specs.Internal.Trails.{IsSegmentIn}
 use Rattle.hwdb_databases.specs.Internal.Merging.{merged}
 use Rattle.hwdb_reader.specs.Views.{tree_of}
-use Rattle.hwdb_databases.specs.Internal.Forms.{change_form}
+use Rattle.hwdb_databases.specs.Views.{held_of, held_shown}
 use Rattle.hwdb_databases.specs.Internal.Meeting.{AreOf, changes_at, left_of, to_meet}
-use Rattle.hwdb_databases.proofs.DiffLemmas.{joined, differ_step}
+use Rattle.hwdb_databases.proofs.GivenLemmas.{reviewed_step}
 use Rattle.hwdb_databases.proofs.meeting.changes_met.Goals as goal
 
 pub meet-requires-clause-kept : goal.meet-requires-clause-kept
@@ -47,8 +46,7 @@ pairs-init c =
     let both : to_meet before after ≡ merged (members_under [] (tree_of c.args.old)) (members_under [] (tree_of c.args.new)) =
     ap (λ (g : List Assignment × List Assignment). merged g.0 g.1) (λ i. (old i, new i)) in
     record {
-      text = ap (λ l. l ++ flat_map (change_form c.args.json) (to_meet before after)) c.new-text.ensures.items ∙ ap (flat_map (change_form c.args.json)) both;
-      differ = ap are_some both;
+      all = ap (λ l. map held_shown l ++ reviewed (review_in c.args.review.now) (to_meet before after)) c.new-all.ensures.items ∙ ap (reviewed (review_in c.args.review.now)) both;
       old_walk = c.in_ok-before.ensures.walk (tree_of c.args.old) refl;
       new_walk = c.in_ok-after.ensures.walk (tree_of c.args.new) refl;
       old_end = c.in_ok-before.ensures.end;
@@ -67,8 +65,8 @@ pairs-preserved c =
     let more = to_meet c.pass_over.new.old c.pass_over.new.new in
     let are = met (left_of c.pass_over.new.old) (left_of c.pass_over.new.new) c.in_ok-pass_over.ensures.old_left c.in_ok-pass_over.ensures.new_left in
     record {
-      text = joined (change_form c.args.json) c.pairs.text.items c.tell.new.text.items all changes more are c.in_ok-differs.ensures.text ∙ c.pairs.invariant.text;
-      differ = differ_step c.pairs.differ c.in_ok-differs.differs (c.pairs.differ || c.in_ok-differs.differs) all changes more are c.in_ok-differs.ensures.some refl ∙ c.pairs.invariant.differ;
+      all = reviewed_step (review_in c.args.review.now) (map held_shown c.pairs.all.items) (map held_shown c.push_held.new.all.items) all changes more (held_of c.in_ok-change.change) are
+          c.in_ok-change.ensures c.in_ok-push_held.ensures ∙ c.pairs.invariant.all;
       old_walk = c.in_ok-pass_over.ensures.old_walk (tree_of c.args.old) c.pairs.invariant.old_walk;
       new_walk = c.in_ok-pass_over.ensures.new_walk (tree_of c.args.new) c.pairs.invariant.new_walk;
       old_end = c.in_ok-pass_over.ensures.old_end c.pairs.invariant.old_end;

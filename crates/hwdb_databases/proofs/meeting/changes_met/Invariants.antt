@@ -1,11 +1,10 @@
-use Rattle.std.proofs.Common.{◌≡◌, ◌+◌, ◌++◌, ◌||◌, [], None, length, IfNone}
-use Rattle.std.specs.Prelude.{flat_map}
-use Rattle.hwdb_spec_commands.specs.Differences.{are_some}
+use Rattle.std.proofs.Common.{◌≡◌, ◌+◌, ◌++◌, [], None, length, map, IfNone}
+use Rattle.hwdb_spec_commands.specs.Reviews.{review_in, reviewed}
 use Rattle.hwdb_spec.specs.Assignment.{text_cmp}
 use Rattle.hwdb_spec.specs.Tree.{members_under}
 use Rattle.hwdb_reader.specs.Unread.{new_file, old_file}
 use Rattle.hwdb_reader.specs.Views.{tree_of}
-use Rattle.hwdb_databases.specs.Internal.Forms.{change_form}
+use Rattle.hwdb_databases.specs.Views.{held_shown}
 use Rattle.hwdb_databases.specs.Internal.Spellings.{IsAbreast}
 use Rattle.hwdb_databases.specs.Internal.Trails.{path_of}
 use Rattle.hwdb_databases.specs.Internal.Merging.{merged}
@@ -14,8 +13,7 @@ use Rattle.hwdb_databases.proofs.meeting.changes_met.Given as goal
 
 abbrev pub invariant-pairs : goal.invariant-pairs
 invariant-pairs l = record {
-  text : l.text.items ++ flat_map (change_form l.json) (to_meet l.before l.after) ≡ flat_map (change_form l.json) (merged (members_under [] (tree_of l.old)) (members_under [] (tree_of l.new)));
-  differ : (l.differ || are_some (to_meet l.before l.after)) ≡ are_some (merged (members_under [] (tree_of l.old)) (members_under [] (tree_of l.new)));
+  all : map held_shown l.all.items ++ reviewed (review_in l.review) (to_meet l.before l.after) ≡ reviewed (review_in l.review) (merged (members_under [] (tree_of l.old)) (members_under [] (tree_of l.new)));
   old_walk : IsUnderWay (tree_of l.old) l.before;
   new_walk : IsUnderWay (tree_of l.new) l.after;
   old_end : IfNone l.before.next (l.before.walk.at ≡ None);

@@ -1,4 +1,4 @@
-use Rattle.hwdb_laws.proofs.ComputedWordRows.{ask_rows, bare_device_rows, bare_update_rows, before_rows, check_rows, device_rows, diff_rows, dump_rows, explain_rows, keys_rows, list_rows, near_rows, number_rows, query_rows, right_rows, scan_rows, status_rows, test_rows, update_rows, verify_rows, wrong_rows}
+use Rattle.hwdb_laws.proofs.ComputedWordRows.{ask_rows, bare_device_rows, bare_update_rows, before_rows, check_rows, device_rows, diff_rows, dump_rows, explain_rows, keys_rows, list_rows, near_rows, number_rows, query_rows, review_rows, right_rows, scan_rows, status_rows, test_rows, update_rows, verify_rows, wrong_rows}
 use Rattle.hwdb_laws.proofs.rows.word_rows.Goals as goal
 
 pub returns : goal.returns
@@ -15,6 +15,7 @@ returns c = record {
   check = check_rows;
   test = test_rows;
   diff = diff_rows;
+  review = review_rows;
   verify = verify_rows;
   dump = dump_rows;
   status = status_rows;

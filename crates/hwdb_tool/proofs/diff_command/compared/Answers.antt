@@ -1,6 +1,6 @@
 use Rattle.std.proofs.Common.{List, map, subst, sym, ◌∙◌, ℕ, Err, Ok, Result, ap}
 use Rattle.hwdb_check.specs.Checks.{source_of}
-use Rattle.hwdb_spec_commands.specs.Comparisons.{comparison_form, devices_named, has_changed}
+use Rattle.hwdb_spec_commands.specs.Comparisons.{comparison_form, comparison_said, devices_named, has_changed}
 use Rattle.hwdb_spec_commands.specs.Databases.{IsDiffText, IsDifferent}
 use Rattle.hwdb_plan.specs.Diff.{change_of, compared}
 use Rattle.hwdb_plan.specs.Lemmas.Diff.{compared_end, pair_told, uncompared_end}
@@ -12,6 +12,7 @@ use Rattle.hwdb_spec.specs.Tree.{Tree}
 use Rattle.hwdb_tool.specs.Views.{end_of}
 use Rattle.hwdb_tool.proofs.SidePlanLemmas.{items}
 use Rattle.hwdb_spec_commands.specs.DiffErrors.{IsDiffRefusal}
+use Rattle.hwdb_spec_commands.specs.Reviews.{review_in}
 use Rattle.hwdb_tool.proofs.diff_command.compared.Goals as goal
 
 -- what follows one side, and what follows both
@@ -22,7 +23,7 @@ pub returns-in_err-old-clause-follows : goal.returns-in_err-old-clause-follows
 returns-in_err-old-clause-follows g c = λ tells one.
     let w = g.D.System.reads c.args.system.now in
     let old_path = c.args.old_path.now in
-    let say = change_of c.args.stat c.args.json (map source_of c.args.files.now) in
+    let say = change_of (review_in c.args.review.now) (map source_of c.args.files.now) in
     let told = c.in_err-old.ensures.told tells in (
       told.0,
       told.1,
@@ -36,7 +37,7 @@ returns-in_err-new-clause-follows g c = λ tells one.
     let failures = g.I.Source.failures in
     let old_path = c.args.old_path.now in
     let new_path = c.args.new_path.now in
-    let say = change_of c.args.stat c.args.json (map source_of c.args.files.now) in
+    let say = change_of (review_in c.args.review.now) (map source_of c.args.files.now) in
     let r = c.in_err-new.field-0.0 in
     let told = pair_told w items items old_path new_path (left c.args.input.now) (left c.side.new.input) (failures c.args.input.now) (failures c.side.new.input) (failures c.side-2.new.input)
     (Ok c.in_ok-old.old) (Err r) one (λ plain. (ap left (c.in_ok-old.ensures.unread plain), ap failures (c.in_ok-old.ensures.unread plain))) (λ plain. ap failures (c.in_err-new.ensures.unread plain))
@@ -55,7 +56,7 @@ returns-clause-follows g c = λ tells one.
     let old_path = c.args.old_path.now in
     let new_path = c.args.new_path.now in
     let sources = map source_of c.args.files.now in
-    let say = change_of c.args.stat c.args.json sources in
+    let say = change_of (review_in c.args.review.now) sources in
     let told = pair_told w items items old_path new_path (left c.args.input.now) (left c.side.new.input) (failures c.args.input.now) (failures c.side.new.input) (failures c.side-2.new.input)
     (Ok c.in_ok-old.old) (Ok c.in_ok-new.new) one (λ plain. (ap left (c.in_ok-old.ensures.unread plain), ap failures (c.in_ok-old.ensures.unread plain))) (λ plain. ap failures (c.in_ok-new.ensures.unread plain))
     (c.in_ok-old.ensures.told tells) (c.in_ok-new.ensures.told tells) in (
@@ -63,7 +64,7 @@ returns-clause-follows g c = λ tells one.
       told.1,
       value_ends w items end_of (side told.0 old_path) (after_old told.0 old_path new_path say) c.in_ok-old.old (Err c.refusal_of.result) told.2.0
           (value_ends w items end_of (side told.0 new_path) (λ new. compared old_path new_path c.in_ok-old.old.items new say) c.in_ok-new.new (Err c.refusal_of.result) told.2.1
-          (uncompared_end w c.law_one_tree.ensures c.args.stat c.args.json sources old_path new_path c.in_ok-old.old.items c.in_ok-new.new.items c.in-Err.error c.refusal_of.result
+          (uncompared_end w c.law_one_tree.ensures (review_in c.args.review.now) sources old_path new_path c.in_ok-old.old.items c.in_ok-new.new.items c.in-Err.error c.refusal_of.result
           (subst (λ (o : List ℕ). IsDiffRefusal o c.in_ok-new.new.items c.in-Err.error) c.deref.ensures.value
           (subst (λ (n : List ℕ). IsDiffRefusal c.deref.result.now n c.in-Err.error) c.deref-2.ensures.value c.in-Err.ensures.errors)) c.refusal_of.ensures.stops)),
     )
@@ -76,21 +77,25 @@ returns-in-Ok-clause-follows g c = λ tells one.
     let old_path = c.args.old_path.now in
     let new_path = c.args.new_path.now in
     let sources = map source_of c.args.files.now in
-    let say = change_of c.args.stat c.args.json sources in
-    let of = comparison_form c.args.stat c.args.json (devices_named sources) in
-    let differ = has_changed (devices_named sources) in
+    let r = review_in c.args.review.now in
+    let say = change_of r sources in
+    let devices = devices_named sources in
+    let olds = c.in_ok-old.old.items in
+    let news = c.in_ok-new.new.items in
     let changes = c.in-Ok.changes in
-    let text = subst (λ (o : List ℕ). IsDiffText of o c.in_ok-new.new.items changes.text.items) c.deref.ensures.value
-    (subst (λ (n : List ℕ). IsDiffText of c.deref.result.now n changes.text.items) c.deref-2.ensures.value c.in-Ok.ensures.text) in
-    let differs = subst (λ (o : List ℕ). IsDifferent differ o c.in_ok-new.new.items changes.differ) c.deref.ensures.value
-    (subst (λ (n : List ℕ). IsDifferent differ c.deref.result.now n changes.differ) c.deref-2.ensures.value c.in-Ok.ensures.differ) in
+    let moved : {A : Type 0} (P : List ℕ → List ℕ → A → Type 0) (a : A) → P c.deref.result.now c.deref-2.result.now a → P olds news a =
+    λ P a h. subst (λ (o : List ℕ). P o news a) c.deref.ensures.value (subst (λ (n : List ℕ). P c.deref.result.now n a) c.deref-2.ensures.value h) in
+    let text = moved (IsDiffText (comparison_form r devices)) changes.text.items c.in-Ok.ensures.text in
+    let said = moved (IsDiffText (comparison_said r devices)) changes.said.items c.in-Ok.ensures.said in
+    let differs = moved (IsDifferent (has_changed r devices)) changes.differ c.in-Ok.ensures.differ in
     let told = pair_told w items items old_path new_path (left c.args.input.now) (left c.side.new.input) (failures c.args.input.now) (failures c.side.new.input) (failures c.side-2.new.input)
     (Ok c.in_ok-old.old) (Ok c.in_ok-new.new) one (λ plain. (ap left (c.in_ok-old.ensures.unread plain), ap failures (c.in_ok-old.ensures.unread plain))) (λ plain. ap failures (c.in_ok-new.ensures.unread plain))
     (c.in_ok-old.ensures.told tells) (c.in_ok-new.ensures.told tells) in (
       told.0,
       told.1,
-      value_ends w items end_of (side told.0 old_path) (after_old told.0 old_path new_path say) c.in_ok-old.old (Ok c.new.result) told.2.0
-          (value_ends w items end_of (side told.0 new_path) (λ new. compared old_path new_path c.in_ok-old.old.items new say) c.in_ok-new.new (Ok c.new.result) told.2.1
-          (compared_end w c.law_one_tree.ensures c.args.stat c.args.json sources old_path new_path c.in_ok-old.old.items c.in_ok-new.new.items changes.differ c.new.result.status c.new.result.err.items
-          c.new.result.out.items (subst (IsDiffText of c.in_ok-old.old.items c.in_ok-new.new.items) (sym c.new.ensures.out) text) differs (c.new.ensures.status ∙ c.status_of.ensures.is) c.new.ensures.err)),
+      value_ends w items end_of (side told.0 old_path) (after_old told.0 old_path new_path say) c.in_ok-old.old (Ok c.answer_of.result) told.2.0
+          (value_ends w items end_of (side told.0 new_path) (λ new. compared old_path new_path olds new say) c.in_ok-new.new (Ok c.answer_of.result) told.2.1
+          (compared_end w c.law_one_tree.ensures r sources old_path new_path olds news changes.differ c.answer_of.result.status c.answer_of.result.err.items c.answer_of.result.out.items
+          (subst (IsDiffText (comparison_form r devices) olds news) (sym c.answer_of.ensures.out) text) (subst (IsDiffText (comparison_said r devices) olds news) (sym c.answer_of.ensures.err) said)
+          differs c.answer_of.ensures.status)),
     )
