@@ -193,9 +193,11 @@ fn count_device<'a>(
     device: &[u8],
 ) -> Result<bool, AllocError>
     ensures stat { OnOk result (stat_shown stat.new ≡ with_told (stat_shown stat.old)
-        (device_changes (review_in review.now) sides.entry.old.now sides.entry.new.now device.now)) }
+        (device_changes (review_in review.now)
+        sides.entry.old.now sides.entry.new.now device.now)) }
     ensures differs { IfOk result (λ differs. differs ≡ are_some
-        (device_changes (review_in review.now) sides.entry.old.now sides.entry.new.now device.now)) }
+        (device_changes (review_in review.now)
+        sides.entry.old.now sides.entry.new.now device.now)) }
 {
     let old_ones = gifts(alloc, sides.old, device)?;
     let new_ones = gifts(alloc, sides.new, device)?;
