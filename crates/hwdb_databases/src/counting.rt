@@ -153,10 +153,7 @@ fn empty<'a>(alloc: Global) -> Stat<'a>
 }
 
 /// The counts of some changes.
-pub(crate) fn stat_of<'a>(
-    alloc: Global,
-    changes: &[Pair<'_, 'a>],
-) -> Result<Stat<'a>, AllocError>
+pub(crate) fn stat_of<'a>(alloc: Global, changes: &[Pair<'_, 'a>]) -> Result<Stat<'a>, AllocError>
     ensures { IfOk result
         (λ stat. stat_shown stat ≡ with_changes no_stat (map change_shown changes.now)) }
 {

@@ -49,11 +49,7 @@ struct Told {
 }
 
 /// Adds changes by record, or a line for each. The only error, here and below, is `AllocError`.
-fn push_text(
-    lines: bool,
-    text: &mut Vec<u8>,
-    changes: &[Pair<'_, '_>],
-) -> Result<(), AllocError>
+fn push_text(lines: bool, text: &mut Vec<u8>, changes: &[Pair<'_, '_>]) -> Result<(), AllocError>
     ensures { OnOk result
         (text.new.items ≡ text.old.items ++ changes_lines lines (map change_shown changes.now)) }
 {
