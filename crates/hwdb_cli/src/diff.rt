@@ -61,7 +61,8 @@ fn with_review<'a>(alloc: Global, command: Draft<'a>) -> Draft<'a>
 {
     let verbose_help = "With --devices, say which changed assignments none of them meets";
     let stat_help = "Print how many assignments came, went and changed, by file and by key";
-    let format_help = "Print changes grouped by record, or as lines: one for each, with its pattern";
+    let format_help =
+        "Print changes grouped by record, or as lines: one for each, with its pattern";
     let with_verbose = with_argument(command, flag(alloc, "verbose", verbose_help));
     let with_globs = with_choice(alloc, with_verbose);
     let with_stat = with_argument(with_globs, flag(alloc, "stat", stat_help));
@@ -79,12 +80,7 @@ fn devices_option<'a>(alloc: Global) -> Arg<'a>
 }
 
 /// An option that may come more than once.
-fn globs_option<'a>(
-    alloc: Global,
-    name: &'a str,
-    value: &'a str,
-    help: &'a str,
-) -> Arg<'a>
+fn globs_option<'a>(alloc: Global, name: &'a str, value: &'a str, help: &'a str) -> Arg<'a>
     ensures { IsArgument (values_rule name.entry.now) result }
 {
     option(alloc, name, value, help).action(ArgAction::Append)

@@ -153,10 +153,7 @@ fn empty<'a>(alloc: Global) -> Stat<'a>
 }
 
 /// The counts of some changes.
-pub(crate) fn stat_of<'a>(
-    alloc: Global,
-    changes: &[Pair<'_, 'a>],
-) -> Result<Stat<'a>, AllocError>
+pub(crate) fn stat_of<'a>(alloc: Global, changes: &[Pair<'_, 'a>]) -> Result<Stat<'a>, AllocError>
     ensures { IfOk result
         (λ stat. stat_shown stat ≡ with_changes no_stat (map change_shown changes.now)) }
 {
@@ -193,9 +190,11 @@ fn count_device<'a>(
     device: &[u8],
 ) -> Result<bool, AllocError>
     ensures stat { OnOk result (stat_shown stat.new ≡ with_told (stat_shown stat.old)
-        (device_changes (review_in review.now) sides.entry.old.now sides.entry.new.now device.now)) }
+        (device_changes (review_in review.now)
+        sides.entry.old.now sides.entry.new.now device.now)) }
     ensures differs { IfOk result (λ differs. differs ≡ are_some
-        (device_changes (review_in review.now) sides.entry.old.now sides.entry.new.now device.now)) }
+        (device_changes (review_in review.now)
+        sides.entry.old.now sides.entry.new.now device.now)) }
 {
     let old_ones = gifts(alloc, sides.old, device)?;
     let new_ones = gifts(alloc, sides.new, device)?;

@@ -139,10 +139,7 @@ fn push_new_heading(
 }
 
 /// Adds changes by record: each pattern once, and below it a line for each change.
-pub(crate) fn push_grouped(
-    text: &mut Vec<u8>,
-    changes: &[Pair<'_, '_>],
-) -> Result<(), AllocError>
+pub(crate) fn push_grouped(text: &mut Vec<u8>, changes: &[Pair<'_, '_>]) -> Result<(), AllocError>
     ensures { OnOk result
         (text.new.items ≡ text.old.items ++ grouped_after None (map change_shown changes.now)) }
 {

@@ -49,11 +49,7 @@ struct Told {
 }
 
 /// Adds changes by record, or a line for each. The only error, here and below, is `AllocError`.
-fn push_text(
-    lines: bool,
-    text: &mut Vec<u8>,
-    changes: &[Pair<'_, '_>],
-) -> Result<(), AllocError>
+fn push_text(lines: bool, text: &mut Vec<u8>, changes: &[Pair<'_, '_>]) -> Result<(), AllocError>
     ensures { OnOk result
         (text.new.items ≡ text.old.items ++ changes_lines lines (map change_shown changes.now)) }
 {
@@ -138,10 +134,10 @@ fn compare_device(
     device: &[u8],
 ) -> Result<bool, AllocError>
     ensures text { OnOk result (text.new.items ≡ text.old.items
-        ++ device_changes_form (review_in review.now).json device.now
-        (device_changes (review_in review.now) sides.entry.old.now sides.entry.new.now device.now)) }
-    ensures differs { IfOk result (λ differs. differs ≡ are_some
-        (device_changes (review_in review.now) sides.entry.old.now sides.entry.new.now device.now)) }
+        ++ device_changes_form (review_in review.now).json device.now (device_changes
+        (review_in review.now) sides.entry.old.now sides.entry.new.now device.now)) }
+    ensures differs { IfOk result (λ differs. differs ≡ are_some (device_changes
+        (review_in review.now) sides.entry.old.now sides.entry.new.now device.now)) }
 {
     let old_ones = gifts(alloc, sides.old, device)?;
     let new_ones = gifts(alloc, sides.new, device)?;
@@ -298,11 +294,14 @@ fn compared(
     requires old { IsTree sides.old.now }
     requires new { IsTree sides.new.now }
     ensures text { IfOk result (λ made. made.text.items ≡ comparison_form (review_in review.now)
-        (option_map (λ ds. map (λ d. d.now) ds.now) devices.entry) sides.entry.old.now sides.entry.new.now) }
+        (option_map (λ ds. map (λ d. d.now) ds.now) devices.entry)
+        sides.entry.old.now sides.entry.new.now) }
     ensures said { IfOk result (λ made. made.said.items ≡ comparison_said (review_in review.now)
-        (option_map (λ ds. map (λ d. d.now) ds.now) devices.entry) sides.entry.old.now sides.entry.new.now) }
+        (option_map (λ ds. map (λ d. d.now) ds.now) devices.entry)
+        sides.entry.old.now sides.entry.new.now) }
     ensures differ { IfOk result (λ made. made.differ ≡ has_changed (review_in review.now)
-        (option_map (λ ds. map (λ d. d.now) ds.now) devices.entry) sides.entry.old.now sides.entry.new.now) }
+        (option_map (λ ds. map (λ d. d.now) ds.now) devices.entry)
+        sides.entry.old.now sides.entry.new.now) }
 {
     let held = changes_between(alloc, review, sides)?;
     let changes = pairs_of(alloc, &held)?;
@@ -361,7 +360,8 @@ pub fn diff(
     ensures headline { IfOk result (λ made. (old_etc old_usr new_etc new_usr : List Source)
         → devices.entry ≡ None → review.now.stat ≡ false
         → IsCompiled old_etc old_usr old.now → IsCompiled new_etc new_usr new.now
-        → made.text.items ≡ files_diff_form (review_in review.now) old_etc old_usr new_etc new_usr) }
+        → made.text.items
+        ≡ files_diff_form (review_in review.now) old_etc old_usr new_etc new_usr) }
     ensures errors { IfErr result (IsDiffRefusal old.now new.now) }
 {
     law_one_tree();

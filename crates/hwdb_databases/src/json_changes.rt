@@ -162,11 +162,7 @@ fn put_array(json: &mut Writer, changes: &[Pair<'_, '_>]) -> Result<(), AllocErr
 }
 
 /// Adds the object of a device.
-fn put_device(
-    json: &mut Writer,
-    device: &[u8],
-    changes: &[Pair<'_, '_>],
-) -> Result<(), AllocError>
+fn put_device(json: &mut Writer, device: &[u8], changes: &[Pair<'_, '_>]) -> Result<(), AllocError>
     ensures before { json.new.before ≡ json.old.before }
     ensures tokens { OnOk result (json.new.tokens ≡ json.old.tokens
         ++ json_tokens (changed_device device.now (map change_shown changes.now))) }

@@ -154,12 +154,7 @@ fn push_count(text: &mut Vec<u8>, n: usize) -> Result<(), AllocError>
 }
 
 /// Adds one text, or another if it is another number.
-fn push_by_number(
-    text: &mut Vec<u8>,
-    one: &str,
-    other: &str,
-    n: usize,
-) -> Result<(), AllocError>
+fn push_by_number(text: &mut Vec<u8>, one: &str, other: &str, n: usize) -> Result<(), AllocError>
     ensures { OnOk result
         (text.new.items ≡ text.old.items ++ spec.by_number one.now other.now n) }
 {
@@ -254,11 +249,7 @@ fn put_array(json: &mut Writer, left: &[Pair<'_, '_>]) -> Result<(), AllocError>
 }
 
 /// Adds the member that has them, if they are asked for.
-fn put_which(
-    json: &mut Writer,
-    verbose: bool,
-    left: &[Pair<'_, '_>],
-) -> Result<(), AllocError>
+fn put_which(json: &mut Writer, verbose: bool, left: &[Pair<'_, '_>]) -> Result<(), AllocError>
     ensures before { json.new.before ≡ json.old.before }
     ensures tokens { OnOk result (json.new.tokens ≡ json.old.tokens
         ++ tokens_of_members (spec.which_member verbose (map change_shown left.now))) }

@@ -33,7 +33,7 @@ abbrev texts_of : Vec (Vec ℕ Global) Global → List (List ℕ)
 texts_of v = map (λ t. t.items) v.items
 
 -- what follows the files of devices
-abbrev after_files : (told : Result (List ℕ) Unread) (old_path new_path : List ℕ) Review → List Source → Plan
+abbrev after_files : (told : Result (List ℕ) Unread) (old_path new_path : List ℕ) → Review → List Source → Plan
 after_files told old_path new_path r sources = sides_compared told old_path new_path (change_of r sources)
 
 pub returns-then-names_twice-clause-follows : goal.returns-then-names_twice-clause-follows
