@@ -1,6 +1,6 @@
 -- What the laws say of rules files: which kinds `--allow` takes, and worked rows. What udev does with each line is from udev-rules.c, and from
 -- `udevadm verify` (systemd 257).
-use Rattle.std.specs.Prelude.{◌∷◌, ◌≡◌, Bool, List, [], codes, false, flat_map, map, not, true, ℕ}
+use Rattle.std.specs.Prelude.{◌∷◌, ◌≡◌, List, [], codes, false, flat_map, map, not, true, ℕ}
 use Rattle.std.specs.List.{list_any}
 use Rattle.hwdb_spec.specs.Folders.{same}
 use Rattle.hwdb_spec.specs.Lines.{byte, is, pieces}
