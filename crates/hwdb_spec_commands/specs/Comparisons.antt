@@ -17,10 +17,11 @@ abbrev pub devices_named : List Source → Option (List (List ℕ))
 devices_named [] = None
 devices_named (s ∷ more) = Some (flat_map (λ (f : Source). devices_of f.bytes) (s ∷ more))
 
--- the changes that count, of assignments and for a device
+-- the changes of assignments that count
 abbrev pub assigned_changes : Review → (old new : Tree) → List Change
 assigned_changes r old new = reviewed r (differences (map_of old) (map_of new))
 
+-- those of what a device gets
 abbrev pub device_changes : Review → (old new : Tree) → (device : List ℕ) → List Change
 device_changes r old new device = reviewed r (device_differences device old new)
 

@@ -45,6 +45,7 @@ abbrev pub met_text : (unmet devices : ℕ) → List ℕ
 met_text unmet devices =
     by_number (codes " is") (codes " are") unmet ++ by_number (codes " not met by this device\n") (codes " met by none of these devices\n") devices
 
+-- how many changes the devices don't meet, in one line
 abbrev pub unmet_line : (unmet all devices : ℕ) → List ℕ
 unmet_line unmet all devices = amount_text unmet all ++ met_text unmet devices
 

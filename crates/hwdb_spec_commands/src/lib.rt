@@ -33,6 +33,9 @@
 //! | `Progress` | what `update` says of its work |
 //! | `ManyDevices` | what `explain` prints of several devices, and a line of devices that is too long |
 //! | `Reloads` | what `query --reload -` says of a database that came in another one's place |
+//! | `Reviews` | how `diff` is asked to compare: its form, and which changes count, by file and by pattern |
+//! | `ChangeForms` | how `diff` tells changes: by record, a line for each, or as JSON |
+//! | `Unmet` | what `diff --devices` says of the changes that its devices don't meet |
 //! | `ChangeCounts` | how many changes there are, by file and by key, and what `diff --stat` prints of that |
 //! | `Comparisons` | what `diff` compares, and what it prints, as text or JSON |
 //! | `LoneFile` | one text file alone, as `ask` reads it and `dump` writes it |
