@@ -1,10 +1,12 @@
 -- Worked rows of what `diff` says: which changes two maps have and in which order, and the lines of each, as hwdb(8) shows them.
 use Rattle.std.specs.FinMap as finite
-use Rattle.std.specs.Prelude.{◌∷◌, ◌≡◌, List, None, Some, [], codes, map, ℕ}
+use Rattle.std.specs.Prelude.{◌∷◌, ◌≡◌, List, None, Some, [], codes, false, map, true, ℕ}
 use Rattle.hwdb_spec.specs.Assignment.{Assignment}
+use Rattle.hwdb_spec_commands.specs.Comparisons.{files_diff_form}
 use Rattle.hwdb_spec_commands.specs.DeviceDifferences.{device_changes_text}
 use Rattle.hwdb_spec_commands.specs.Differences.{change_at, changes_text, differences, files_diff_text, places}
 use Rattle.hwdb_spec_commands.specs.Differences.Change.{Came, Changed, Went}
+use Rattle.hwdb_spec_commands.specs.Reviews.{Review}
 use Rattle.hwdb_spec.specs.Folders.{Source}
 use Rattle.hwdb_spec.specs.Tree.{Map, entry_of}
 
@@ -79,3 +81,14 @@ FileRows =
     files_diff_text [] (file_of (codes "1.hwdb") (codes "a*\n K=1\n L=1\n") ∷ [])
     (file_of (codes "2.hwdb") (codes "a*\n K=2\n") ∷ []) (file_of (codes "1.hwdb") (codes "a*\n K=1\n") ∷ [])
     ≡ codes "~\ta*\tK=1\t/usr/lib/udev/hwdb.d/1.hwdb:2\tK=2\t/etc/udev/hwdb.d/2.hwdb:2\n-\ta*\tL=1\t/usr/lib/udev/hwdb.d/1.hwdb:3\n"
+
+-- lines, of files of this name alone
+abbrev pub of_second : Review
+of_second = record { json = false; stat = false; lines = true; verbose = false; only = codes "2.*" ∷ []; without = []; prefixes = [] }
+
+-- The same of one file: a change counts if its new assignment is in it, and what went from another one doesn't.
+abbrev pub ReviewedFileRows : Type 0
+ReviewedFileRows =
+    files_diff_form of_second [] (file_of (codes "1.hwdb") (codes "a*\n K=1\n L=1\n") ∷ [])
+    (file_of (codes "2.hwdb") (codes "a*\n K=2\n") ∷ []) (file_of (codes "1.hwdb") (codes "a*\n K=1\n") ∷ [])
+    ≡ codes "~\ta*\tK=1\t/usr/lib/udev/hwdb.d/1.hwdb:2\tK=2\t/etc/udev/hwdb.d/2.hwdb:2\n"

@@ -104,6 +104,7 @@ pub fn change_rows()
     ensures lines { ChangeRows.LineRows }
     ensures device { ChangeRows.DeviceRows }
     ensures files { ChangeRows.FileRows }
+    ensures reviewed { ChangeRows.ReviewedFileRows }
 {}
 
 /// What `test` says, and what `test --record` prints.

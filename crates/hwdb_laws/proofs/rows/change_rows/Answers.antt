@@ -1,4 +1,4 @@
-use Rattle.hwdb_laws.proofs.ComputedChangeRows.{device_rows, difference_rows, file_rows, joined_rows, line_rows, place_rows}
+use Rattle.hwdb_laws.proofs.ComputedChangeRows.{device_rows, difference_rows, file_rows, joined_rows, line_rows, place_rows, reviewed_file_rows}
 use Rattle.hwdb_laws.proofs.rows.change_rows.Goals as goal
 
 pub returns : goal.returns
@@ -9,4 +9,5 @@ returns c = record {
   lines = line_rows;
   device = device_rows;
   files = file_rows;
+  reviewed = reviewed_file_rows;
 }
