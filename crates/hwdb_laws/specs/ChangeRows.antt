@@ -82,13 +82,13 @@ FileRows =
     (file_of (codes "2.hwdb") (codes "a*\n K=2\n") ∷ []) (file_of (codes "1.hwdb") (codes "a*\n K=1\n") ∷ [])
     ≡ codes "~\ta*\tK=1\t/usr/lib/udev/hwdb.d/1.hwdb:2\tK=2\t/etc/udev/hwdb.d/2.hwdb:2\n-\ta*\tL=1\t/usr/lib/udev/hwdb.d/1.hwdb:3\n"
 
--- lines, of files of this name alone
-abbrev pub of_second : Review
-of_second = record { json = false; stat = false; lines = true; verbose = false; only = codes "2.*" ∷ []; without = []; prefixes = [] }
+-- lines, of patterns that begin so
+abbrev pub of_b : Review
+of_b = record { json = false; stat = false; lines = true; verbose = false; only = []; without = []; prefixes = codes "b" ∷ [] }
 
--- The same of one file: a change counts if its new assignment is in it, and what went from another one doesn't.
+-- The same of these patterns alone.
 abbrev pub ReviewedFileRows : Type 0
 ReviewedFileRows =
-    files_diff_form of_second [] (file_of (codes "1.hwdb") (codes "a*\n K=1\n L=1\n") ∷ [])
-    (file_of (codes "2.hwdb") (codes "a*\n K=2\n") ∷ []) (file_of (codes "1.hwdb") (codes "a*\n K=1\n") ∷ [])
-    ≡ codes "~\ta*\tK=1\t/usr/lib/udev/hwdb.d/1.hwdb:2\tK=2\t/etc/udev/hwdb.d/2.hwdb:2\n"
+    files_diff_form of_b [] (file_of (codes "1.hwdb") (codes "a*\n K=1\n\nb*\n K=1\n") ∷ [])
+    (file_of (codes "2.hwdb") (codes "a*\n K=2\n\nb*\n K=2\n") ∷ []) (file_of (codes "1.hwdb") (codes "b*\n K=1\n") ∷ [])
+    ≡ codes "~\tb*\tK=1\t/usr/lib/udev/hwdb.d/1.hwdb:5\tK=2\t/etc/udev/hwdb.d/2.hwdb:5\n"

@@ -1,5 +1,5 @@
 -- Worked rows of what a command needs of its words: they are what a job asks for, as COMMANDS of hwdb(8) has it.
-use Rattle.std.specs.Prelude.{◌∷◌, ◌≡◌, List, None, [], codes, false, true, ℕ}
+use Rattle.std.specs.Prelude.{◌∷◌, List, None, [], codes, false, true, ℕ}
 use Rattle.clap.specs.Simple.{Shape}
 use Rattle.clap.specs.Walk.{Row}
 use Rattle.clap.specs.declared.builder.value_parser.Reading.TheVariants.{AsWritten}
