@@ -119,9 +119,9 @@ fn compared<D: TextsBelow, I: Source>(
 
 /// What is printed and said of changes, and the status.
 fn answer_of(changes: Changes) -> Answer
-    ensures err { result.err.items ≡ changes.entry.said.items }
-    ensures out { result.out.items ≡ changes.entry.text.items }
-    ensures status { result.status ≡ (if changes.entry.differ then 1 else 0) }
+    ensures err { result.err.items ≡ changes.said.items }
+    ensures out { result.out.items ≡ changes.text.items }
+    ensures status { result.status ≡ (if changes.differ then 1 else 0) }
 {
     let Changes { text, said, differ } = changes;
     Answer::with_error(said, text, status_of(differ))
