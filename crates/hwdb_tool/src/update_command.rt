@@ -49,52 +49,39 @@ pub struct UpdateAsked<'a> {
     pub skip: bool,
 }
 
-/// How files are put in place.
-#[derive(Clone, Copy)]
-struct Put<'a> {
-    /// What is said first, of what is lost.
-    loss: &'a [u8],
-    /// The names of /usr/lib's files, if it is said which files are taken.
-    listed: Option<&'a [String]>,
-    /// Whether a fault line gives status 1.
-    strict: bool,
-    /// The folder of the database.
-    folder: &'a str,
-}
-
 /// Compiles chosen files, says of them what is to be said, and puts their database in its place in a folder of the
 /// store. Their fault lines are said. If the names of /usr/lib's files are given, it is said before which files they are and how
 /// much they assign. Before all that comes what is lost. Returns the status: 1 if `strict` and there is a fault line, else 0.
 fn update_files<S: System, E: Sink>(
     alloc: Global,
     files: &[ChosenFile<'_>],
-    put: Put<'_>,
+    loss: &[u8],
+    listed: Option<&[String]>,
+    strict: bool,
+    folder: &str,
     store: &mut S,
     err: &mut E,
 ) -> Result<u8, ToolError>
     requires { All IsStorableChoice (map choice_in files.now) }
     ensures follows { let left = files_by S.Store.seen S.System.may_fail S.Store.may_leave
-        S.Store.failures in S.Store.tells → PutsFiles result put.entry.loss.now
-        (option_map (λ l. map string_bytes l.now) put.entry.listed) put.entry.strict
-        put.entry.folder.now files.now
+        S.Store.failures in S.Store.tells → PutsFiles result loss.now
+        (option_map (λ l. map string_bytes l.now) listed.entry) strict folder.now files.now
         (left store.old) (left store.new)
         (told_by E.taken E.failures err.old) (told_by E.taken E.failures err.new) }
     ensures status { IfOk result (λ status. status ≤ 1) }
     ensures any_moment { S.Store.tells → ForFolders files.now (λ etc usr.
         spec.LeavesOnly S.Store.moment S.Store.left_since store.old store.new
-        (OldOrWritten etc usr put.entry.folder.now
-        (S.Store.seen store.old) (S.Store.may_leave store.old))) }
-    ensures any_crash { let names = option_map (λ l. map string_bytes l.now) put.entry.listed in
+        (OldOrWritten etc usr folder.now (S.Store.seen store.old) (S.Store.may_leave store.old))) }
+    ensures any_crash { let names = option_map (λ l. map string_bytes l.now) listed.entry in
         S.Store.tells → (w : Reads) (less : ℕ → ℕ) → ForFolders files.now (λ etc usr.
         spec.LeavesOnly S.Store.moment S.Store.left_since store.old store.new (OldOrPut w
-        (put_plan put.entry.loss.now etc usr names
-        (λ faults. less (status_of put.entry.strict faults)) put.entry.folder.now)
+        (put_plan loss.now etc usr names (λ faults. less (status_of strict faults)) folder.now)
         (S.Store.seen store.old) (S.Store.may_leave store.old))) }
 
     ensures refusals { IfErr result
         (λ e. ForFolders files.now (λ etc usr. IsUpdateRefusal etc usr max_file e)) }
     ensures unwritten { S.Store.tells → IfErr result (OnUnreplaced
-        (λ _. IsUnwritable put.entry.folder.now (S.Store.seen store.old)
+        (λ _. IsUnwritable folder.now (S.Store.seen store.old)
         (S.Store.failures store.old) (S.Store.failures store.new))) }
     ensures untouched { IfErr result
         (λ e. e ≢ ToolError.Write → ((u : Unreplaced) → e ≢ ToolError.Replace u)
@@ -103,10 +90,10 @@ fn update_files<S: System, E: Sink>(
         (E.failures err.old) (E.failures err.new) }
 {
     let compiled = compile_chosen(alloc, files, MAX_BYTES)?;
-    let told = progress(alloc, files, put.listed, &compiled)?;
-    let mut said = Vec::from_slice(alloc, put.loss)?;
+    let told = progress(alloc, files, listed, &compiled)?;
+    let mut said = Vec::from_slice(alloc, loss)?;
     said.extend_from_slice(&told)?;
-    put_in_place(alloc, &compiled, &said, put.strict, put.folder, store, err)
+    put_in_place(alloc, &compiled, &said, strict, folder, store, err)
 }
 
 /// The names of /usr/lib's files, if `verbose`.
@@ -161,13 +148,16 @@ fn update_selected<D: System, E: Sink>(
         files.as_slice().is_empty(),
         system,
     )?;
-    let put = Put {
-        loss: &loss,
-        listed: listing(asked.verbose, &selection.listed),
-        strict: asked.strict,
-        folder: folder.as_str(),
-    };
-    match update_files(alloc, &files, put, system, err) {
+    match update_files(
+        alloc,
+        &files,
+        &loss,
+        listing(asked.verbose, &selection.listed),
+        asked.strict,
+        folder.as_str(),
+        system,
+        err,
+    ) {
         Ok(status) => Ok(status),
         Err(error) => Err(Refusal::of_update(error, path, system.cause())),
     }

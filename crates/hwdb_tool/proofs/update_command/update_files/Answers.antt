@@ -19,7 +19,7 @@ returns-clause-any_moment g c = λ tells etc usr of.
     let left = g.S.Store.may_leave c.args.store.now in
     let database = c.in_ok-compiled.compiled.database.items in
     leaves_more g.S.Store.moment g.S.Store.left_since c.args.store.now c.put_in_place.new.store
-    (OldOrNew c.args.put.folder.now database seen left) (OldOrWritten etc usr c.args.put.folder.now seen left)
+    (OldOrNew c.args.folder.now database seen left) (OldOrWritten etc usr c.args.folder.now seen left)
     (λ p v now. ⊎_elim (λ old. inl old) (λ other. ⊎_elim
     (λ new. inr (inl (database, c.in_ok-compiled.ensures.database etc usr of, c.in_ok-compiled.ensures.checked etc usr of, new.0, new.1)))
     (λ part. inr (inr part)) other) now)
@@ -29,40 +29,40 @@ pub returns-in_err-compiled-clause-follows : goal.returns-in_err-compiled-clause
 returns-in_err-compiled-clause-follows g c = λ tells w less shown is etc usr of.
     let F = files_by g.S.Store.seen g.S.System.may_fail g.S.Store.may_leave g.S.Store.failures in
     let T = told_by g.E.Sink.taken g.E.Sink.failures in
-    uncompiled w (path_in c.args.put.folder.now database_name) less c.args.put.loss.now etc usr (option_map (λ l. map string_bytes l.now) c.args.put.listed) (status_of c.args.put.strict) c.args.put.folder.now
+    uncompiled w (path_in c.args.folder.now database_name) less c.args.loss.now etc usr (option_map (λ l. map string_bytes l.now) c.args.listed) (status_of c.args.strict) c.args.folder.now
     c.in_err-compiled.field-0.0 (F c.args.store.now) (T c.args.err.now) c.from_residual.result shown c.from_residual.ensures.1 (c.in_err-compiled.ensures.refused etc usr of) is
 
 pub returns-in_err-told-clause-follows : goal.returns-in_err-told-clause-follows
 returns-in_err-told-clause-follows g c = λ tells w less shown is etc usr of.
     let F = files_by g.S.Store.seen g.S.System.may_fail g.S.Store.may_leave g.S.Store.failures in
     let T = told_by g.E.Sink.taken g.E.Sink.failures in
-    let names = option_map (λ l. map string_bytes l.now) c.args.put.listed in
-    no_memory w (path_in c.args.put.folder.now database_name) less (put_plan c.args.put.loss.now etc usr names (λ faults. less (status_of c.args.put.strict faults)) c.args.put.folder.now)
+    let names = option_map (λ l. map string_bytes l.now) c.args.listed in
+    no_memory w (path_in c.args.folder.now database_name) less (put_plan c.args.loss.now etc usr names (λ faults. less (status_of c.args.strict faults)) c.args.folder.now)
     (F c.args.store.now) (T c.args.err.now) c.from_residual-in_err-told.result shown c.from_residual-in_err-told.ensures.1 is
 
 pub returns-in_err-said-clause-follows : goal.returns-in_err-said-clause-follows
 returns-in_err-said-clause-follows g c = λ tells w less shown is etc usr of.
     let F = files_by g.S.Store.seen g.S.System.may_fail g.S.Store.may_leave g.S.Store.failures in
     let T = told_by g.E.Sink.taken g.E.Sink.failures in
-    let names = option_map (λ l. map string_bytes l.now) c.args.put.listed in
-    no_memory w (path_in c.args.put.folder.now database_name) less (put_plan c.args.put.loss.now etc usr names (λ faults. less (status_of c.args.put.strict faults)) c.args.put.folder.now)
+    let names = option_map (λ l. map string_bytes l.now) c.args.listed in
+    no_memory w (path_in c.args.folder.now database_name) less (put_plan c.args.loss.now etc usr names (λ faults. less (status_of c.args.strict faults)) c.args.folder.now)
     (F c.args.store.now) (T c.args.err.now) c.from_residual-in_err-said.result shown c.from_residual-in_err-said.ensures.1 is
 
 pub returns-in_err-extend_from_slice-clause-follows : goal.returns-in_err-extend_from_slice-clause-follows
 returns-in_err-extend_from_slice-clause-follows g c = λ tells w less shown is etc usr of.
     let F = files_by g.S.Store.seen g.S.System.may_fail g.S.Store.may_leave g.S.Store.failures in
     let T = told_by g.E.Sink.taken g.E.Sink.failures in
-    let names = option_map (λ l. map string_bytes l.now) c.args.put.listed in
-    no_memory w (path_in c.args.put.folder.now database_name) less (put_plan c.args.put.loss.now etc usr names (λ faults. less (status_of c.args.put.strict faults)) c.args.put.folder.now)
+    let names = option_map (λ l. map string_bytes l.now) c.args.listed in
+    no_memory w (path_in c.args.folder.now database_name) less (put_plan c.args.loss.now etc usr names (λ faults. less (status_of c.args.strict faults)) c.args.folder.now)
     (F c.args.store.now) (T c.args.err.now) c.from_residual-in_err-extend_from_slice.result shown c.from_residual-in_err-extend_from_slice.ensures.1 is
 
 pub returns-clause-follows : goal.returns-clause-follows
 returns-clause-follows g c = λ tells w less shown is etc usr of.
     let F = files_by g.S.Store.seen g.S.System.may_fail g.S.Store.may_leave g.S.Store.failures in
     let T = told_by g.E.Sink.taken g.E.Sink.failures in
-    let names = option_map (λ l. map string_bytes l.now) c.args.put.listed in
+    let names = option_map (λ l. map string_bytes l.now) c.args.listed in
     let compiled = c.in_ok-compiled.compiled in
-    let loss = c.args.put.loss.now in
+    let loss = c.args.loss.now in
     let faults = faults_text (map fault_of compiled.faults.items) in
     let made = c.in_ok-compiled.ensures.checked etc usr of in
     let deep = depth made.0 in
@@ -72,9 +72,9 @@ returns-clause-follows g c = λ tells w less shown is etc usr of.
     ∙ ap (λ l. loss ++ (l ++ faults))
     (c.deref.ensures.value ∙ c.in_ok-told.ensures etc usr of made)
     ∙ ap (λ fs. loss ++ (progress_text names etc usr deep ++ faults_text fs)) (c.in_ok-compiled.ensures.faults etc usr of) in
-    let status = each_value _ (λ (n : ℕ). n ≡ status_of c.args.put.strict (faults_of_files etc usr)) c.put_in_place.result
-    (λ n same. same ∙ ap (status_of c.args.put.strict) (c.in_ok-compiled.ensures.faults etc usr of)) c.put_in_place.ensures.status in
-    put_ended w (path_in c.args.put.folder.now database_name) less loss etc usr names (status_of c.args.put.strict) c.args.put.folder.now F T c.args.store.now c.put_in_place.new.store c.args.err.now c.put_in_place.new.err
+    let status = each_value _ (λ (n : ℕ). n ≡ status_of c.args.strict (faults_of_files etc usr)) c.put_in_place.result
+    (λ n same. same ∙ ap (status_of c.args.strict) (c.in_ok-compiled.ensures.faults etc usr of)) c.put_in_place.ensures.status in
+    put_ended w (path_in c.args.folder.now database_name) less loss etc usr names (status_of c.args.strict) c.args.folder.now F T c.args.store.now c.put_in_place.new.store c.args.err.now c.put_in_place.new.err
     compiled.database.items (c.deref-2.result.now ++ faults) made.0
     (record { accepted = c.in_ok-compiled.ensures.accepted etc usr of; written = c.in_ok-compiled.ensures.database etc usr of; sound = c.in_ok-compiled.ensures.checked etc usr of; within = c.in_ok-compiled.ensures.within })
     made.1 text c.put_in_place.result shown refl c.put_in_place.ensures.told (c.put_in_place.ensures.placed tells) status c.put_in_place.ensures.refusals c.put_in_place.ensures.unreplaced
@@ -84,7 +84,7 @@ pub returns-clause-any_crash : goal.returns-clause-any_crash
 returns-clause-any_crash g c = λ tells w less etc usr of.
     let compiled = c.in_ok-compiled.compiled in
     let made = c.in_ok-compiled.ensures.checked etc usr of in
-    leaves_put g.S.Store.moment g.S.Store.left_since c.args.store.now c.put_in_place.new.store w (g.S.Store.seen c.args.store.now) (g.S.Store.may_leave c.args.store.now) c.args.put.loss.now etc usr
-    (option_map (λ l. map string_bytes l.now) c.args.put.listed) (λ faults. less (status_of c.args.put.strict faults)) c.args.put.folder.now compiled.database.items made.0
+    leaves_put g.S.Store.moment g.S.Store.left_since c.args.store.now c.put_in_place.new.store w (g.S.Store.seen c.args.store.now) (g.S.Store.may_leave c.args.store.now) c.args.loss.now etc usr
+    (option_map (λ l. map string_bytes l.now) c.args.listed) (λ faults. less (status_of c.args.strict faults)) c.args.folder.now compiled.database.items made.0
     (record { accepted = c.in_ok-compiled.ensures.accepted etc usr of; written = c.in_ok-compiled.ensures.database etc usr of; sound = c.in_ok-compiled.ensures.checked etc usr of; within = c.in_ok-compiled.ensures.within })
     made.1 (c.put_in_place.ensures.any_moment tells)
