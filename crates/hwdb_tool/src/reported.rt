@@ -27,15 +27,16 @@ use crate::databases::{asked, refused_database};
 use crate::device_command::{device_form, list_text, text_over};
 use crate::every_device::{all_misuse, devices, strings_over};
 use crate::given::{INPUT, is_dash, read};
-use crate::missing::{for_rules, no_device, only_meant};
+use crate::missing::{no_device, only_meant};
 use crate::over_text::misused;
 use crate::verb::{Verb, root_of, text_of};
 use hwdb_cli::{DeviceArgs, Job};
 use hwdb_device::{DeviceForm, unread_lines};
 use hwdb_exports::{Export, is_export};
 use hwdb_io::Source;
+use hwdb_rules::ATTRIBUTES;
 use hwdb_show::push_name;
-use hwdb_sysfs::{Unfound, find_device, read_device};
+use hwdb_sysfs::{Sysfs, Unfound, find_device, read_device};
 use hwdb_system::{Machine, Refusal, System};
 use std::alloc::{AllocError, Global};
 
@@ -282,7 +283,12 @@ fn answered<D: System>(
         wanted.entry.form place.now)) result }
 {
     let found = asked(alloc, wanted.root, system)?;
-    let device = read_device(alloc, &for_rules(&report.export, SYS), place)?;
+    let sysfs = Sysfs {
+        files: &report.export,
+        names: ATTRIBUTES.as_bytes(),
+        folder: SYS,
+    };
+    let device = read_device(alloc, &sysfs, place)?;
     let told = lacks(alloc, report)?;
     match text_over(alloc, &found.bytes, &device, wanted.form) {
         Ok(text) => Ok(Answer::with_error(told, text, 0)),

@@ -1,4 +1,5 @@
 use Rattle.std.proofs.Common.{◌≡◌, Err, List, Ok, string_bytes, subst, sym, ◌∙◌, ℕ}
+use Rattle.hwdb_spec.specs.Lines.{is, pieces}
 use Rattle.hwdb_spec_commands.specs.DatabaseErrors.{IsDatabaseRefusal}
 use Rattle.hwdb_spec_commands.specs.Databases.{IsTextOf}
 use Rattle.hwdb_spec_commands.specs.DeviceTexts.{device_text}
@@ -42,11 +43,7 @@ returns-in-Ok-clause-follows g c = λ tells.
     let path = string_bytes c.in_ok-found.found.path in
     let bytes = c.in_ok-found.found.bytes.items in
     let a = c.with_error.result in
-    let told = c.in_ok-device.ensures tt in
-    let files = c.for_rules.ensures.files in
-    let names = c.for_rules.ensures.names in
-    let folder = c.for_rules.ensures.folder in
-    let read : device ≡ device_at r.sight asked_names sys c.args.place.now = cc in
+    let read : device ≡ device_at r.sight asked_names sys c.args.place.now = subst (λ (n : List ℕ). device ≡ device_at r.sight (pieces (is 10) n) sys c.args.place.now) c.as_bytes.ensures.value (c.in_ok-device.ensures tt) in
     goes_on end_of w (asked wanted.root.now) (found_answer r wanted.form c.args.place.now) path bytes (Ok a) (c.in_ok-found.ensures.follows tells)
     (found_ends w r wanted.form c.args.place.now path bytes device a.status a.err.items a.out.items c.with_error.ensures.status (c.with_error.ensures.err ∙ c.in_ok-told.ensures) read
     (subst (λ (t : List ℕ). IsTextOf (device_text wanted.form device) bytes t) (sym c.with_error.ensures.out)
@@ -63,4 +60,4 @@ returns-clause-follows g c = λ tells.
     goes_on end_of w (asked wanted.root.now) (found_answer r wanted.form c.args.place.now) path bytes (Err x) (c.in_ok-found.ensures.follows tells)
     (no_found_ends w r wanted.form c.args.place.now path bytes c.in-Err.error x
     (subst (λ (b : List ℕ). IsDatabaseRefusal b c.in-Err.error) c.deref.ensures.value c.in-Err.ensures.refusals)
-    (subst (λ (p : List ℕ). IsStop (database_stop p c.in-Err.error) x) c.as_bytes.ensures.value c.refused_database.ensures.stops))
+    (subst (λ (p : List ℕ). IsStop (database_stop p c.in-Err.error) x) c.as_bytes-in-Err.ensures.value c.refused_database.ensures.stops))
