@@ -1,5 +1,5 @@
 -- What the words of `diff` ask for is what its function follows.
-use Rattle.std.proofs.Common.{◌≡◌, ◌∙◌, refl, subst, map, string_bytes, List, Result, ℕ, []}
+use Rattle.std.proofs.Common.{◌≡◌, ◌∙◌, refl, subst, map, string_bytes, Bool, List, Result, ℕ, []}
 use Rattle.std.specs.Prelude.{codes}
 use Rattle.clap.specs.Walk.{Row, Text}
 use Rattle.hwdb_spec_commands.specs.DeviceTree.{Sight}

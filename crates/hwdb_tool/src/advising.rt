@@ -113,7 +113,8 @@ fn kept_answer<D: Machine, I: Source>(
     system: &mut D,
     input: &mut I,
 ) -> Result<Answer, Refusal>
-    requires { IsWholeTask job.now.task }
+    requires said { is_advised job.now.task ≡ true }
+    requires whole { IsWholeTask job.now.task }
     ensures follows { D.Store.tells → (words : List (List ℕ)) → AskFor words job.now
         → OfAround (sight_by D.answers system.old)
         (I.left input.old) (I.failures input.old) (I.failures input.new)

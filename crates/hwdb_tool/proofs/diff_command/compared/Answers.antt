@@ -1,4 +1,4 @@
-use Rattle.std.proofs.Common.{List, map, subst, sym, ◌∙◌, ℕ, Err, Ok, Result, ap}
+use Rattle.std.proofs.Common.{◌≡◌, Bool, List, map, subst, sym, ◌∙◌, ℕ, Err, Ok, Result, ap}
 use Rattle.hwdb_check.specs.Checks.{source_of}
 use Rattle.hwdb_spec_commands.specs.Comparisons.{comparison_form, comparison_said, devices_named, has_changed}
 use Rattle.hwdb_spec_commands.specs.Databases.{IsDiffText, IsDifferent}
@@ -14,6 +14,10 @@ use Rattle.hwdb_tool.proofs.SidePlanLemmas.{items}
 use Rattle.hwdb_spec_commands.specs.DiffErrors.{IsDiffRefusal}
 use Rattle.hwdb_spec_commands.specs.Reviews.{review_in}
 use Rattle.hwdb_tool.proofs.diff_command.compared.Goals as goal
+
+-- what is so of two texts, of others that are the same
+moved : (A : Type 0) (P : List ℕ → List ℕ → A → Type 0) (x y u v : List ℕ) → x ≡ y → u ≡ v → (a : A) → P x u a → P y v a
+moved A P x y u v one other a h = subst (λ (l : List ℕ). P l v a) one (subst (λ (l : List ℕ). P x l a) other h)
 
 -- what follows one side, and what follows both
 abbrev after_old : (told : Result (List ℕ) Unread) (old_path new_path : List ℕ) (say : Tree → Tree → End) → List ℕ → Plan
@@ -83,11 +87,11 @@ returns-in-Ok-clause-follows g c = λ tells one.
     let olds = c.in_ok-old.old.items in
     let news = c.in_ok-new.new.items in
     let changes = c.in-Ok.changes in
-    let moved : {A : Type 0} (P : List ℕ → List ℕ → A → Type 0) (a : A) → P c.deref.result.now c.deref-2.result.now a → P olds news a =
-    λ P a h. subst (λ (o : List ℕ). P o news a) c.deref.ensures.value (subst (λ (n : List ℕ). P c.deref.result.now n a) c.deref-2.ensures.value h) in
-    let text = moved (IsDiffText (comparison_form r devices)) changes.text.items c.in-Ok.ensures.text in
-    let said = moved (IsDiffText (comparison_said r devices)) changes.said.items c.in-Ok.ensures.said in
-    let differs = moved (IsDifferent (has_changed r devices)) changes.differ c.in-Ok.ensures.differ in
+    let o = c.deref.ensures.value in
+    let n = c.deref-2.ensures.value in
+    let text = moved (List ℕ) (IsDiffText (comparison_form r devices)) c.deref.result.now olds c.deref-2.result.now news o n changes.text.items c.in-Ok.ensures.text in
+    let said = moved (List ℕ) (IsDiffText (comparison_said r devices)) c.deref.result.now olds c.deref-2.result.now news o n changes.said.items c.in-Ok.ensures.said in
+    let differs = moved Bool (IsDifferent (has_changed r devices)) c.deref.result.now olds c.deref-2.result.now news o n changes.differ c.in-Ok.ensures.differ in
     let told = pair_told w items items old_path new_path (left c.args.input.now) (left c.side.new.input) (failures c.args.input.now) (failures c.side.new.input) (failures c.side-2.new.input)
     (Ok c.in_ok-old.old) (Ok c.in_ok-new.new) one (λ plain. (ap left (c.in_ok-old.ensures.unread plain), ap failures (c.in_ok-old.ensures.unread plain))) (λ plain. ap failures (c.in_ok-new.ensures.unread plain))
     (c.in_ok-old.ensures.told tells) (c.in_ok-new.ensures.told tells) in (
