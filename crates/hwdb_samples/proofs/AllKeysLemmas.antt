@@ -8,19 +8,19 @@ use Rattle.std.specs.BTreeMap.{is_at}
 use Rattle.std.specs.Ordering.{is_eq, ordering_reverse}
 use Rattle.std.specs.declared.cmp.Ordering.TheVariants.{Less}
 use Rattle.std.proofs.lemmas.Cmp.{nat_list_cmp_total, tied_itself}
-use Rattle.hwdb_spec.specs.Assignment.{Assignment, text_cmp}
-use Rattle.hwdb_spec.specs.Answers.{has_key}
+use Rattle.hwdb_spec.specs.Assignment.{in_order, text_cmp}
+use Rattle.hwdb_spec.specs.Folders.{same}
 use Rattle.hwdb_spec.specs.Lemmas.Orders.{equal_of, equal_text}
 use Rattle.hwdb_text.specs.Lemmas.Members.{Holds, in_order_from, in_order_rises, one_list}
-use Rattle.hwdb_samples.specs.Samples.{IsSame, given}
-use Rattle.hwdb_samples.specs.Keys.{AreInTurn, AreRules, IsFound, IsFoundAt, IsNothing, assigned_texts, assignment_texts, in_turn, is_of, key_found, key_of, keys_of_both, properties, property_texts, rule_in, rule_texts, rules_at}
-use Rattle.hwdb_samples.specs.Groups.{AreAllFound, AreFound, Both, both_at, both_in, key_order, some_both}
+use Rattle.hwdb_spec_commands.specs.SamplesFound.{Found, KeyedRule, found_at, key_in, rules_of, samples_by_key, samples_of}
+use Rattle.hwdb_samples.specs.Views.{key_shown, property_texts, rule_texts}
+use Rattle.hwdb_samples.specs.Groups.{AreAllFound, AreFound, Both, IsFound, both_at, both_in, is_of, key_order, rule_in, rules_at, some_both}
 use Rattle.hwdb_samples.specs.declared.rules.Rule.{Rule}
 use Rattle.hwdb_samples.specs.declared.groups.Groups.{Groups}
 use Rattle.hwdb_samples.specs.declared.groups.KeySamples.{KeySamples}
 use Rattle.hwdb_samples.specs.declared.groups.Property.{Property}
 use Rattle.hwdb_samples.specs.declared.groups.Sides.{Sides}
-use Rattle.hwdb_samples.proofs.KeyLemmas.{ordered_holds, rules_texts, same_rules_give_all, texts_after}
+use Rattle.hwdb_samples.proofs.KeyLemmas.{ordered_holds}
 
 abbrev Entries : Type 0
 Entries = List (Bor (List ℕ) × Sides)
@@ -30,6 +30,18 @@ sides_at q es = lookup (is_at (λ (k : Bor (List ℕ)). text_cmp q k.now)) es
 
 abbrev entry_key : Bor (List ℕ) × Sides → List ℕ
 entry_key e = e.0.now
+
+abbrev key_of : Property → List ℕ
+key_of p = p.key.now
+
+abbrev key_found : KeySamples → List ℕ
+key_found s = s.key.now
+
+abbrev keys_of_both : (old new : List Property) → List (List ℕ)
+keys_of_both old new = in_order text_cmp (map key_of old ++ map key_of new)
+
+abbrev IsFoundAt : (old new : List Property) → KeySamples → Type 0
+IsFoundAt old new s = IsFound (rules_at s.key.now old) (rules_at s.key.now new) s.found
 
 -- each key has the rules of both sides
 abbrev pub AreGrouped : Groups → (old new : List Property) → Type 0
@@ -148,7 +160,7 @@ module _ (m : Groups) (old new : List Property) (grouped : AreGrouped m old new)
   found_keys (e ∷ es) [] are = absurd are
   found_keys (e ∷ es) (s ∷ list) are = λ i. are.0 i ∷ found_keys es list are.2 i
 
-  pub keys_are : (list : List KeySamples) → AreAllFound m list → map key_found list ≡ keys_of_both old new
+  keys_are : (list : List KeySamples) → AreAllFound m list → map key_found list ≡ keys_of_both old new
   keys_are list all = found_keys m.sides.entries list all.found ∙ entry_keys_are all.ascends
 
   -- ---- what is found of each
@@ -179,65 +191,36 @@ module _ (m : Groups) (old new : List Property) (grouped : AreGrouped m old new)
   each_found (e ∷ es) [] own are = absurd are
   each_found (e ∷ es) (s ∷ list) own are = (one_found e s own.0 are.0 are.1, each_found es list own.1 are.2)
 
-  pub each_is_found : (list : List KeySamples) → AreAllFound m list → AllByRecursion (IsFoundAt old new) list
+  each_is_found : (list : List KeySamples) → AreAllFound m list → AllByRecursion (IsFoundAt old new) list
   each_is_found list all = each_found m.sides.entries list (all_own m.sides.entries all.ascends) all.found
 
-  -- ---- nothing is found
+  -- ---- the equation
 
-  picked : (list : List KeySamples) (q device : List ℕ) → Holds (map key_found list) q → AllByRecursion (IsFoundAt old new) list → AllByRecursion IsNothing list → IsSame (rules_at q old) (rules_at q new) device
-  picked [] q device h found none = absurd h
-  picked (s ∷ list) q device h found none =
-      ⊎_elim {C = IsSame (rules_at q old) (rules_at q new) device}
-      (λ own. subst (λ (k : List ℕ). IsSame (rules_at k old) (rules_at k new) device) (sym own) (found.0.complete none.0.0 none.0.1 device))
-      (λ r. picked list q device r found.1 none.1) h
+  keyed : (key : List ℕ) (list : List Property) → map rule_texts (rules_at key list) ≡ rules_of key (map property_texts list)
+  keyed key [] = refl
+  keyed key (p ∷ list) =
+      let again : map rule_texts (rules_at key list) ≡ rules_of key (map property_texts list) = keyed key list in
+      elim (is_of key p) as (λ b. map rule_texts (map rule_in (cond b (p ∷ filter (is_of key) list) (filter (is_of key) list)))
+      ≡ map (λ (q : KeyedRule). q.1) (cond b (property_texts p ∷ filter (λ (q : KeyedRule). same key q.0) (map property_texts list)) (filter (λ (q : KeyedRule). same key q.0) (map property_texts list)))) [
+        | true ↦ ap (λ l. rule_texts p.rule ∷ l) again
+        | false ↦ again
+      ]
 
-  same_rules : (list : List KeySamples) → AreAllFound m list → AllByRecursion IsNothing list
-      → (q device : List ℕ) → IsSame (rules_at q old) (rules_at q new) device
-  same_rules list all none q device =
-      elim (sides_at q m.sides.entries) as (λ o. sides_at q m.sides.entries ≡ o → IsSame (rules_at q old) (rules_at q new) device) [
-        | Some s ↦ λ e. picked list q device (subst (λ (l : List (List ℕ)). Holds l q) (sym (found_keys m.sides.entries list all.found)) (some_key q m.sides.entries s e)) (each_is_found list all) none
-        | None ↦ λ e. let both = no_sides q e in ap (given device) (both.0 ∙ sym both.1)
-      ] refl
+  shown_at : (s : KeySamples) → IsFoundAt old new s → key_shown s ≡ found_at (map property_texts old) (map property_texts new) s.key.now
+  shown_at s is =
+      let found = is ∙ ap (λ l. samples_of l (map rule_texts (rules_at s.key.now new))) (keyed s.key.now old) ∙ ap (samples_of (rules_of s.key.now (map property_texts old))) (keyed s.key.now new) in
+      ap (λ (f : Found). (s.key.now, f)) found
 
--- ---- assignments
+  all_shown : (list : List KeySamples) → AllByRecursion (IsFoundAt old new) list → map key_shown list ≡ map (found_at (map property_texts old) (map property_texts new)) (map key_found list)
+  all_shown [] all = refl
+  all_shown (s ∷ list) all = λ i. shown_at s all.0 i ∷ all_shown list all.1 i
 
-abbrev Triple : Type 0
-Triple = List ℕ × List ℕ × List ℕ
+  key_texts : (list : List Property) → map key_of list ≡ map key_in (map property_texts list)
+  key_texts [] = refl
+  key_texts (p ∷ list) = ap (λ l. p.key.now ∷ l) (key_texts list)
 
-abbrev kept_texts : List ℕ → List Triple → List (List ℕ × List ℕ)
-kept_texts key ts = map (λ (t : Triple). (t.1, t.2)) (filter (λ (t : Triple). is_eq (text_cmp key t.0)) ts)
-
-rules_kept : (key : List ℕ) (list : List Property) → map rule_texts (rules_at key list) ≡ kept_texts key (map property_texts list)
-rules_kept key [] = refl
-rules_kept key (p ∷ list) =
-    let again = rules_kept key list in
-    elim (is_of key p) as (λ b. map rule_texts (map rule_in (cond b (p ∷ filter (is_of key) list) (filter (is_of key) list)))
-    ≡ map (λ (t : Triple). (t.1, t.2)) (cond b (property_texts p ∷ filter (λ (t : Triple). is_eq (text_cmp key t.0)) (map property_texts list)) (filter (λ (t : Triple). is_eq (text_cmp key t.0)) (map property_texts list)))) [
-      | true ↦ ap (λ l. rule_texts p.rule ∷ l) again
-      | false ↦ again
-    ]
-
-assigned_kept : (key : List ℕ) (all : List Assignment) → map assigned_texts (filter (has_key key) all) ≡ kept_texts key (map assignment_texts all)
-assigned_kept key [] = refl
-assigned_kept key (f ∷ all) =
-    let again = assigned_kept key all in
-    elim (has_key key f) as (λ b. map assigned_texts (cond b (f ∷ filter (has_key key) all) (filter (has_key key) all))
-    ≡ map (λ (t : Triple). (t.1, t.2)) (cond b (assignment_texts f ∷ filter (λ (t : Triple). is_eq (text_cmp key t.0)) (map assignment_texts all)) (filter (λ (t : Triple). is_eq (text_cmp key t.0)) (map assignment_texts all)))) [
-      | true ↦ ap (λ l. assigned_texts f ∷ l) again
-      | false ↦ again
-    ]
-
-rules_are : (key : List ℕ) (all : List Assignment) (list : List Property) → AreInTurn all list → AreRules key all (rules_at key list)
-rules_are key all list are = rules_kept key list ∙ ap (kept_texts key) are ∙ sym (assigned_kept key (in_turn all))
-
--- rules of one text give the same
-alike_give : (device : List ℕ) (one other : List Rule) → map rule_texts one ≡ map rule_texts other → given device one ≡ given device other
-alike_give device one other e = rules_texts device None one ∙ ap (texts_after device None) e ∙ sym (rules_texts device None other)
-
-pub all_same : (m : Groups) (old new : List Property) → AreGrouped m old new → (list : List KeySamples) → AreAllFound m list → AllByRecursion IsNothing list
-    → (before after : List Assignment) → AreInTurn before old → AreInTurn after new → (device : List ℕ) → properties device before ≡ properties device after
-all_same m old new grouped list all none before after first second device =
-    same_rules_give_all device before after (λ key rs ss r s.
-    alike_give device rs (rules_at key old) (r ∙ sym (rules_are key before old first))
-    ∙ same_rules m old new grouped list all none key device
-    ∙ alike_give device (rules_at key new) ss (rules_are key after new second ∙ sym s))
+  pub all_found : (list : List KeySamples) → AreAllFound m list → map key_shown list ≡ samples_by_key (map property_texts old) (map property_texts new)
+  all_found list all =
+      all_shown list (each_is_found list all)
+      ∙ ap (map (found_at (map property_texts old) (map property_texts new)))
+      (keys_are list all ∙ ap (λ ks. in_order text_cmp (ks ++ map key_of new)) (key_texts old) ∙ ap (λ ks. in_order text_cmp (map key_in (map property_texts old) ++ ks)) (key_texts new))

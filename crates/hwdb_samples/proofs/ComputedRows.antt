@@ -1,11 +1,14 @@
 -- The worked rows, computed.
-use Rattle.std.proofs.Common.{◌≡◌, ◌∙◌, ap, refl, subst, sym, ℕ, List, [], ◌∷◌, Bor, Option, Some, None, codes, length, get_or, inl, inr, true, false, arith}
-use Rattle.hwdb_spec.specs.Answers.{is_match}
+use Rattle.std.proofs.Common.{◌≡◌, ◌∙◌, ap, refl, sym, ℕ, List, [], Option, Some, None, codes, length, get_or, inl, inr, true, false, arith}
+use Rattle.hwdb_spec.specs.Answers.{effective_of, is_after, is_match, last_assignments, last_matching, last_of_each, last_value}
+use Rattle.hwdb_spec.specs.Assignment.{assignment_cmp, position_cmp, put, put_all}
 use Rattle.hwdb_spec.specs.Patterns.{bracket_at, items_from, item_at, classes, tokens_from, token_at, some_ending, byte_then, piece_then, matches}
-use Rattle.hwdb_samples.specs.Samples.{after_rules, given, HasRule, HasSample, HasText, IsMet, IsSame, IsSettled, Shows}
-use Rattle.hwdb_samples.specs.Rows.{GivenRows, LaterRows, MetRows, RuleRows, SameRows, SettledRows, ShownRows, new_side, old_side, text}
-use Rattle.hwdb_samples.specs.declared.samples.Sample.{Sample}
-use Rattle.hwdb_samples.specs.declared.samples.Samples.{Samples}
+use Rattle.hwdb_spec_commands.specs.SamplesFound.{counted_from, last_from, moved, same_rules}
+use Rattle.hwdb_samples.specs.KeyRows.{KeyRuleRows, PropertyRows, TurnRows, ValueRows}
+use Rattle.hwdb_spec_commands.specs.Overlaps.{apart, some_end, within}
+use Rattle.hwdb_samples.specs.Rows.{AgreeRows, ApartRows, ChangedRows, CoverRows, FoundRows, GivenRows, KeyedRows, LaterRows, NearRows, RuleRows, SameRows, ShownRows, TextRows, new_side, old_side}
+use Rattle.hwdb_spec_commands.specs.SampleRules.{after_rules, given, HasRule, IsSame, Shows}
+use Rattle.hwdb_spec_commands.specs.SampleTexts.{usual}
 
 pub given_rows_hold : GivenRows
 unfolding after_rules matches piece_then byte_then some_ending tokens_from token_at bracket_at items_from item_at classes
@@ -34,10 +37,10 @@ new_gives : given (codes "ab") new_side ≡ Some (codes "2")
 unfolding after_rules matches piece_then byte_then some_ending tokens_from token_at
 new_gives = refl
 
-pub differs : IsSame old_side new_side (codes "ab") → ⊥
+differs : IsSame old_side new_side (codes "ab") → ⊥
 differs e = first_apart (codes "1") (codes "2") (λ k. absurd (omega (arith, k))) (some_is (codes "1") (codes "2") (sym old_gives ∙ e ∙ new_gives))
 
-pub same_ac : IsSame old_side new_side (codes "ac")
+same_ac : IsSame old_side new_side (codes "ac")
 unfolding after_rules matches piece_then byte_then some_ending tokens_from token_at
 same_ac = refl
 
@@ -54,7 +57,7 @@ one_is_two = first_apart (codes "1") (codes "2") (λ k. absurd (omega (arith, k)
 star_is_b : codes "a*" ≡ codes "ab" → ⊥
 star_is_b e = let k = ap (λ (l : List ℕ). get_or l 1 0) e in absurd (omega (arith, k))
 
-pub no_old : HasRule old_side (codes "ab") (codes "2") → ⊥
+no_old : HasRule old_side (codes "ab") (codes "2") → ⊥
 no_old (inl e) = one_is_two e.1
 no_old (inr none) = none
 
@@ -71,30 +74,6 @@ no_star (inr (inr none)) = none
 pub rule_rows_hold : RuleRows
 rule_rows_hold = (inr (inl (refl, refl)), no_old, no_first, no_star)
 
-star_ab : is_match (codes "ab") (codes "a*") ≡ true
-unfolding matches piece_then byte_then some_ending tokens_from token_at
-star_ab = refl
-
-x_x : is_match (codes "x") (codes "x") ≡ true
-unfolding matches piece_then byte_then some_ending tokens_from token_at
-x_x = refl
-
-x_b : is_match (codes "b") (codes "x") ≡ false
-unfolding matches piece_then byte_then some_ending tokens_from token_at
-x_b = refl
-
-star_b : is_match (codes "b") (codes "a*") ≡ false
-unfolding matches piece_then byte_then some_ending tokens_from token_at
-star_b = refl
-
-not_met : IsMet (text (codes "x") ∷ text (codes "a*") ∷ []) (codes "b") → ⊥
-not_met (inl m) = absurd (let clash : true ≡ false = sym m ∙ x_b in cc)
-not_met (inr (inl m)) = absurd (let clash : true ≡ false = sym m ∙ star_b in cc)
-not_met (inr (inr none)) = none
-
-pub met_rows_hold : MetRows
-met_rows_hold = (inr (inl star_ab), inl x_x, not_met)
-
 mark_ab : is_match (codes "ab") (codes "a?") ≡ true
 unfolding matches piece_then byte_then some_ending tokens_from token_at
 mark_ab = refl
@@ -103,47 +82,61 @@ b_ab : is_match (codes "ab") (codes "b") ≡ false
 unfolding matches piece_then byte_then some_ending tokens_from token_at
 b_ab = refl
 
-pub b_is_ab : is_match (codes "ab") (codes "ab") ≡ true
-unfolding matches piece_then byte_then some_ending tokens_from token_at
-b_is_ab = refl
+other_device : Shows old_side new_side (codes "a?", codes "ac") → ⊥
+other_device shows = shows.differs same_ac
 
-sample_shows : (s : Sample) → s.pattern.now ≡ codes "a?" → s.device.items ≡ codes "ab" → Shows old_side new_side s
-sample_shows s p d = record {
-  matched = ap (λ (t : List ℕ). is_match t s.pattern.now) d ∙ ap (is_match (codes "ab")) p ∙ mark_ab;
-  differs = λ same. differs (subst (λ (t : List ℕ). IsSame old_side new_side t) d same);
-}
-
-other_device : (s : Sample) → s.device.items ≡ codes "ac" → Shows old_side new_side s → ⊥
-other_device s d shows = shows.differs (subst (λ (t : List ℕ). IsSame old_side new_side t) (sym d) same_ac)
-
-other_pattern : (s : Sample) → s.pattern.now ≡ codes "b" → s.device.items ≡ codes "ab" → Shows old_side new_side s → ⊥
-other_pattern s p d shows = absurd (let clash : true ≡ false = sym shows.matched ∙ ap (λ (t : List ℕ). is_match t s.pattern.now) d ∙ ap (is_match (codes "ab")) p ∙ b_ab in cc)
+other_pattern : Shows old_side new_side (codes "b", codes "ab") → ⊥
+other_pattern shows = absurd (let clash : true ≡ false = sym shows.matched ∙ b_ab in cc)
 
 pub shown_rows_hold : ShownRows
-shown_rows_hold = (sample_shows, other_device, other_pattern)
+shown_rows_hold = (record { matched = mark_ab; differs = differs }, other_device, other_pattern)
 
-shown_is_settled : (found : Samples) (s : Sample) → found.shown.items ≡ s ∷ [] → s.pattern.now ≡ codes "ab" → IsSettled old_side new_side found (codes "ab")
-shown_is_settled found s e p = inr (inl (subst (λ (l : List Sample). HasSample l (codes "ab")) (sym e) (inl p)))
+pub text_rows_hold : TextRows
+unfolding tokens_from token_at bracket_at items_from item_at classes usual
+text_rows_hold = (refl, refl)
 
-told_is_settled : (found : Samples) → found.undecided.items ≡ text (codes "ab") ∷ [] → IsSettled old_side new_side found (codes "ab")
-told_is_settled found e = inr (inr (subst (λ (l : List (Bor (List ℕ))). HasText l (codes "ab")) (sym e) (inl refl)))
+pub apart_rows_hold : ApartRows
+unfolding apart
+apart_rows_hold = refl
 
-nothing_settles : (found : Samples) → found.shown.items ≡ [] → found.undecided.items ≡ [] → IsSettled old_side new_side found (codes "ab") → ⊥
-nothing_settles found s u (inl agree) = differs (agree (codes "ab") b_is_ab)
-nothing_settles found s u (inr (inl has)) = subst (λ (l : List Sample). HasSample l (codes "ab")) s has
-nothing_settles found s u (inr (inr has)) = subst (λ (l : List (Bor (List ℕ))). HasText l (codes "ab")) u has
+pub cover_rows_hold : CoverRows
+unfolding tokens_from token_at bracket_at items_from item_at classes within some_end
+cover_rows_hold = (refl, refl, refl, refl)
 
-not_the_star : HasText (text (codes "a*") ∷ []) (codes "ab") → ⊥
-not_the_star (inl e) = star_is_b e
-not_the_star (inr none) = none
+pub near_rows_hold : NearRows
+unfolding apart
+near_rows_hold = refl
 
-other_settles : (found : Samples) → found.shown.items ≡ [] → found.undecided.items ≡ text (codes "a*") ∷ [] → IsSettled old_side new_side found (codes "ab") → ⊥
-other_settles found s u (inl agree) = differs (agree (codes "ab") b_is_ab)
-other_settles found s u (inr (inl has)) = subst (λ (l : List Sample). HasSample l (codes "ab")) s has
-other_settles found s u (inr (inr has)) = not_the_star (subst (λ (l : List (Bor (List ℕ))). HasText l (codes "ab")) u has)
+pub agree_rows_hold : AgreeRows
+unfolding tokens_from token_at within some_end counted_from same_rules
+agree_rows_hold = (refl, refl, refl, refl)
 
-equal_settle : (found : Samples) (pattern : List ℕ) → IsSettled old_side old_side found pattern
-equal_settle found pattern = inl (λ device m. refl)
+pub changed_rows_hold : ChangedRows
+unfolding last_from moved put put_all
+changed_rows_hold = (refl, refl, refl, refl, refl)
 
-pub settled_rows_hold : SettledRows
-settled_rows_hold = (shown_is_settled, told_is_settled, nothing_settles, other_settles, equal_settle)
+pub found_rows_hold : FoundRows
+unfolding last_from moved put put_all apart tokens_from token_at within some_end counted_from same_rules matches piece_then byte_then some_ending after_rules usual
+found_rows_hold = (refl, refl, refl, refl)
+
+pub keyed_rows_hold : KeyedRows
+unfolding last_from moved put put_all apart tokens_from token_at within some_end counted_from same_rules matches piece_then byte_then some_ending after_rules usual
+keyed_rows_hold = refl
+
+-- ---- all keys
+
+pub turn_rows_hold : TurnRows
+unfolding last_of_each put_all put assignment_cmp position_cmp
+turn_rows_hold = refl
+
+pub property_rows_hold : PropertyRows
+unfolding last_of_each put_all put assignment_cmp position_cmp last_assignments last_matching is_after effective_of last_value matches piece_then byte_then some_ending tokens_from token_at
+property_rows_hold = refl
+
+pub value_rows_hold : ValueRows
+unfolding last_of_each put_all put assignment_cmp position_cmp last_assignments last_matching is_after effective_of last_value matches piece_then byte_then some_ending tokens_from token_at
+value_rows_hold = refl
+
+pub key_rule_rows_hold : KeyRuleRows
+unfolding last_of_each put_all put assignment_cmp position_cmp
+key_rule_rows_hold = (refl, refl)

@@ -1,5 +1,5 @@
 -- Rules of two sides by key, as they are added one after another.
-use Rattle.std.proofs.Common.{◌≡◌, ◌∙◌, ap, sym, refl, subst, ℕ, suc, ◌+◌, ◌<◌, ◌≤◌, true, false, List, [], ◌∷◌, ◌++◌, map, filter, take, length, get_or, Some, cond, option_map, append_assoc, arith, take_all}
+use Rattle.std.proofs.Common.{◌≡◌, ◌∙◌, ap, sym, refl, subst, ℕ, zero, suc, ◌+◌, ◌<◌, ◌≤◌, true, false, List, [], ◌∷◌, ◌++◌, map, filter, take, length, get_or, Some, cond, option_map, append_assoc, arith, take_all}
 use Rattle.std.specs.Borrow.{Bor}
 use Rattle.std.specs.BTreeMap.{get_by, is_at}
 use Rattle.std.specs.Map.{lookup}
@@ -9,8 +9,7 @@ use Rattle.std.proofs.lemmas.List.{append-nil}
 use Rattle.hwdb_spec.specs.Assignment.{text_cmp}
 use Rattle.hwdb_spec.specs.Lemmas.Lists.{taken_more}
 use Rattle.hwdb_spec.specs.Lemmas.Orders.{equal_of, equal_text, turned}
-use Rattle.hwdb_samples.specs.Keys.{IsFound, is_of, rule_in, rules_at}
-use Rattle.hwdb_samples.specs.Groups.{AreFound, Both, both_at, both_in, or_none, some_both, with_rules}
+use Rattle.hwdb_samples.specs.Groups.{AreFound, Both, IsFound, is_of, rule_in, rules_at, both_at, both_in, or_none, some_both, with_rules}
 use Rattle.hwdb_samples.specs.declared.rules.Rule.{Rule}
 use Rattle.hwdb_samples.specs.declared.groups.Groups.{Groups}
 use Rattle.hwdb_samples.specs.declared.groups.KeySamples.{KeySamples}
@@ -18,7 +17,13 @@ use Rattle.hwdb_samples.specs.declared.groups.Property.{Property}
 use Rattle.hwdb_samples.specs.declared.groups.Side.{Side}
 use Rattle.hwdb_samples.specs.declared.groups.Side.TheVariants.{Old, New}
 use Rattle.hwdb_samples.specs.declared.groups.Sides.{Sides}
-use Rattle.hwdb_samples.proofs.RuleLemmas.{self_place}
+
+-- a member of a list, at its place, whatever is taken after the end
+module _ {A : Type 0} where
+  self_place : (xs : List A) (i : ℕ) (x d : A) → i < length xs → x ≡ get_or xs i d → x ≡ get_or xs i x
+  self_place [] i x d h e = absurd (omega arith)
+  self_place (y ∷ xs) zero x d h e = e
+  self_place (y ∷ xs) (suc i) x d h e = self_place xs i x d (omega arith) e
 
 -- ---- one rule more
 

@@ -12,9 +12,9 @@ use Rattle.hwdb_spec.specs.Answers.{effective_of, has_key, is_match, is_wanted, 
 use Rattle.hwdb_spec.specs.Lemmas.Orders.{equal_of, equal_text, then_equal}
 use Rattle.hwdb_spec.specs.Lemmas.Places.{all_behind, assignment_total}
 use Rattle.hwdb_text.specs.Lemmas.Members.{Holds, in_order_from, in_order_rises, one_list, put_all_holds, put_ordered}
-use Rattle.hwdb_samples.specs.Samples.{after_rule, after_rules, given}
-use Rattle.hwdb_samples.specs.Keys.{AreRules, RulesGiveValues, SameRulesGiveAll, assigned_texts, in_turn, rule_texts, value_at}
-use Rattle.hwdb_samples.specs.declared.rules.Rule.{Rule}
+use Rattle.hwdb_spec_commands.specs.SampleRules.{RuleTexts, after_rules, given}
+use Rattle.hwdb_samples.specs.Keys.{AreRules, RulesGiveValues, SameRulesGiveAll, in_turn, value_at}
+use Rattle.hwdb_spec_commands.specs.SampleDevices.{assigned_texts}
 
 -- ---- a test and an order
 
@@ -251,31 +251,21 @@ value_after : List ℕ → Option (List ℕ) → List Assignment → Option (Lis
 value_after key before [] = before
 value_after key before (f ∷ more) = value_after key (cond (has_key key f) (Some f.value) before) more
 
--- what it has after some patterns and values
-pub texts_after : List ℕ → Option (List ℕ) → List (List ℕ × List ℕ) → Option (List ℕ)
-texts_after device before [] = before
-texts_after device before (t ∷ more) = texts_after device (cond (is_match device t.0) (Some t.1) before) more
-
-pub rules_texts : (device : List ℕ) (before : Option (List ℕ)) (rules : List Rule) → after_rules device before rules ≡ texts_after device before (map rule_texts rules)
-unfolding after_rules texts_after
-rules_texts device before [] = refl
-rules_texts device before (rule ∷ more) = rules_texts device (after_rule device before rule) more
-
 wanted_texts : (device key : List ℕ) (before : Option (List ℕ)) (xs : List Assignment)
-    → texts_after device before (map assigned_texts (filter (has_key key) xs)) ≡ value_after key before (filter (is_wanted device) xs)
-unfolding texts_after value_after
+    → after_rules device before (map assigned_texts (filter (has_key key) xs)) ≡ value_after key before (filter (is_wanted device) xs)
+unfolding after_rules value_after
 wanted_texts device key before [] = refl
 wanted_texts device key before (x ∷ xs) =
-    let again : (b : Option (List ℕ)) → texts_after device b (map assigned_texts (filter (has_key key) xs)) ≡ value_after key b (filter (is_wanted device) xs) = λ b. wanted_texts device key b xs in
+    let again : (b : Option (List ℕ)) → after_rules device b (map assigned_texts (filter (has_key key) xs)) ≡ value_after key b (filter (is_wanted device) xs) = λ b. wanted_texts device key b xs in
     elim (has_key key x) as (λ h. has_key key x ≡ h
-    → texts_after device before (map assigned_texts (cond h (x ∷ filter (has_key key) xs) (filter (has_key key) xs))) ≡ value_after key before (cond (is_wanted device x) (x ∷ filter (is_wanted device) xs) (filter (is_wanted device) xs))) [
+    → after_rules device before (map assigned_texts (cond h (x ∷ filter (has_key key) xs) (filter (has_key key) xs))) ≡ value_after key before (cond (is_wanted device x) (x ∷ filter (is_wanted device) xs) (filter (is_wanted device) xs))) [
       | true ↦ λ h. elim (is_wanted device x) as (λ w. is_wanted device x ≡ w
-          → texts_after device (cond w (Some x.value) before) (map assigned_texts (filter (has_key key) xs)) ≡ value_after key before (cond w (x ∷ filter (is_wanted device) xs) (filter (is_wanted device) xs))) [
+          → after_rules device (cond w (Some x.value) before) (map assigned_texts (filter (has_key key) xs)) ≡ value_after key before (cond w (x ∷ filter (is_wanted device) xs) (filter (is_wanted device) xs))) [
             | true ↦ λ w. again (Some x.value) ∙ ap (λ b. value_after key (cond b (Some x.value) before) (filter (is_wanted device) xs)) (sym h)
             | false ↦ λ w. again before
           ] refl
       | false ↦ λ h. elim (is_wanted device x) as (λ w. is_wanted device x ≡ w
-          → texts_after device before (map assigned_texts (filter (has_key key) xs)) ≡ value_after key before (cond w (x ∷ filter (is_wanted device) xs) (filter (is_wanted device) xs))) [
+          → after_rules device before (map assigned_texts (filter (has_key key) xs)) ≡ value_after key before (cond w (x ∷ filter (is_wanted device) xs) (filter (is_wanted device) xs))) [
             | true ↦ λ w. again before ∙ ap (λ b. value_after key (cond b (Some x.value) before) (filter (is_wanted device) xs)) (sym h)
             | false ↦ λ w. again before
           ] refl
@@ -295,28 +285,18 @@ first_or_none : {A : Type 0} (o : Option A) → first_some o None ≡ o
 first_or_none None = refl
 first_or_none (Some a) = refl
 
-rules_gift : (device key : List ℕ) (all : List Assignment) (rules : List Rule) → AreRules key all rules → given device rules ≡ gift key (last_assignments device None all)
+rules_gift : (device key : List ℕ) (all : List Assignment) (rules : List RuleTexts) → AreRules key all rules → given device rules ≡ gift key (last_assignments device None all)
 rules_gift device key all rules are =
-    rules_texts device None rules ∙ ap (texts_after device None) are ∙ wanted_texts device key None (in_turn all)
+    ap (after_rules device None) are ∙ wanted_texts device key None (in_turn all)
     ∙ ap (value_after key None) (sym (answers_in_turn device all))
     ∙ after_is_gift key None (last_assignments device None all) ∙ first_or_none (gift key (last_assignments device None all))
 
 pub rules_give_values : RulesGiveValues
 rules_give_values key all rules are device = effective_at key (last_assignments device None all) ∙ sym (rules_gift device key all rules are)
 
--- an assignment as a rule
-abbrev rule_of : Assignment → Rule
-rule_of f = record { pattern = record { ref_ptr = (0, 0); now = f.position.pattern }; value = record { ref_ptr = (0, 0); now = f.value } }
-
-rules_there : (l : List Assignment) → map rule_texts (map rule_of l) ≡ map assigned_texts l
-rules_there [] = refl
-rules_there (f ∷ more) = ap (λ r. assigned_texts f ∷ r) (rules_there more)
-
 pub same_rules_give_all : SameRulesGiveAll
 same_rules_give_all device old new same =
     effective_alike (last_assignments device None old) (last_assignments device None new) (λ key.
-    let before = map rule_of (filter (has_key key) (in_turn old)) in
-    let after = map rule_of (filter (has_key key) (in_turn new)) in
-    let first : AreRules key old before = rules_there (filter (has_key key) (in_turn old)) in
-    let second : AreRules key new after = rules_there (filter (has_key key) (in_turn new)) in
-    sym (rules_gift device key old before first) ∙ same key before after first second ∙ rules_gift device key new after second)
+    let before = map assigned_texts (filter (has_key key) (in_turn old)) in
+    let after = map assigned_texts (filter (has_key key) (in_turn new)) in
+    sym (rules_gift device key old before refl) ∙ same key before after refl refl ∙ rules_gift device key new after refl)

@@ -1,9 +1,11 @@
 pub mod TextLemmas
-pub mod RuleLemmas
 pub mod OverlapLemmas
+pub mod RuleLemmas
+pub mod LevelLemmas
 pub mod SampleLemmas
 pub mod KeyLemmas
 pub mod GroupLemmas
 pub mod AllKeysLemmas
+pub mod SoundLemmas
+pub mod LawLemmas
 pub mod ComputedRows
-pub mod ComputedKeyRows

@@ -1,305 +1,191 @@
--- What devices get of rules, one more at a time.
-use Rattle.std.proofs.Common.{◌≡◌, ◌∙◌, ap, sym, refl, subst, ℕ, zero, suc, ◌+◌, ◌-◌, ◌<◌, ◌≤◌, Bool, true, false, cond, List, [], ◌∷◌, ◌++◌, Bor, drop, take, length, get_or, Option, Some, None, ◌⊎◌, inl, inr, arith, take_all}
-use Rattle.hwdb_spec.specs.Answers.{is_match}
-use Rattle.hwdb_spec.specs.Lemmas.Lists.{taken_more}
-use Rattle.hwdb_samples.specs.Samples.{after_rule, after_rules, given, IsSame, AgreeOn, HasRule, HasText, IsMet}
-use Rattle.hwdb_samples.specs.Views.{text_of}
-use Rattle.hwdb_samples.specs.Internal.{AreApart, Covers, IsConstant, EndAlike, BeginAlike, IsNext}
-use Rattle.hwdb_samples.specs.declared.changes.Passed.{Passed}
-use Rattle.hwdb_samples.specs.declared.changes.Passed.TheVariants.{Both, Old, New}
-use Rattle.std.proofs.lemmas.List.{length-drop}
+-- Rules, one more at a time.
+use Rattle.std.proofs.Common.{◌≡◌, ◌∙◌, ap, sym, refl, ℕ, ◌+◌, ◌-◌, ◌<◌, ◌≤◌, ◌==◌, ◌&&◌, Bool, true, false, cond, List, [], ◌∷◌, ◌++◌, Bor, drop, take, map, length, get_or, Option, Some, None, option_map, arith, append_assoc, eq-eqb, ne_eqb}
+use Rattle.std.specs.BTreeMap.{BTreeMap, get_by, is_at}
+use Rattle.std.specs.Map.{lookup}
+use Rattle.std.specs.BTreeSet.{BTreeSet, insert_key}
+use Rattle.std.specs.Ordering.{is_eq, match_ordering}
+use Rattle.std.specs.declared.cmp.Ordering.TheVariants.{Less, Equal, Greater}
+use Rattle.std.proofs.lemmas.Cmp.{nat_list_cmp_total}
+use Rattle.std.proofs.lemmas.List.{append-nil, drop_all, drop_more, length-drop, map-append, take_more}
+use Rattle.hwdb_spec.specs.Assignment.{in_order, put, put_all, text_cmp}
+use Rattle.hwdb_spec.specs.Folders.{same}
+use Rattle.hwdb_spec.specs.Lemmas.Orders.{turned}
+use Rattle.hwdb_spec_commands.specs.SamplesFound.{Counted, counted, counted_after, counted_from, differing, is_kept, last_from, moved, pattern_of, same_rule, same_rules, same_value}
+use Rattle.hwdb_samples.specs.Internal.{IsLasts, IsSetOf}
+use Rattle.hwdb_spec_commands.specs.SampleRules.{RuleTexts, after_rule, after_rules, given}
+use Rattle.hwdb_samples.specs.Views.{own_text, rule_texts}
 use Rattle.hwdb_samples.specs.declared.rules.Rule.{Rule}
 
--- a member of a list, at its place, whatever is taken after the end
-module _ {A : Type 0} where
-  pub self_place : (xs : List A) (i : ℕ) (x d : A) → i < length xs → x ≡ get_or xs i d → x ≡ get_or xs i x
-  self_place [] i x d h e = absurd (omega arith)
-  self_place (y ∷ xs) zero x d h e = e
-  self_place (y ∷ xs) (suc i) x d h e = self_place xs i x d (omega arith) e
+-- a list as far as it was gone through, mapped
+pub mapped_more : {A B : Type 0} (f : A → B) (xs : List A) (i : ℕ) (d : A) → i < length xs → map f (take (i + 1) xs) ≡ map f (take i xs) ++ f (get_or xs i d) ∷ []
+mapped_more f xs i d h = ap (map f) (take_more xs i d h) ∙ map-append f (take i xs) (get_or xs i d ∷ [])
 
-  pub one_place : (xs : List A) (i : ℕ) (x y d : A) → i < length xs → x ≡ get_or xs i x → y ≡ get_or xs i d → x ≡ y
-  one_place [] i x y d h e k = absurd (omega arith)
-  one_place (z ∷ xs) zero x y d h e k = e ∙ sym k
-  one_place (z ∷ xs) (suc i) x y d h e k = one_place xs i x y d (omega arith) e k
+pub mapped_rest : {A B : Type 0} (f : A → B) (xs : List A) (i : ℕ) (d : A) → i < length xs → map f (drop i xs) ≡ f (get_or xs i d) ∷ map f (drop (i + 1) xs)
+mapped_rest f xs i d h = ap (map f) (drop_more xs i d h)
 
--- one rule more
-pub given_from : (device : List ℕ) (before : Option (List ℕ)) (rules : List Rule) (rule : Rule) → after_rules device before (rules ++ rule ∷ []) ≡ after_rule device (after_rules device before rules) rule
+-- ---- what rules give
+
+pub given_from : (device : List ℕ) (before : Option (List ℕ)) (rules : List RuleTexts) (rule : RuleTexts) → after_rules device before (rules ++ rule ∷ []) ≡ after_rule device (after_rules device before rules) rule
 unfolding after_rules
 given_from device before [] rule = refl
 given_from device before (r ∷ rules) rule = given_from device (after_rule device before r) rules rule
-
-pub given_more : (device : List ℕ) (rules : List Rule) (rule : Rule) → given device (rules ++ rule ∷ []) ≡ after_rule device (given device rules) rule
-given_more device rules rule = given_from device None rules rule
 
 pub given_none : (device : List ℕ) → None ≡ given device []
 unfolding after_rules
 given_none device = refl
 
--- a rule that matches, and one that doesn't
-pub taken : (device : List ℕ) (before : Option (List ℕ)) (rule : Rule) → is_match device rule.pattern.now ≡ true → after_rule device before rule ≡ Some rule.value.now
-taken device before rule e = ap (λ (b : Bool). cond b (Some rule.value.now) before) e
+pub given_next : (device : List ℕ) (rules : List Rule) (i : ℕ) (d : Rule) (before after : Option (List ℕ)) → i < length rules → before ≡ given device (map rule_texts (take i rules)) → after ≡ after_rule device before (rule_texts (get_or rules i d))
+    → after ≡ given device (map rule_texts (take (i + 1) rules))
+given_next device rules i d before after h b a =
+    a ∙ ap (λ (x : Option (List ℕ)). after_rule device x (rule_texts (get_or rules i d))) b
+    ∙ sym (given_from device None (map rule_texts (take i rules)) (rule_texts (get_or rules i d))) ∙ ap (given device) (sym (mapped_more rule_texts rules i d h))
 
-pub passed : (device : List ℕ) (before : Option (List ℕ)) (rule : Rule) → is_match device rule.pattern.now ≡ false → after_rule device before rule ≡ before
-passed device before rule e = ap (λ (b : Bool). cond b (Some rule.value.now) before) e
+-- ---- what counts
 
-pub given_taken : (device : List ℕ) (rules : List Rule) (rule : Rule) → is_match device rule.pattern.now ≡ true → given device (rules ++ rule ∷ []) ≡ Some rule.value.now
-given_taken device rules rule e = given_more device rules rule ∙ taken device (given device rules) rule e
+pub counted_more : (pattern : List ℕ) (before : Counted) (rules : List RuleTexts) (rule : RuleTexts) → counted_from pattern before (rules ++ rule ∷ []) ≡ counted_after pattern (counted_from pattern before rules) rule
+unfolding counted_from
+counted_more pattern before [] rule = refl
+counted_more pattern before (r ∷ rules) rule = counted_more pattern (counted_after pattern before r) rules rule
 
-pub given_passed : (device : List ℕ) (rules : List Rule) (rule : Rule) → is_match device rule.pattern.now ≡ false → given device (rules ++ rule ∷ []) ≡ given device rules
-given_passed device rules rule e = given_more device rules rule ∙ passed device (given device rules) rule e
+pub counted_none : (pattern : List ℕ) → (None, []) ≡ counted pattern []
+unfolding counted_from
+counted_none pattern = refl
 
--- the next rule of a list
-pub given_next : (device : List ℕ) (rules : List Rule) (i : ℕ) (rule d : Rule) (before after : Option (List ℕ)) → i < length rules → rule ≡ get_or rules i d → before ≡ given device (take i rules) → after ≡ after_rule device before rule → after ≡ given device (take (i + 1) rules)
-given_next device rules i rule d before after h e b a =
-    let up : i + 1 ≡ suc i = omega arith in
-    a ∙ ap (λ (x : Option (List ℕ)). after_rule device x rule) b ∙ sym (given_more device (take i rules) rule)
-    ∙ ap (given device) (sym (ap (λ (n : ℕ). take n rules) up ∙ taken_more rules i rule h (self_place rules i rule d h e)))
+pub counted_next : (pattern : List ℕ) (rules : List Rule) (i : ℕ) (d : Rule) (before after : Counted) → i < length rules → before ≡ counted pattern (map rule_texts (take i rules)) → after ≡ counted_after pattern before (rule_texts (get_or rules i d))
+    → after ≡ counted pattern (map rule_texts (take (i + 1) rules))
+counted_next pattern rules i d before after h b a =
+    a ∙ ap (λ (x : Counted). counted_after pattern x (rule_texts (get_or rules i d))) b
+    ∙ sym (counted_more pattern (None, []) (map rule_texts (take i rules)) (rule_texts (get_or rules i d))) ∙ ap (counted pattern) (sym (mapped_more rule_texts rules i d h))
 
-pub one_more : (i : ℕ) (rules : List Rule) (rule : Rule) → i < length rules → rule ≡ get_or rules i rule → take (i + 1) rules ≡ take i rules ++ rule ∷ []
-one_more i rules rule h e = let up : i + 1 ≡ suc i = omega arith in ap (λ (n : ℕ). take n rules) up ∙ taken_more rules i rule h e
+-- ---- the same rules
 
--- a member of a list, at its place
-module _ {A : Type 0} where
-  pub here : (xs : List A) (i : ℕ) → i < length xs → (x : A) × (x ≡ get_or xs i x)
-  here [] i h = absurd (omega arith)
-  here (x ∷ xs) zero h = (x, refl)
-  here (x ∷ xs) (suc i) h = here xs i (omega arith)
+module _ (one other : List Rule) (i : ℕ) where
+  abbrev Ones : List RuleTexts
+  Ones = map rule_texts (drop i one)
 
-  pub dropped_head : (xs : List A) (i : ℕ) (x : A) → x ≡ get_or xs i x → x ≡ get_or (drop i xs) 0 x
-  dropped_head xs zero x e = e
-  dropped_head [] (suc i) x e = refl
-  dropped_head (y ∷ xs) (suc i) x e = dropped_head xs i x e
+  abbrev Others : List RuleTexts
+  Others = map rule_texts (drop i other)
 
--- ---- constants
+  pub rules_at : (d e : Rule) → i < length one → i < length other
+      → same_rules Ones Others ≡ (same_rule (rule_texts (get_or one i d)) (rule_texts (get_or other i e)) && same_rules (map rule_texts (drop (i + 1) one)) (map rule_texts (drop (i + 1) other)))
+  unfolding same_rules
+  rules_at d e h k = ap (λ (l : List RuleTexts). same_rules l Others) (mapped_rest rule_texts one i d h) ∙ ap (same_rules (rule_texts (get_or one i d) ∷ map rule_texts (drop (i + 1) one))) (mapped_rest rule_texts other i e k)
 
-pub apart_constant : (known : Option (Option (Bor (List ℕ)))) (rules : List Rule) (rule : Rule) (pattern : List ℕ) → AreApart pattern rule.pattern.now → IsConstant known rules pattern → IsConstant known (rules ++ rule ∷ []) pattern
-apart_constant None rules rule pattern apart k = tt
-apart_constant (Some value) rules rule pattern apart k = λ device m. given_passed device rules rule (apart device m) ∙ k device m
+  pub rules_next : (d e : Rule) → i < length one → i < length other → true ≡ same_rule (rule_texts (get_or one i d)) (rule_texts (get_or other i e)) → same_rules Ones Others ≡ same_rules (map rule_texts (drop (i + 1) one)) (map rule_texts (drop (i + 1) other))
+  rules_next d e h k s = rules_at d e h k ∙ ap (λ (b : Bool). b && same_rules (map rule_texts (drop (i + 1) one)) (map rule_texts (drop (i + 1) other))) (sym s)
 
-pub over_constant : (value : Bor (List ℕ)) (rules : List Rule) (rule : Rule) (pattern : List ℕ) → Covers rule.pattern.now pattern → rule.value.now ≡ value.now → IsConstant (Some (Some value)) (rules ++ rule ∷ []) pattern
-over_constant value rules rule pattern over e = λ device m. given_taken device rules rule (over device m) ∙ ap (λ (t : List ℕ). Some t) e
+  pub rules_differ : (d e : Rule) → i < length one → i < length other → false ≡ same_rule (rule_texts (get_or one i d)) (rule_texts (get_or other i e)) → same_rules Ones Others ≡ false
+  rules_differ d e h k s = rules_at d e h k ∙ ap (λ (b : Bool). b && same_rules (map rule_texts (drop (i + 1) one)) (map rule_texts (drop (i + 1) other))) (sym s)
 
-pub mixed_constant : (known : Option (Bor (List ℕ))) (value : Bor (List ℕ)) (rules : List Rule) (rule : Rule) (pattern : List ℕ) → text_of known ≡ text_of (Some value) → rule.value.now ≡ value.now
-    → IsConstant (Some known) rules pattern → IsConstant (Some known) (rules ++ rule ∷ []) pattern
-mixed_constant known value rules rule pattern same e k = λ device m. by device m (is_match device rule.pattern.now) refl
-  where
-    by : (device : List ℕ) → is_match device pattern ≡ true → (b : Bool) → is_match device rule.pattern.now ≡ b → given device (rules ++ rule ∷ []) ≡ text_of known
-    by device m true t = given_taken device rules rule t ∙ ap (λ (t : List ℕ). Some t) e ∙ sym same
-    by device m false f = given_passed device rules rule f ∙ k device m
+  pub rules_more : (d : Rule) → i < length one → length other ≤ i → same_rules Ones Others ≡ false
+  unfolding same_rules
+  rules_more d h k = ap (λ (l : List RuleTexts). same_rules l Others) (mapped_rest rule_texts one i d h) ∙ ap (λ (l : List Rule). same_rules (rule_texts (get_or one i d) ∷ map rule_texts (drop (i + 1) one)) (map rule_texts l)) (drop_all i other k)
 
-pub constant_begun : (rules : List Rule) (pattern : List ℕ) → IsConstant (Some None) (take 0 rules) pattern
-constant_begun rules pattern device m = sym (given_none device)
+  pub rules_fewer : length one ≤ i → i ≤ length other → (i == length other) ≡ same_rules Ones Others
+  unfolding same_rules
+  rules_fewer h k = left (drop i other) (length-drop i other) ∙ ap (λ (l : List Rule). same_rules (map rule_texts l) Others) (sym (drop_all i one h))
+    where
+      left : (l : List Rule) → length l ≡ length other - i → (i == length other) ≡ same_rules [] (map rule_texts l)
+      left [] e = eq-eqb i (length other) (omega (arith, e, k))
+      left (r ∷ l) e = ne_eqb i (length other) (λ z. omega (arith, e, z))
 
-pub constant_next : (before after : Option (Option (Bor (List ℕ)))) (rules : List Rule) (i : ℕ) (rule d : Rule) (pattern : List ℕ) → i < length rules → rule ≡ get_or rules i d
-    → (IsConstant before (take i rules) pattern → IsConstant after (take i rules ++ rule ∷ []) pattern) → IsConstant before (take i rules) pattern → IsConstant after (take (i + 1) rules) pattern
-constant_next before after rules i rule d pattern h e step k =
-    subst (λ (l : List Rule). IsConstant after l pattern) (sym (one_more i rules rule h (self_place rules i rule d h e))) (step k)
+-- ---- the last rule with a pattern
 
-pub constant_done : (known : Option (Option (Bor (List ℕ)))) (rules : List Rule) (i : ℕ) (pattern : List ℕ) → length rules ≤ i → IsConstant known (take i rules) pattern → IsConstant known rules pattern
-constant_done known rules i pattern h k = subst (λ (l : List Rule). IsConstant known l pattern) (take_all i rules h) k
+flipped : (a b : List ℕ) → is_eq (text_cmp a b) ≡ is_eq (text_cmp b a)
+flipped a b = ap is_eq (nat_list_cmp_total.antisymm a b) ∙ turned (text_cmp b a)
 
-pub same_constant : (old new : List Rule) (pattern : List ℕ) (one other : Option (Bor (List ℕ))) → IsConstant (Some one) old pattern → IsConstant (Some other) new pattern → text_of one ≡ text_of other → AgreeOn old new pattern
-same_constant old new pattern one other a b e = λ device m. a device m ∙ e ∙ sym (b device m)
+last_more : (p : List ℕ) (before : Option (List ℕ)) (rules : List RuleTexts) (r : RuleTexts) → last_from p before (rules ++ r ∷ []) ≡ cond (same p r.0) (Some r.1) (last_from p before rules)
+unfolding last_from
+last_more p before [] r = refl
+last_more p before (q ∷ rules) r = last_more p (cond (same p q.0) (Some q.1) before) rules r
 
--- ---- from the last rule to the first
+abbrev pub Lasts : Type 0
+Lasts = BTreeMap (Bor (List ℕ)) (Bor (List ℕ))
 
--- one rule less, which is apart
-pub less_apart : (rules : List Rule) (i : ℕ) (rule d : Rule) (pattern : List ℕ) → 0 < i → i ≤ length rules → rule ≡ get_or rules (i - 1) d → AreApart pattern rule.pattern.now → AgreeOn (take i rules) rules pattern → AgreeOn (take (i - 1) rules) rules pattern
-less_apart rules i rule d pattern some le e apart k = λ device m.
-    let back : i - 1 + 1 ≡ i = omega (arith, some) in
-    sym (given_passed device (take (i - 1) rules) rule (apart device m)) ∙ ap (given device) (sym (one_more (i - 1) rules rule (omega (arith, some, le)) (self_place rules (i - 1) rule d (omega (arith, some, le)) e)) ∙ ap (λ (n : ℕ). take n rules) back) ∙ k device m
+abbrev at_text : Lasts → List ℕ → Option (Bor (List ℕ))
+at_text m q = get_by (λ (k : Bor (List ℕ)). text_cmp q k.now) m
 
--- a list is its front and its last member
-record Ended (rules : List Rule) : Type 0 where
-  pub last : Rule
-  pub is : last ≡ get_or rules (length rules - 1) last
-  pub whole : rules ≡ take (length rules - 1) rules ++ last ∷ []
+pub lasts_begun : (m : Lasts) → m.entries ≡ [] → IsLasts [] m
+unfolding last_from
+lasts_begun m e p = ap (λ (es : List (Bor (List ℕ) × Bor (List ℕ))). option_map own_text (lookup (is_at (λ (k : Bor (List ℕ)). text_cmp p k.now)) es)) e
 
-ended : (rules : List Rule) → 0 < length rules → Ended rules
-ended rules some =
-    let l = here rules (length rules - 1) (omega (arith, some)) in
-    record {
-      last = l.0;
-      is = l.1;
-      whole = sym (take_all (length rules - 1 + 1) rules (omega (arith, some))) ∙ one_more (length rules - 1) rules l.0 (omega (arith, some)) l.1;
-    }
+pub lasts_next : (rules : List Rule) (i : ℕ) (d : Rule) (m n : Lasts) → i < length rules
+    → ((q : List ℕ) → at_text n q ≡ cond (is_eq (text_cmp (get_or rules i d).pattern.now q)) (Some ((get_or rules i d).value)) (at_text m q))
+    → IsLasts (map rule_texts (take i rules)) m → IsLasts (map rule_texts (take (i + 1) rules)) n
+lasts_next rules i d m n h put so_far p =
+    let r = get_or rules i d in
+    ap (option_map own_text) (put p ∙ ap (λ (b : Bool). cond b (Some r.value) (at_text m p)) (flipped r.pattern.now p))
+    ∙ elim (same p r.pattern.now) as (λ (b : Bool). option_map own_text (cond b (Some r.value) (at_text m p)) ≡ cond b (Some r.value.now) (last_from p None (map rule_texts (take i rules)))) [
+      | true ↦ refl
+      | false ↦ so_far p
+    ]
+    ∙ sym (last_more p None (map rule_texts (take i rules)) (rule_texts r)) ∙ ap (last_from p None) (sym (mapped_more rule_texts rules i d h))
 
--- both sides end with the same rule
-same_end : (old new : List Rule) (r s : Rule) (device : List ℕ) → r.pattern.now ≡ s.pattern.now → r.value.now ≡ s.value.now → given device old ≡ given device new → given device (old ++ r ∷ []) ≡ given device (new ++ s ∷ [])
-same_end old new r s device p v k = by (is_match device r.pattern.now) refl
-  where
-    by : (b : Bool) → is_match device r.pattern.now ≡ b → given device (old ++ r ∷ []) ≡ given device (new ++ s ∷ [])
-    by true t = given_taken device old r t ∙ ap (λ (t : List ℕ). Some t) v ∙ sym (given_taken device new s (ap (is_match device) (sym p) ∙ t))
-    by false f = given_passed device old r f ∙ k ∙ sym (given_passed device new s (ap (is_match device) (sym p) ∙ f))
+pub kept_some : (rules : List RuleTexts) (m : Lasts) (rule : Rule) (v : Bor (List ℕ)) → IsLasts rules m → Some v ≡ at_text m rule.pattern.now → same_value (Some v.now) (Some rule.value.now) ≡ is_kept rules (rule_texts rule)
+kept_some rules m rule v are e = ap (λ (o : Option (List ℕ)). same_value o (Some rule.value.now)) (ap (option_map own_text) e ∙ are rule.pattern.now)
 
-pub end_step : (old new : List Rule) (device : List ℕ) → EndAlike old new → IsSame (take (length old - 1) old) (take (length new - 1) new) device → IsSame old new device
-end_step old new device e k =
-    let o = ended old e.old_some in
-    let n = ended new e.new_some in
-    ap (given device) o.whole ∙ same_end (take (length old - 1) old) (take (length new - 1) new) o.last n.last device (e.pattern o.last n.last o.is n.is) (e.value o.last n.last o.is n.is) k ∙ ap (given device) (sym n.whole)
+pub kept_none : (rules : List RuleTexts) (m : Lasts) (rule : Rule) → IsLasts rules m → None ≡ at_text m rule.pattern.now → false ≡ is_kept rules (rule_texts rule)
+kept_none rules m rule are e = ap (λ (o : Option (List ℕ)). same_value o (Some rule.value.now)) (ap (option_map own_text) e ∙ are rule.pattern.now)
 
--- and it matches all devices that the pattern matches
-pub end_covers : (old new : List Rule) (rule d : Rule) (pattern : List ℕ) → EndAlike old new → rule ≡ get_or old (length old - 1) d → Covers rule.pattern.now pattern → AgreeOn old new pattern
-end_covers old new rule d pattern e is0 over = λ device m.
-    let is = self_place old (length old - 1) rule d (let some = e.old_some in omega (arith, some)) is0 in
-    let o = ended old e.old_some in
-    let n = ended new e.new_some in
-    let same = e.pattern rule n.last is n.is in
-    let first = e.pattern o.last n.last o.is n.is in
-    ap (given device) o.whole ∙ given_taken device (take (length old - 1) old) o.last (ap (is_match device) (first ∙ sym same) ∙ over device m)
-    ∙ ap (λ (t : List ℕ). Some t) (e.value o.last n.last o.is n.is)
-    ∙ sym (ap (given device) n.whole ∙ given_taken device (take (length new - 1) new) n.last (ap (is_match device) (sym same) ∙ over device m))
+-- ---- patterns at the places where two lists differ
 
--- ---- from the first rule to the last
+module _ (one other : List Rule) (i : ℕ) where
+  pub moved_one : length other ≤ i → moved (map rule_texts (drop i one)) (map rule_texts (drop i other)) ≡ map pattern_of (map rule_texts (drop i one))
+  unfolding moved
+  moved_one h = ap (λ (l : List Rule). moved (map rule_texts (drop i one)) (map rule_texts l)) (drop_all i other h) ∙ none (drop i one)
+    where
+      none : (l : List Rule) → moved (map rule_texts l) [] ≡ map pattern_of (map rule_texts l)
+      none [] = refl
+      none (r ∷ l) = refl
 
-pub met_more : (texts : List (Bor (List ℕ))) (text : Bor (List ℕ)) (device : List ℕ) → IsMet texts device → IsMet (texts ++ text ∷ []) device
-met_more [] text device m = absurd m
-met_more (t ∷ texts) text device (inl m) = inl m
-met_more (t ∷ texts) text device (inr m) = inr (met_more texts text device m)
+  pub moved_other : length one ≤ i → moved (map rule_texts (drop i one)) (map rule_texts (drop i other)) ≡ map pattern_of (map rule_texts (drop i other))
+  unfolding moved
+  moved_other h = ap (λ (l : List Rule). moved (map rule_texts l) (map rule_texts (drop i other))) (drop_all i one h)
 
-pub met_last : (texts : List (Bor (List ℕ))) (text : Bor (List ℕ)) (device : List ℕ) → is_match device text.now ≡ true → IsMet (texts ++ text ∷ []) device
-met_last [] text device m = inl m
-met_last (t ∷ texts) text device m = inr (met_last texts text device m)
+  pub moved_next : (d e : Rule) → i < length one → i < length other → moved (map rule_texts (drop i one)) (map rule_texts (drop i other))
+      ≡ differing (rule_texts (get_or one i d)) (rule_texts (get_or other i e)) ++ moved (map rule_texts (drop (i + 1) one)) (map rule_texts (drop (i + 1) other))
+  unfolding moved
+  moved_next d e h k =
+      ap (λ (l : List RuleTexts). moved l (map rule_texts (drop i other))) (mapped_rest rule_texts one i d h)
+      ∙ ap (moved (rule_texts (get_or one i d) ∷ map rule_texts (drop (i + 1) one))) (mapped_rest rule_texts other i e k)
 
-pub text_more : (texts : List (Bor (List ℕ))) (text : Bor (List ℕ)) (p : List ℕ) → HasText texts p → HasText (texts ++ text ∷ []) p
-text_more [] text p m = absurd m
-text_more (t ∷ texts) text p (inl m) = inl m
-text_more (t ∷ texts) text p (inr m) = inr (text_more texts text p m)
+-- ---- texts in order
 
-pub text_last : (texts : List (Bor (List ℕ))) (text : Bor (List ℕ)) (p : List ℕ) → text.now ≡ p → HasText (texts ++ text ∷ []) p
-text_last [] text p m = inl m
-text_last (t ∷ texts) text p m = inr (text_last texts text p m)
+put_more : (xs l : List (List ℕ)) (x : List ℕ) → put_all text_cmp (xs ++ x ∷ []) l ≡ put text_cmp x (put_all text_cmp xs l)
+unfolding put_all
+put_more [] l x = refl
+put_more (y ∷ xs) l x = put_more xs (put text_cmp y l) x
 
--- one of some rules, or one more
-rule_cases : (rules : List Rule) (rule : Rule) (p v : List ℕ) → HasRule (rules ++ rule ∷ []) p v → HasRule rules p v ⊎ ((rule.pattern.now ≡ p) × (rule.value.now ≡ v))
-rule_cases [] rule p v (inl e) = inr e
-rule_cases [] rule p v (inr none) = absurd none
-rule_cases (r ∷ rules) rule p v (inl e) = inl (inl e)
-rule_cases (r ∷ rules) rule p v (inr m) = elim (rule_cases rules rule p v m) [
-  | inl has ↦ inl (inr has)
-  | inr e ↦ inr e
-]
-
-rule_at : (rules : List Rule) (i : ℕ) (rule : Rule) (p v : List ℕ) → i < length rules → rule ≡ get_or rules i rule → rule.pattern.now ≡ p → rule.value.now ≡ v → HasRule rules p v
-rule_at [] i rule p v h e a b = absurd (omega arith)
-rule_at (r ∷ rules) zero rule p v h e a b = inl (ap (λ (x : Rule). x.pattern.now) (sym e) ∙ a, ap (λ (x : Rule). x.value.now) (sym e) ∙ b)
-rule_at (r ∷ rules) (suc i) rule p v h e a b = inr (rule_at rules i rule p v (omega arith) e a b)
-
--- what is kept of both sides, as far as they were gone through
-abbrev pub SameSoFar : (old new : List Rule) (i j : ℕ) → List (Bor (List ℕ)) → Type 0
-SameSoFar old new i j found = (device : List ℕ) → (given device (take i old) ≡ given device (take j new)) ⊎ IsMet found device
-
-abbrev pub ToldSoFar : (one other : List Rule) (i : ℕ) → List (Bor (List ℕ)) → Type 0
-ToldSoFar one other i found = (pattern value : List ℕ) → HasRule (take i one) pattern value → HasRule other pattern value ⊎ HasText found pattern
-
-abbrev pub BothNext : (old new : List Rule) (i j : ℕ) → Type 0
-BothNext old new i j = BeginAlike (drop i old) (drop j new)
-
-pub both_same : (old new : List Rule) (i j : ℕ) (found : List (Bor (List ℕ))) → i < length old → j < length new → BothNext old new i j → SameSoFar old new i j found → SameSoFar old new (i + 1) (j + 1) found
-both_same old new i j found h k b s device = elim (s device) [
-  | inl same ↦ inl (
-      let r = here old i h in
-      let t = here new j k in
-      let rd = dropped_head old i r.0 r.1 in
-      let td = dropped_head new j t.0 t.1 in
-      ap (given device) (one_more i old r.0 h r.1) ∙ same_end (take i old) (take j new) r.0 t.0 device (b.pattern r.0 t.0 rd td) (b.value r.0 t.0 rd td) same ∙ ap (given device) (sym (one_more j new t.0 k t.1)))
-  | inr met ↦ inr met
-]
-
-pub both_old : (old new : List Rule) (i j : ℕ) (found : List (Bor (List ℕ))) → i < length old → j < length new → BothNext old new i j → ToldSoFar old new i found → ToldSoFar old new (i + 1) found
-both_old old new i j found h k b s pattern value has =
-    let r = here old i h in
-    let t = here new j k in
-    let rd = dropped_head old i r.0 r.1 in
-    let td = dropped_head new j t.0 t.1 in
-    elim (rule_cases (take i old) r.0 pattern value (subst (λ (l : List Rule). HasRule l pattern value) (one_more i old r.0 h r.1) has)) [
-      | inl before ↦ s pattern value before
-      | inr e ↦ inl (rule_at new j t.0 pattern value k t.1 (sym (b.pattern r.0 t.0 rd td) ∙ e.0) (sym (b.value r.0 t.0 rd td) ∙ e.1))
+own_put : (ks : List (Bor (List ℕ))) (k : Bor (List ℕ)) → map own_text (insert_key (λ (p q : Bor (List ℕ)). text_cmp p.now q.now) ks k) ≡ put text_cmp k.now (map own_text ks)
+unfolding put
+own_put [] k = refl
+own_put (x ∷ ks) k =
+    let again = own_put ks k in
+    elim (text_cmp k.now x.now) as (λ o. map own_text (match_ordering o (k ∷ x ∷ ks) (x ∷ ks) (x ∷ insert_key (λ (p q : Bor (List ℕ)). text_cmp p.now q.now) ks k))
+    ≡ match_ordering o (k.now ∷ x.now ∷ map own_text ks) (x.now ∷ map own_text ks) (x.now ∷ put text_cmp k.now (map own_text ks))) [
+      | Less ↦ refl
+      | Equal ↦ refl
+      | Greater ↦ ap (λ (l : List (List ℕ)). x.now ∷ l) again
     ]
 
-pub both_new : (old new : List Rule) (i j : ℕ) (found : List (Bor (List ℕ))) → i < length old → j < length new → BothNext old new i j → ToldSoFar new old j found → ToldSoFar new old (j + 1) found
-both_new old new i j found h k b s pattern value has =
-    let r = here old i h in
-    let t = here new j k in
-    let rd = dropped_head old i r.0 r.1 in
-    let td = dropped_head new j t.0 t.1 in
-    elim (rule_cases (take j new) t.0 pattern value (subst (λ (l : List Rule). HasRule l pattern value) (one_more j new t.0 k t.1) has)) [
-      | inl before ↦ s pattern value before
-      | inr e ↦ inl (rule_at old i r.0 pattern value h r.1 (b.pattern r.0 t.0 rd td ∙ e.0) (b.value r.0 t.0 rd td ∙ e.1))
-    ]
+pub set_begun : (set : BTreeSet (Bor (List ℕ))) → set.keys ≡ [] → IsSetOf [] set
+unfolding put_all
+set_begun set e = ap (map own_text) e
 
--- a rule of one side alone is told
-pub old_same : (old new : List Rule) (i j : ℕ) (rule d : Rule) (found : List (Bor (List ℕ))) (text : Bor (List ℕ)) → i < length old → rule ≡ get_or old i d → text.now ≡ rule.pattern.now → SameSoFar old new i j found → SameSoFar old new (i + 1) j (found ++ text ∷ [])
-old_same old new i j rule d found text h e0 t s device = by (is_match device rule.pattern.now) refl (s device)
-  where
-    by : (b : Bool) → is_match device rule.pattern.now ≡ b → (given device (take i old) ≡ given device (take j new)) ⊎ IsMet found device → (given device (take (i + 1) old) ≡ given device (take j new)) ⊎ IsMet (found ++ text ∷ []) device
-    by true m k = inr (met_last found text device (ap (is_match device) t ∙ m))
-    by false m (inl k) = inl (ap (given device) (one_more i old rule h (self_place old i rule d h e0)) ∙ given_passed device (take i old) rule m ∙ k)
-    by false m (inr k) = inr (met_more found text device k)
+pub set_next : (texts : List (Bor (List ℕ))) (i : ℕ) (d : Bor (List ℕ)) (m n : BTreeSet (Bor (List ℕ))) → i < length texts → n.keys ≡ insert_key (λ (p q : Bor (List ℕ)). text_cmp p.now q.now) m.keys (get_or texts i d)
+    → IsSetOf (map own_text (take i texts)) m → IsSetOf (map own_text (take (i + 1) texts)) n
+set_next texts i d m n h k so_far =
+    ap (map own_text) k ∙ own_put m.keys (get_or texts i d) ∙ ap (put text_cmp (get_or texts i d).now) so_far
+    ∙ sym (put_more (map own_text (take i texts)) [] (get_or texts i d).now) ∙ ap (in_order text_cmp) (sym (mapped_more own_text texts i d h))
 
-pub new_same : (old new : List Rule) (i j : ℕ) (rule d : Rule) (found : List (Bor (List ℕ))) (text : Bor (List ℕ)) → j < length new → rule ≡ get_or new j d → text.now ≡ rule.pattern.now → SameSoFar old new i j found → SameSoFar old new i (j + 1) (found ++ text ∷ [])
-new_same old new i j rule d found text h e0 t s device = by (is_match device rule.pattern.now) refl (s device)
-  where
-    by : (b : Bool) → is_match device rule.pattern.now ≡ b → (given device (take i old) ≡ given device (take j new)) ⊎ IsMet found device → (given device (take i old) ≡ given device (take (j + 1) new)) ⊎ IsMet (found ++ text ∷ []) device
-    by true m k = inr (met_last found text device (ap (is_match device) t ∙ m))
-    by false m (inl k) = inl (k ∙ sym (ap (given device) (one_more j new rule h (self_place new j rule d h e0)) ∙ given_passed device (take j new) rule m))
-    by false m (inr k) = inr (met_more found text device k)
+module _ (whole : List (List ℕ)) where
+  pub order_begun : (left keys list : List (Bor (List ℕ))) → list ≡ [] → left ≡ keys → map own_text keys ≡ whole → map own_text list ++ map own_text left ≡ whole
+  order_begun left keys list none is e = ap (λ (l : List (Bor (List ℕ))). map own_text l ++ map own_text left) none ∙ ap (map own_text) is ∙ e
 
-pub told_still : (one other : List Rule) (i : ℕ) (found : List (Bor (List ℕ))) (text : Bor (List ℕ)) → ToldSoFar one other i found → ToldSoFar one other i (found ++ text ∷ [])
-told_still one other i found text s pattern value has = elim (s pattern value has) [
-  | inl there ↦ inl there
-  | inr told ↦ inr (text_more found text pattern told)
-]
+  pub order_next : (left next list after : List (Bor (List ℕ))) (text : Bor (List ℕ)) → left ≡ text ∷ next → after ≡ list ++ text ∷ [] → map own_text list ++ map own_text left ≡ whole → map own_text after ++ map own_text next ≡ whole
+  order_next left next list after text cut pushed so_far =
+      ap (λ (l : List (List ℕ)). l ++ map own_text next) (ap (map own_text) pushed ∙ map-append own_text list (text ∷ []))
+      ∙ append_assoc (map own_text list) (text.now ∷ []) (map own_text next) ∙ ap (λ (l : List (Bor (List ℕ))). map own_text list ++ map own_text l) (sym cut) ∙ so_far
 
-pub told_more : (one other : List Rule) (i : ℕ) (rule d : Rule) (found : List (Bor (List ℕ))) (text : Bor (List ℕ)) → i < length one → rule ≡ get_or one i d → text.now ≡ rule.pattern.now → ToldSoFar one other i found → ToldSoFar one other (i + 1) (found ++ text ∷ [])
-told_more one other i rule d found text h e0 t s pattern value has =
-    elim (rule_cases (take i one) rule pattern value (subst (λ (l : List Rule). HasRule l pattern value) (one_more i one rule h (self_place one i rule d h e0)) has)) [
-      | inl before ↦ told_still one other i found text s pattern value before
-      | inr m ↦ inr (text_last found text pattern (t ∙ m.0))
-    ]
-
--- the same, as the code has it
-pub some_left : (xs ys : List Rule) (i : ℕ) → ys ≡ drop i xs → 0 < length ys → i < length xs
-some_left xs ys i e h = let size = ap length e ∙ length-drop i xs in omega (arith, size, h)
-
-pub both_next : (p : Passed) (old new os ns : List Rule) (i j : ℕ) → p ≡ Both → os ≡ drop i old → ns ≡ drop j new → IsNext p os ns → BothNext old new i j
-both_next p old new os ns i j e o n k =
-    subst (λ (l : List Rule). BeginAlike (drop i old) l) n (subst (λ (l : List Rule). BeginAlike l ns) o (subst (λ (q : Passed). IsNext q os ns) e k))
-
-pub old_next : (p : Passed) (old os ns : List Rule) (i : ℕ) → p ≡ Old → os ≡ drop i old → IsNext p os ns → i < length old
-old_next p old os ns i e o k = some_left old os i o (subst (λ (q : Passed). IsNext q os ns) e k)
-
-pub new_next : (p : Passed) (new os ns : List Rule) (j : ℕ) → p ≡ New → ns ≡ drop j new → IsNext p os ns → j < length new
-new_next p new os ns j e n k = some_left new ns j n (subst (λ (q : Passed). IsNext q os ns) e k)
-
-pub old_told : (old new : List Rule) (i j : ℕ) (d : Rule) (found items : List (Bor (List ℕ))) → i < length old → items ≡ found ++ (get_or old i d).pattern ∷ [] → SameSoFar old new i j found → SameSoFar old new (i + 1) j items
-old_told old new i j d found items h e s =
-    subst (λ (l : List (Bor (List ℕ))). SameSoFar old new (i + 1) j l) (sym e) (old_same old new i j (get_or old i d) d found ((get_or old i d).pattern) h refl refl s)
-
-pub new_told : (old new : List Rule) (i j : ℕ) (d : Rule) (found items : List (Bor (List ℕ))) → j < length new → items ≡ found ++ (get_or new j d).pattern ∷ [] → SameSoFar old new i j found → SameSoFar old new i (j + 1) items
-new_told old new i j d found items h e s =
-    subst (λ (l : List (Bor (List ℕ))). SameSoFar old new i (j + 1) l) (sym e) (new_same old new i j (get_or new j d) d found ((get_or new j d).pattern) h refl refl s)
-
-pub one_told : (one other : List Rule) (i : ℕ) (d : Rule) (found items : List (Bor (List ℕ))) → i < length one → items ≡ found ++ (get_or one i d).pattern ∷ [] → ToldSoFar one other i found → ToldSoFar one other (i + 1) items
-one_told one other i d found items h e s =
-    subst (λ (l : List (Bor (List ℕ))). ToldSoFar one other (i + 1) l) (sym e) (told_more one other i (get_or one i d) d found ((get_or one i d).pattern) h refl refl s)
-
-pub other_told : (one other : List Rule) (i : ℕ) (text : Bor (List ℕ)) (found items : List (Bor (List ℕ))) → items ≡ found ++ text ∷ [] → ToldSoFar one other i found → ToldSoFar one other i items
-other_told one other i text found items e s = subst (λ (l : List (Bor (List ℕ))). ToldSoFar one other i l) (sym e) (told_still one other i found text s)
-
--- nothing yet
-pub same_begun : (old new : List Rule) → SameSoFar old new 0 0 []
-same_begun old new device = inl refl
-
-pub told_begun : (one other : List Rule) → ToldSoFar one other 0 []
-told_begun one other pattern value has = absurd has
-
--- all of both
-pub same_done : (old new : List Rule) (i j : ℕ) (found : List (Bor (List ℕ))) → length old ≤ i → length new ≤ j → SameSoFar old new i j found → (device : List ℕ) → IsSame old new device ⊎ IsMet found device
-same_done old new i j found h k s device = elim (s device) [
-  | inl same ↦ inl (ap (given device) (sym (take_all i old h)) ∙ same ∙ ap (given device) (take_all j new k))
-  | inr met ↦ inr met
-]
-
-pub told_done : (one other : List Rule) (i : ℕ) (found : List (Bor (List ℕ))) → length one ≤ i → ToldSoFar one other i found → (pattern value : List ℕ) → HasRule one pattern value → HasRule other pattern value ⊎ HasText found pattern
-told_done one other i found h s pattern value has = s pattern value (subst (λ (l : List Rule). HasRule l pattern value) (sym (take_all i one h)) has)
+  pub order_done : (left list : List (Bor (List ℕ))) → left ≡ [] → map own_text list ++ map own_text left ≡ whole → map own_text list ≡ whole
+  order_done left list none so_far = sym (append-nil (map own_text list)) ∙ ap (λ (l : List (Bor (List ℕ))). map own_text list ++ map own_text l) (sym none) ∙ so_far

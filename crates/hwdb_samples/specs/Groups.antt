@@ -1,12 +1,16 @@
 -- Rules of two sides by key, as the code collects them.
-use Rattle.std.specs.Prelude.{List, ℕ, [], ◌∷◌, ◌++◌, ◌≡◌, Option, None, Some, option_map}
+use Rattle.std.specs.Prelude.{List, ℕ, [], ◌∷◌, ◌++◌, ◌≡◌, Bool, Option, None, Some, filter, map, option_map}
 use Rattle.std.specs.Borrow.{Bor}
 use Rattle.std.specs.declared.cmp.Ordering.{Ordering}
 use Rattle.std.specs.BTreeMap.{get_by}
 use Rattle.std.specs.List.Sorted.{IsStrictlySortedBy}
 use Rattle.std.specs.Map.{keys_of}
 use Rattle.hwdb_spec.specs.Assignment.{text_cmp}
-use Rattle.hwdb_samples.specs.Keys.{IsFound}
+use Rattle.hwdb_spec.specs.Folders.{same}
+use Rattle.hwdb_spec_commands.specs.SamplesFound.{samples_of}
+use Rattle.hwdb_samples.specs.Views.{found_shown, rule_texts}
+use Rattle.hwdb_samples.specs.declared.groups.Property.{Property}
+use Rattle.hwdb_samples.specs.declared.samples.Samples.{Samples}
 use Rattle.hwdb_samples.specs.declared.rules.Rule.{Rule}
 use Rattle.hwdb_samples.specs.declared.groups.Groups.{Groups}
 use Rattle.hwdb_samples.specs.declared.groups.KeySamples.{KeySamples}
@@ -17,6 +21,21 @@ use Rattle.hwdb_samples.specs.declared.groups.Side.TheVariants.{Old, New}
 -- the order of keys
 abbrev pub key_order : Bor (List ℕ) → Bor (List ℕ) → Ordering
 key_order a b = text_cmp a.now b.now
+
+-- whether a property has a key, and its rule
+abbrev pub is_of : List ℕ → Property → Bool
+is_of key p = same key p.key.now
+
+abbrev pub rule_in : Property → Rule
+rule_in p = p.rule
+
+-- the rules of a key
+abbrev pub rules_at : List ℕ → List Property → List Rule
+rules_at key list = map rule_in (filter (is_of key) list)
+
+-- what is found of the rules of a key
+abbrev pub IsFound : (old new : List Rule) → Samples → Type 0
+IsFound old new found = found_shown found ≡ samples_of (map rule_texts old) (map rule_texts new)
 
 -- the rules of both sides
 abbrev pub Both : Type 0

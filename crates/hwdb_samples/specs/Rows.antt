@@ -1,22 +1,14 @@
 -- Worked rows: what rules give devices, and what is shown of two sides. They are worked out by hand, by hwdb(7): the last rule whose
 -- pattern matches counts.
-use Rattle.std.specs.Prelude.{List, ℕ, [], ◌∷◌, ◌≡◌, codes, map, None, Some}
-use Rattle.std.specs.Borrow.{Bor}
-use Rattle.hwdb_samples.specs.Samples.{given, HasRule, IsMet, IsSame, IsSettled, Shows}
-use Rattle.hwdb_samples.specs.declared.rules.Rule.{Rule}
-use Rattle.hwdb_samples.specs.declared.samples.Sample.{Sample}
-use Rattle.hwdb_samples.specs.declared.samples.Samples.{Samples}
-
--- a text, wherever it is
-abbrev pub text : List ℕ → Bor (List ℕ)
-text t = record { ref_ptr = (0, 0); now = t }
-
-abbrev pub rule : (pattern value : List ℕ) → Rule
-rule pattern value = record { pattern = text pattern; value = text value }
+use Rattle.std.specs.Prelude.{List, [], ◌∷◌, ◌≡◌, codes, false, map, None, Some, true}
+use Rattle.hwdb_spec_commands.specs.SamplesFound.{agree, changed, near, samples_by_key, samples_of}
+use Rattle.hwdb_spec_commands.specs.Overlaps.{apart, covers}
+use Rattle.hwdb_spec_commands.specs.SampleRules.{HasRule, IsSame, RuleTexts, Shows, given}
+use Rattle.hwdb_spec_commands.specs.SampleTexts.{text_of}
 
 -- rules of mice: the second one is for two devices of the first, the third one gives nothing but an empty value
-abbrev pub mice : List Rule
-mice = rule (codes "mouse:*") (codes "1") ∷ rule (codes "mouse:a[xy]") (codes "2") ∷ rule (codes "mouse:*?z") [] ∷ []
+abbrev pub mice : List RuleTexts
+mice = (codes "mouse:*", codes "1") ∷ (codes "mouse:a[xy]", codes "2") ∷ (codes "mouse:*?z", []) ∷ []
 
 abbrev pub GivenRows : Type 0
 GivenRows =
@@ -27,15 +19,15 @@ GivenRows =
 -- A later rule counts, also if it says less of the device. Without rules nothing is given.
 abbrev pub LaterRows : Type 0
 LaterRows =
-    map (given (codes "ab")) ((rule (codes "ab") (codes "1") ∷ rule (codes "*") (codes "2") ∷ []) ∷ (rule (codes "*") (codes "2") ∷ rule (codes "ab") (codes "1") ∷ []) ∷ [] ∷ [])
+    map (given (codes "ab")) (((codes "ab", codes "1") ∷ (codes "*", codes "2") ∷ []) ∷ ((codes "*", codes "2") ∷ (codes "ab", codes "1") ∷ []) ∷ [] ∷ [])
     ≡ Some (codes "2") ∷ Some (codes "1") ∷ None ∷ []
 
 -- two sides: the new one has a rule more, for one device
-abbrev pub old_side : List Rule
-old_side = rule (codes "a*") (codes "1") ∷ []
+abbrev pub old_side : List RuleTexts
+old_side = (codes "a*", codes "1") ∷ []
 
-abbrev pub new_side : List Rule
-new_side = rule (codes "a*") (codes "1") ∷ rule (codes "ab") (codes "2") ∷ []
+abbrev pub new_side : List RuleTexts
+new_side = (codes "a*", codes "1") ∷ (codes "ab", codes "2") ∷ []
 
 -- This device is given something else, others aren't.
 abbrev pub SameRows : Type 0
@@ -49,26 +41,64 @@ RuleRows =
     × (¬ HasRule new_side (codes "ab") (codes "1"))
     × (¬ HasRule new_side (codes "a*") (codes "2"))
 
--- which devices one of two patterns matches
-abbrev pub MetRows : Type 0
-MetRows =
-    IsMet (text (codes "x") ∷ text (codes "a*") ∷ []) (codes "ab")
-    × IsMet (text (codes "x") ∷ text (codes "a*") ∷ []) (codes "x")
-    × (¬ IsMet (text (codes "x") ∷ text (codes "a*") ∷ []) (codes "b"))
-
 -- A sample is the rule's device, made of a pattern that matches it.
 abbrev pub ShownRows : Type 0
 ShownRows =
-    ((s : Sample) → s.pattern.now ≡ codes "a?" → s.device.items ≡ codes "ab" → Shows old_side new_side s)
-    × ((s : Sample) → s.device.items ≡ codes "ac" → ¬ Shows old_side new_side s)
-    × ((s : Sample) → s.pattern.now ≡ codes "b" → s.device.items ≡ codes "ab" → ¬ Shows old_side new_side s)
+    Shows old_side new_side (codes "a?", codes "ab")
+    × (¬ Shows old_side new_side (codes "a?", codes "ac"))
+    × (¬ Shows old_side new_side (codes "b", codes "ab"))
 
--- The rule's pattern is settled if a sample of it is shown, or if it is told as undecided. It isn't if nothing is found, or only of
--- another pattern. If both sides are the same, each pattern is.
-abbrev pub SettledRows : Type 0
-SettledRows =
-    ((found : Samples) (s : Sample) → found.shown.items ≡ s ∷ [] → s.pattern.now ≡ codes "ab" → IsSettled old_side new_side found (codes "ab"))
-    × ((found : Samples) → found.undecided.items ≡ text (codes "ab") ∷ [] → IsSettled old_side new_side found (codes "ab"))
-    × ((found : Samples) → found.shown.items ≡ [] → found.undecided.items ≡ [] → ¬ IsSettled old_side new_side found (codes "ab"))
-    × ((found : Samples) → found.shown.items ≡ [] → found.undecided.items ≡ text (codes "a*") ∷ [] → ¬ IsSettled old_side new_side found (codes "ab"))
-    × ((found : Samples) (pattern : List ℕ) → IsSettled old_side old_side found pattern)
+-- a text for stars; a byte for `?` and for brackets, the first usual one that fits; an open bracket is a byte
+abbrev pub TextRows : Type 0
+TextRows =
+    (map (text_of (codes "0")) (codes "mouse:*:a?[xy][!0]" ∷ codes "a[b" ∷ [] ∷ []) ≡ codes "mouse:0:a0xa" ∷ codes "a[b" ∷ [] ∷ [])
+    × (text_of [] (codes "a*b*") ≡ codes "ab")
+
+-- patterns that differ before a wildcard of both
+abbrev pub ApartRows : Type 0
+ApartRows = map (apart (codes "ab*")) (codes "ac" ∷ codes "abc" ∷ codes "a*" ∷ codes "ab" ∷ codes "b?" ∷ codes "?c" ∷ [] ∷ []) ≡ true ∷ false ∷ false ∷ false ∷ true ∷ false ∷ false ∷ []
+
+-- patterns that match all that others do
+abbrev pub CoverRows : Type 0
+CoverRows =
+    (map (covers (codes "a*")) (codes "a" ∷ codes "ab*" ∷ codes "a?c" ∷ codes "*" ∷ codes "?*" ∷ []) ≡ true ∷ true ∷ true ∷ false ∷ false ∷ [])
+    × (map (covers (codes "a[bc]")) (codes "ab" ∷ codes "ad" ∷ codes "a[bc]" ∷ codes "a?" ∷ []) ≡ true ∷ false ∷ true ∷ false ∷ [])
+    × (map (covers (codes "*a*c")) (codes "a*bc" ∷ codes "*ac" ∷ codes "?a?c" ∷ codes "ac*" ∷ []) ≡ true ∷ true ∷ true ∷ false ∷ [])
+    × (map (covers (codes "?")) (codes "a" ∷ codes "[a-c]" ∷ codes "*" ∷ [] ∷ []) ≡ true ∷ true ∷ false ∷ false ∷ [])
+
+-- the rules that may match a device of a pattern
+abbrev pub NearRows : Type 0
+NearRows = near (codes "ab*") ((codes "ac", codes "1") ∷ (codes "a?c", codes "2") ∷ (codes "abd", codes "3") ∷ []) ≡ (codes "a?c", codes "2") ∷ (codes "abd", codes "3") ∷ []
+
+-- A rule that matches all devices of the pattern hides those before it. One that gives the same changes nothing. Others count.
+abbrev pub AgreeRows : Type 0
+AgreeRows =
+    (agree ((codes "ab", codes "1") ∷ (codes "a*", codes "3") ∷ []) ((codes "ab", codes "2") ∷ (codes "a*", codes "3") ∷ []) (codes "ab") ≡ true)
+    × (agree ((codes "a*", codes "1") ∷ []) ((codes "a*", codes "1") ∷ (codes "?b", codes "1") ∷ []) (codes "a*") ≡ true)
+    × (agree ((codes "a*", codes "1") ∷ []) ((codes "a*", codes "1") ∷ (codes "?b", codes "2") ∷ []) (codes "a*") ≡ false)
+    × (agree ((codes "a*", codes "1") ∷ []) [] (codes "a*") ≡ false)
+
+-- The patterns of rules that one side alone has, with another value, or in another order, are looked at.
+abbrev pub ChangedRows : Type 0
+ChangedRows =
+    (changed old_side new_side ≡ codes "ab" ∷ [])
+    × (changed new_side old_side ≡ codes "ab" ∷ [])
+    × (changed ((codes "a", codes "1") ∷ []) ((codes "a", codes "2") ∷ []) ≡ codes "a" ∷ [])
+    × (changed ((codes "a*", codes "1") ∷ (codes "?b", codes "2") ∷ []) ((codes "?b", codes "2") ∷ (codes "a*", codes "1") ∷ []) ≡ codes "?b" ∷ codes "a*" ∷ [])
+    × (changed new_side new_side ≡ [])
+
+-- what is found: a device of a new pattern; nothing if a later rule hides the change; a device with a 0 if one without is hidden; and
+-- a pattern that is undecided, if both are
+abbrev pub FoundRows : Type 0
+FoundRows =
+    (samples_of old_side new_side ≡ record { shown = (codes "ab", codes "ab") ∷ []; undecided = [] })
+    × (samples_of ((codes "ab", codes "1") ∷ (codes "a*", codes "3") ∷ []) ((codes "ab", codes "2") ∷ (codes "a*", codes "3") ∷ []) ≡ record { shown = []; undecided = [] })
+    × (samples_of ((codes "a*", codes "1") ∷ (codes "a", codes "2") ∷ []) ((codes "a*", codes "3") ∷ (codes "a", codes "2") ∷ []) ≡ record { shown = (codes "a*", codes "a0") ∷ []; undecided = [] })
+    × (samples_of ((codes "a*", codes "1") ∷ (codes "a", codes "2") ∷ (codes "a0", codes "2") ∷ []) ((codes "a*", codes "3") ∷ (codes "a", codes "2") ∷ (codes "a0", codes "2") ∷ [])
+    ≡ record { shown = []; undecided = codes "a*" ∷ [] })
+
+-- what is found of two keys, ascending
+abbrev pub KeyedRows : Type 0
+KeyedRows =
+    samples_by_key ((codes "L", (codes "a", codes "1")) ∷ (codes "K", (codes "a*", codes "1")) ∷ []) ((codes "K", (codes "a*", codes "1")) ∷ (codes "K", (codes "ab", codes "2")) ∷ (codes "L", (codes "a", codes "1")) ∷ [])
+    ≡ (codes "K", record { shown = (codes "ab", codes "ab") ∷ []; undecided = [] }) ∷ (codes "L", record { shown = []; undecided = [] }) ∷ []

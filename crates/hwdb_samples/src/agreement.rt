@@ -1,114 +1,121 @@
 //! Whether two sides give the same to each device that a pattern matches.
 //!
-//! The rules of both sides are gone through from the last one to the first, but for those that match none of these devices. As long as
-//! both sides have the same rule, only earlier ones are left to be compared. If that rule matches all these devices, earlier ones don't
-//! count. What is left agrees if each side is seen to give all these devices one value, and both the same.
-ghost use Rattle.std.specs.Prelude.{◌≡◌, ◌∷◌, ◌++◌, ◌≢◌, List, ℕ, [], false, true, IfOk, length, ◌≤◌};
-ghost use Rattle.hwdb_spec.specs.Answers;
-ghost use Rattle.hwdb_samples.specs.Samples;
-ghost use Rattle.hwdb_samples.specs.Samples.{AgreeOn};
-ghost use Rattle.hwdb_samples.specs.Internal;
-ghost use Rattle.hwdb_samples.specs.Internal.{EndAlike, IsConstant};
-ghost use Rattle.hwdb_samples.specs.Views.{text_of};
+//! The rules of each side are gone through in their order, but for those that match none of these devices. A rule that matches all of
+//! them gives them one value, and what came before doesn't count. What is left is a value, and rules that may change it.
+ghost use Rattle.std.specs.Prelude.{◌≡◌, ◌++◌, ◌∷◌, [], None, map, IfOk, OnOk};
+ghost use Rattle.hwdb_spec_commands.specs.SamplesFound as spec;
+ghost use Rattle.hwdb_samples.specs.Views.{counted_shown, rule_texts};
 
-use crate::overlap::{Meeting, are_apart, covers, meeting_of};
-use crate::rules::{Rule, is_same};
+use crate::overlap::{apart, covers};
+use crate::rules::{Rule, same_rule, same_value};
 use std::alloc::{AllocError, Global};
 
-/// Whether two values are the same, or both are none.
-pub(crate) fn same_value(one: Option<&[u8]>, other: Option<&[u8]>) -> bool
-    ensures same { result ≡ true → text_of one.entry ≡ text_of other.entry }
-    ensures differs { result ≡ false → text_of one.entry ≢ text_of other.entry }
-{
-    match one {
-        None => other.is_none(),
-        Some(one) => match other {
-            None => false,
-            Some(other) => is_same(one, other),
-        },
-    }
+/// A value that all devices have, and rules that may change it.
+#[derive(Drop)]
+pub(crate) struct Counted<'t> {
+    pub base: Option<&'t [u8]>,
+    pub rest: Vec<Rule<'t>>,
 }
 
-/// What is known after a rule.
-fn constant_after<'t>(
-    meeting: Meeting,
-    before: Option<Option<&'t [u8]>>,
-    value: &'t [u8],
-) -> Option<Option<&'t [u8]>>
-    ensures { (rules : List Rule) (rule : Rule) (pattern : List ℕ)
-        → Internal.Meets meeting rule.pattern.now pattern → rule.value.now ≡ value.now
-        → IsConstant before.entry rules pattern → IsConstant result (rules ++ rule ∷ []) pattern }
+/// Adds a rule if it may match a device that the pattern matches. The only error, here and below, is `AllocError`.
+fn push_if_near<'t>(
+    near: &mut Vec<Rule<'t>>,
+    pattern: &[u8],
+    rule: Rule<'t>,
+) -> Result<(), AllocError>
+    ensures { OnOk result (map rule_texts near.new.items ≡ map rule_texts near.old.items
+        ++ spec.near pattern.now (rule_texts rule.entry ∷ [])) }
 {
-    match meeting {
-        Meeting::Apart => before,
-        Meeting::Over => Some(Some(value)),
-        Meeting::Mixed => match before {
-            None => None,
-            Some(known) => if same_value(known, Some(value)) {
-                before
-            } else {
-                None
-            },
-        },
+    if !apart(pattern, rule.pattern) {
+        near.push(rule)?;
     }
+    Ok(())
 }
 
-/// What the rules give all devices that the pattern matches, if it is seen to be one value, or nothing.
-fn constant<'t>(
+/// The rules that may match one of these devices.
+pub(crate) fn near<'t>(
     alloc: Global,
+    pattern: &[u8],
     rules: &[Rule<'t>],
-    pattern: &[u8],
-) -> Result<Option<Option<&'t [u8]>>, AllocError>
-    ensures { IfOk result (λ known. IsConstant known rules.now pattern.now) }
+) -> Result<Vec<Rule<'t>>, AllocError>
+    ensures { IfOk result (λ near. map rule_texts near.items
+        ≡ spec.near pattern.now (map rule_texts rules.now)) }
 {
-    let mut known = Some(None);
+    let mut near = Vec::new(alloc);
     for rule in rules {
-        let meeting = meeting_of(alloc, rule.pattern, pattern)?;
-        known = constant_after(meeting, known, rule.value);
+        push_if_near(&mut near, pattern, *rule)?;
     }
-    Ok(known)
+    Ok(near)
 }
 
-/// The rules without the last ones, as long as these match no device that the pattern matches.
-fn without_apart<'r, 't>(rules: &'r [Rule<'t>], pattern: &[u8]) -> &'r [Rule<'t>]
-    ensures same { AgreeOn result.now rules.now pattern.now }
-    ensures short { length result.now ≤ length rules.now }
+/// Whether a rule with a value changes nothing.
+fn is_idle(counted: &Counted<'_>, value: &[u8]) -> bool
+    ensures { result ≡ spec.is_idle (counted_shown counted.now) value.now }
 {
-    let mut end = rules.len();
-    while end > 0 && are_apart(pattern, rules[end - 1].pattern) {
-        end -= 1;
+    if counted.rest.is_empty() {
+        return same_value(counted.base, Some(value));
     }
-    &rules[..end]
+    false
 }
 
-/// Whether the last rules of both sides are the same.
-fn end_alike(old: &[Rule<'_>], new: &[Rule<'_>]) -> bool
-    ensures { result ≡ true → EndAlike old.now new.now }
-{
-    if old.is_empty() || new.is_empty() {
-        return false;
-    }
-    let one = &old[old.len() - 1];
-    let other = &new[new.len() - 1];
-    is_same(one.pattern, other.pattern) && is_same(one.value, other.value)
-}
-
-/// Whether both sides are seen to give one value.
-fn are_constant(
+/// What counts after a rule.
+fn counted_after<'t>(
     alloc: Global,
-    old: &[Rule<'_>],
-    new: &[Rule<'_>],
     pattern: &[u8],
-) -> Result<bool, AllocError>
-    ensures { IfOk result (λ yes. yes ≡ true → AgreeOn old.now new.now pattern.now) }
+    before: Counted<'t>,
+    rule: Rule<'t>,
+) -> Result<Counted<'t>, AllocError>
+    ensures { IfOk result (λ after. counted_shown after
+        ≡ spec.counted_after pattern.now (counted_shown before.entry) (rule_texts rule.entry)) }
 {
-    let Some(one) = constant(alloc, old, pattern)? else {
-        return Ok(false);
+    if covers(alloc, rule.pattern, pattern)? {
+        return Ok(Counted {
+            base: Some(rule.value),
+            rest: Vec::new(alloc),
+        });
+    }
+    if is_idle(&before, rule.value) {
+        return Ok(before);
+    }
+    let Counted { base, mut rest } = before;
+    rest.push(rule)?;
+    Ok(Counted { base, rest })
+}
+
+/// What counts of some rules.
+fn counted_of<'t>(
+    alloc: Global,
+    pattern: &[u8],
+    rules: &[Rule<'t>],
+) -> Result<Counted<'t>, AllocError>
+    ensures { IfOk result (λ counted. counted_shown counted
+        ≡ spec.counted pattern.now (map rule_texts rules.now)) }
+{
+    let mut counted = Counted {
+        base: None,
+        rest: Vec::new(alloc),
     };
-    let Some(other) = constant(alloc, new, pattern)? else {
-        return Ok(false);
-    };
-    Ok(same_value(one, other))
+    for rule in rules {
+        counted = counted_after(alloc, pattern, counted, *rule)?;
+    }
+    Ok(counted)
+}
+
+/// Whether some rules are the same as others.
+fn same_rules(one: &[Rule<'_>], other: &[Rule<'_>]) -> bool
+    ensures { result ≡ spec.same_rules (map rule_texts one.now) (map rule_texts other.now) }
+{
+    let mut at = 0;
+    while at < one.len() {
+        if at >= other.len() {
+            return false;
+        }
+        if !same_rule(&one[at], &other[at]) {
+            return false;
+        }
+        at += 1;
+    }
+    at == other.len()
 }
 
 /// Whether two sides are seen to give the same to each device that the pattern matches.
@@ -118,17 +125,10 @@ pub(crate) fn agree(
     new: &[Rule<'_>],
     pattern: &[u8],
 ) -> Result<bool, AllocError>
-    ensures { IfOk result (λ yes. yes ≡ true → AgreeOn old.now new.now pattern.now) }
+    ensures { IfOk result (λ yes. yes
+        ≡ spec.agree (map rule_texts old.now) (map rule_texts new.now) pattern.now) }
 {
-    let mut before = without_apart(old, pattern);
-    let mut after = without_apart(new, pattern);
-    while end_alike(before, after) {
-        let (last, end) = (before.len() - 1, after.len() - 1);
-        if covers(alloc, before[last].pattern, pattern)? {
-            return Ok(true);
-        }
-        before = without_apart(&before[..last], pattern);
-        after = without_apart(&after[..end], pattern);
-    }
-    are_constant(alloc, before, after, pattern)
+    let one = counted_of(alloc, pattern, old)?;
+    let other = counted_of(alloc, pattern, new)?;
+    Ok(same_value(one.base, other.base) && same_rules(&one.rest, &other.rest))
 }

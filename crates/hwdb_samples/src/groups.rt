@@ -2,11 +2,11 @@
 //!
 //! The rules of both sides are collected by key, in one pass over each side. Each key is then looked at by itself.
 ghost use Rattle.std.specs.Prelude.{◌≡◌, ◌∷◌, List, ℕ, [], IfOk, OnOk, Some, map, if◌then◌else◌};
-ghost use Rattle.std.specs.List.{AllByRecursion};
 ghost use Rattle.std.specs.Ordering.{is_eq};
-ghost use Rattle.hwdb_spec.specs.Assignment.{Assignment, text_cmp};
-ghost use Rattle.hwdb_samples.specs.Groups.{AreAllFound, Both, both_at, both_in, or_none, some_both, with_rules};
-ghost use Rattle.hwdb_samples.specs.Keys.{AreInTurn, IsFound, IsFoundAt, IsNothing, key_found, keys_of_both, properties, rules_at};
+ghost use Rattle.hwdb_spec.specs.Assignment.{text_cmp};
+ghost use Rattle.hwdb_spec_commands.specs.SamplesFound as spec;
+ghost use Rattle.hwdb_samples.specs.Groups.{AreAllFound, Both, IsFound, both_at, both_in, or_none, rules_at, some_both, with_rules};
+ghost use Rattle.hwdb_samples.specs.Views.{key_shown, property_texts};
 
 use crate::rules::Rule;
 use crate::samples::{Samples, samples_of};
@@ -174,13 +174,8 @@ pub fn samples_by_key<'t>(
     old: &[Property<'t>],
     new: &[Property<'t>],
 ) -> Result<Vec<KeySamples<'t>>, AllocError>
-    ensures keys { IfOk result (λ list. map key_found list.items
-        ≡ keys_of_both old.now new.now) }
-    ensures each { IfOk result (λ list.
-        AllByRecursion (IsFoundAt old.now new.now) list.items) }
-    ensures complete { IfOk result (λ list. AllByRecursion IsNothing list.items
-        → (before after : List Assignment) → AreInTurn before old.now → AreInTurn after new.now
-        → (device : List ℕ) → properties device before ≡ properties device after) }
+    ensures { IfOk result (λ list. map key_shown list.items
+        ≡ spec.samples_by_key (map property_texts old.now) (map property_texts new.now)) }
 {
     let groups = grouped(alloc, old, new)?;
     groups.samples(alloc)

@@ -1,24 +1,28 @@
 //! Laws of the definitions, and worked rows: these functions do nothing, and what each of them ensures is so.
+ghost use Rattle.hwdb_samples.specs.KeyRows.{KeyRuleRows, PropertyRows, TurnRows, ValueRows};
 ghost use Rattle.hwdb_samples.specs.Keys.{RulesGiveValues, SameRulesGiveAll};
-ghost use Rattle.hwdb_samples.specs.KeyRows.{FoundKeyRows, FoundRows, KeyedRows, PropertyRows, TurnRows, ValueRows};
-ghost use Rattle.hwdb_samples.specs.Rows.{GivenRows, LaterRows, MetRows, RuleRows, SameRows, SettledRows, ShownRows};
+ghost use Rattle.hwdb_samples.specs.Laws.{AddedAreSettled, NothingIsSame, NothingIsSameOfAll, RemovedAreSettled, SamplesShow};
+ghost use Rattle.hwdb_samples.specs.Rows.{AgreeRows, ApartRows, ChangedRows, CoverRows, FoundRows, GivenRows, KeyedRows, LaterRows, NearRows, RuleRows, SameRows, ShownRows, TextRows};
 
-/// What rules give devices.
-#[tactic(auto, using(crate::proofs::ComputedRows::given_rows_hold, crate::proofs::ComputedRows::later_rows_hold))]
-pub fn given_rows()
-    ensures given { GivenRows }
-    ensures later { LaterRows }
-{}
+use hwdb_pattern::matches_is_tested;
 
-/// What two sides give, and what is shown of them.
-#[tactic(auto, using(crate::proofs::ComputedRows::same_rows_hold, crate::proofs::ComputedRows::rule_rows_hold, crate::proofs::ComputedRows::met_rows_hold, crate::proofs::ComputedRows::shown_rows_hold, crate::proofs::ComputedRows::settled_rows_hold))]
-pub fn sample_rows()
-    ensures same { SameRows }
-    ensures rule { RuleRows }
-    ensures met { MetRows }
-    ensures shown { ShownRows }
-    ensures settled { SettledRows }
-{}
+/// What samples say of the rules of one key: each shows a change, and if nothing is found nothing changes. The pattern of each rule
+/// that one side alone has is settled.
+pub fn law_found()
+    ensures shown { SamplesShow }
+    ensures complete { NothingIsSame }
+    ensures removed { RemovedAreSettled }
+    ensures added { AddedAreSettled }
+{
+    matches_is_tested();
+}
+
+/// If nothing is found of any key, nothing changes for any device.
+pub fn law_nothing_found()
+    ensures { NothingIsSameOfAll }
+{
+    matches_is_tested();
+}
 
 /// What a device gets of all keys is what the rules of each key give it.
 #[tactic(auto, using(crate::proofs::KeyLemmas::rules_give_values, crate::proofs::KeyLemmas::same_rules_give_all))]
@@ -27,13 +31,44 @@ pub fn law_rules_give()
     ensures all { SameRulesGiveAll }
 {}
 
-/// Which assignments count, what devices get of all keys, and what is found of a key.
-#[tactic(auto, using(crate::proofs::ComputedKeyRows::turn_rows_hold, crate::proofs::ComputedKeyRows::property_rows_hold, crate::proofs::ComputedKeyRows::value_rows_hold, crate::proofs::ComputedKeyRows::keyed_rows_hold, crate::proofs::ComputedKeyRows::found_rows_hold, crate::proofs::ComputedKeyRows::found_key_rows_hold))]
+/// What rules give devices.
+#[tactic(auto, using(crate::proofs::ComputedRows::given_rows_hold, crate::proofs::ComputedRows::later_rows_hold))]
+pub fn given_rows()
+    ensures given { GivenRows }
+    ensures later { LaterRows }
+{}
+
+/// What two sides give, and what shows it.
+#[tactic(auto, using(crate::proofs::ComputedRows::same_rows_hold, crate::proofs::ComputedRows::rule_rows_hold, crate::proofs::ComputedRows::shown_rows_hold))]
+pub fn side_rows()
+    ensures same { SameRows }
+    ensures rule { RuleRows }
+    ensures shown { ShownRows }
+{}
+
+/// Texts of patterns, and how patterns meet.
+#[tactic(auto, using(crate::proofs::ComputedRows::text_rows_hold, crate::proofs::ComputedRows::apart_rows_hold, crate::proofs::ComputedRows::cover_rows_hold, crate::proofs::ComputedRows::near_rows_hold))]
+pub fn pattern_rows()
+    ensures text { TextRows }
+    ensures apart { ApartRows }
+    ensures cover { CoverRows }
+    ensures near { NearRows }
+{}
+
+/// What is found of two sides.
+#[tactic(auto, using(crate::proofs::ComputedRows::agree_rows_hold, crate::proofs::ComputedRows::changed_rows_hold, crate::proofs::ComputedRows::found_rows_hold, crate::proofs::ComputedRows::keyed_rows_hold))]
+pub fn sample_rows()
+    ensures agree { AgreeRows }
+    ensures changed { ChangedRows }
+    ensures found { FoundRows }
+    ensures keyed { KeyedRows }
+{}
+
+/// Which assignments count, and what devices get of all keys.
+#[tactic(auto, using(crate::proofs::ComputedRows::turn_rows_hold, crate::proofs::ComputedRows::property_rows_hold, crate::proofs::ComputedRows::value_rows_hold, crate::proofs::ComputedRows::key_rule_rows_hold))]
 pub fn key_rows()
     ensures turn { TurnRows }
     ensures properties { PropertyRows }
     ensures values { ValueRows }
-    ensures keyed { KeyedRows }
-    ensures found { FoundRows }
-    ensures keys { FoundKeyRows }
+    ensures rules { KeyRuleRows }
 {}

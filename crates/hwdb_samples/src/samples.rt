@@ -1,12 +1,13 @@
 //! The samples of one key of two sides.
-ghost use Rattle.std.specs.Prelude.{◌≡◌, ◌⊎◌, All, List, ℕ, [], IfOk, IfSome, ◌≢◌, true};
-ghost use Rattle.hwdb_spec.specs.Answers;
-ghost use Rattle.hwdb_samples.specs.Samples;
-ghost use Rattle.hwdb_samples.specs.Samples.{AgreeOn, HasRule, HasSample, HasText, IsSame, IsSettled, Shows};
+ghost use Rattle.std.specs.Prelude.{◌≡◌, ◌++◌, map, IfOk, OnOk};
+ghost use Rattle.hwdb_spec_commands.specs.SamplesFound as spec;
+ghost use Rattle.hwdb_samples.specs.Levels.{AreLevels};
+ghost use Rattle.hwdb_samples.specs.Views.{device_in, found_shown, own_text, rule_texts, sample_texts};
 
-use crate::agreement::{agree, same_value};
+use crate::agreement::{agree, near};
 use crate::changes::changed;
-use crate::rules::{Rule, given, is_match};
+use crate::levels::{Level, begins_with, deepen};
+use crate::rules::{Rule, given, is_match, same_value};
 use crate::texts::text_of;
 use std::alloc::{AllocError, Global};
 
@@ -28,40 +29,71 @@ pub struct Samples<'t> {
     pub undecided: Vec<&'t [u8]>,
 }
 
-/// What stands for the stars of a pattern, in turn.
-const STARS: [&[u8]; 2] = [b"", b"0"];
+/// The rules of two sides.
+#[derive(Clone, Copy, Debug)]
+pub(crate) struct OldNew<'r, 't> {
+    pub old: &'r [Rule<'t>],
+    pub new: &'r [Rule<'t>],
+}
 
 /// Whether a pattern matches a device, and two sides give it something else.
 fn shows(old: &[Rule<'_>], new: &[Rule<'_>], pattern: &[u8], device: &[u8]) -> bool
-    ensures matched { result ≡ true → Answers.is_match device.now pattern.now ≡ true }
-    ensures differs { result ≡ true → IsSame old.now new.now device.now → ⊥ }
+    ensures { result ≡ spec.shows (map rule_texts old.now) (map rule_texts new.now)
+        pattern.now device.now }
 {
-    if !is_match(device, pattern) {
-        return false;
-    }
-    !same_value(given(device, old), given(device, new))
+    is_match(device, pattern) && !same_value(given(device, old), given(device, new))
 }
 
-/// A sample of a pattern, if one is found.
-fn sample_of<'t>(
+/// A sample of a pattern, if one is found: a text without its stars, or else with a 0 for each.
+fn sample_of(
     alloc: Global,
-    old: &[Rule<'t>],
-    new: &[Rule<'t>],
-    pattern: &'t [u8],
-) -> Result<Option<Sample<'t>>, AllocError>
-    ensures shows { IfOk result (λ found. IfSome found (λ s. Shows old.now new.now s)) }
-    ensures pattern { IfOk result (λ found. IfSome found (λ s. s.pattern.now ≡ pattern.now)) }
+    old: &[Rule<'_>],
+    new: &[Rule<'_>],
+    pattern: &[u8],
+) -> Result<Option<Vec<u8>>, AllocError>
+    ensures { IfOk result (λ found. device_in found
+        ≡ spec.sample_of (map rule_texts old.now) (map rule_texts new.now) pattern.now) }
 {
-    for star in STARS {
-        let device = text_of(alloc, pattern, star)?;
-        if shows(old, new, pattern, &device) {
-            return Ok(Some(Sample { pattern, device }));
-        }
+    let short = text_of(alloc, pattern, b"")?;
+    if shows(old, new, pattern, &short) {
+        return Ok(Some(short));
+    }
+    let longer = text_of(alloc, pattern, b"0")?;
+    if shows(old, new, pattern, &longer) {
+        return Ok(Some(longer));
     }
     Ok(None)
 }
 
-/// Looks for a sample of a pattern. If none is found, and it isn't seen that there is none, the pattern is undecided.
+/// Looks for a sample of a pattern, among rules that may match its devices. If none is found, and it isn't seen that there is none,
+/// the pattern is undecided.
+fn look_for<'t>(
+    alloc: Global,
+    old: &[Rule<'t>],
+    new: &[Rule<'t>],
+    pattern: &'t [u8],
+    found: &mut Samples<'t>,
+) -> Result<(), AllocError>
+    ensures shown { OnOk result (map sample_texts found.new.shown.items
+        ≡ map sample_texts found.old.shown.items ++ spec.shown_by pattern.now (spec.sample_of
+        (map rule_texts old.now) (map rule_texts new.now) pattern.now)) }
+    ensures undecided { OnOk result (map own_text found.new.undecided.items
+        ≡ map own_text found.old.undecided.items ++ spec.undecided_by pattern.now (spec.sample_of
+        (map rule_texts old.now) (map rule_texts new.now) pattern.now)
+        (spec.agree (map rule_texts old.now) (map rule_texts new.now) pattern.now)) }
+{
+    match sample_of(alloc, old, new, pattern)? {
+        Some(device) => found.shown.push(Sample { pattern, device })?,
+        None => {
+            if !agree(alloc, old, new, pattern)? {
+                found.undecided.push(pattern)?;
+            }
+        }
+    }
+    Ok(())
+}
+
+/// Looks for a sample of a pattern, among rules of which some may match its devices.
 fn examine<'t>(
     alloc: Global,
     old: &[Rule<'t>],
@@ -69,17 +101,48 @@ fn examine<'t>(
     pattern: &'t [u8],
     found: &mut Samples<'t>,
 ) -> Result<(), AllocError>
-    ensures shown { IfOk result (λ _. All (Shows old.now new.now) found.old.shown.items
-        → All (Shows old.now new.now) found.new.shown.items) }
-    ensures settled { IfOk result (λ _. IsSettled old.now new.now found.new pattern.now) }
-    ensures still { IfOk result (λ _. (other : List ℕ) → IsSettled old.now new.now found.old other
-        → IsSettled old.now new.now found.new other) }
+    ensures shown { OnOk result (map sample_texts found.new.shown.items
+        ≡ map sample_texts found.old.shown.items
+        ++ spec.shown_of (map rule_texts old.now) (map rule_texts new.now) pattern.now) }
+    ensures undecided { OnOk result (map own_text found.new.undecided.items
+        ≡ map own_text found.old.undecided.items
+        ++ spec.undecided_of (map rule_texts old.now) (map rule_texts new.now) pattern.now) }
 {
-    if let Some(sample) = sample_of(alloc, old, new, pattern)? {
-        found.shown.push(sample)?;
-    } else if !agree(alloc, old, new, pattern)? {
-        found.undecided.push(pattern)?;
+    let before = near(alloc, pattern, old)?;
+    let after = near(alloc, pattern, new)?;
+    look_for(alloc, &before, &after, pattern, found)?;
+    Ok(())
+}
+
+/// Looks for a sample of a pattern, among the rules of the last level if this is of the pattern, or among all.
+fn examine_at<'t>(
+    alloc: Global,
+    rules: OldNew<'_, 't>,
+    pattern: &'t [u8],
+    levels: &[Level<'t>],
+    found: &mut Samples<'t>,
+) -> Result<(), AllocError>
+    requires { AreLevels (map rule_texts rules.old.now) (map rule_texts rules.new.now)
+        levels.now }
+    ensures shown { OnOk result (map sample_texts found.new.shown.items
+        ≡ map sample_texts found.old.shown.items
+        ++ spec.shown_of (map rule_texts rules.entry.old.now)
+        (map rule_texts rules.entry.new.now) pattern.now) }
+    ensures undecided { OnOk result (map own_text found.new.undecided.items
+        ≡ map own_text found.old.undecided.items
+        ++ spec.undecided_of (map rule_texts rules.entry.old.now)
+        (map rule_texts rules.entry.new.now) pattern.now) }
+{
+    if levels.is_empty() {
+        examine(alloc, rules.old, rules.new, pattern, found)?;
+        return Ok(());
     }
+    let last = &levels[levels.len() - 1];
+    if begins_with(pattern, last.front) {
+        examine(alloc, &last.old, &last.new, pattern, found)?;
+        return Ok(());
+    }
+    examine(alloc, rules.old, rules.new, pattern, found)?;
     Ok(())
 }
 
@@ -91,23 +154,18 @@ pub fn samples_of<'t>(
     old: &[Rule<'t>],
     new: &[Rule<'t>],
 ) -> Result<Samples<'t>, AllocError>
-    ensures shown { IfOk result (λ found. All (Shows old.now new.now) found.shown.items) }
-    ensures complete { IfOk result (λ found. found.shown.items ≡ [] → found.undecided.items ≡ []
-        → (device : List ℕ) → IsSame old.now new.now device) }
-    ensures removed { IfOk result (λ found. (pattern value : List ℕ)
-        → HasRule old.now pattern value
-        → HasRule new.now pattern value ⊎ IsSettled old.now new.now found pattern) }
-    ensures added { IfOk result (λ found. (pattern value : List ℕ)
-        → HasRule new.now pattern value
-        → HasRule old.now pattern value ⊎ IsSettled old.now new.now found pattern) }
+    ensures { IfOk result (λ found. found_shown found
+        ≡ spec.samples_of (map rule_texts old.now) (map rule_texts new.now)) }
 {
     let mut found = Samples {
         shown: Vec::new(alloc),
         undecided: Vec::new(alloc),
     };
     let patterns = changed(alloc, old, new)?;
+    let mut levels = Vec::new(alloc);
     for pattern in &patterns {
-        examine(alloc, old, new, pattern, &mut found)?;
+        deepen(alloc, old, new, *pattern, &mut levels)?;
+        examine_at(alloc, OldNew { old, new }, *pattern, &levels, &mut found)?;
     }
     Ok(found)
 }

@@ -1,12 +1,11 @@
 -- How `diff` tells changes: of assignments by record, a line for each, or as JSON; for a device, as text or JSON. Our choice.
-use Rattle.std.specs.Prelude.{◌++◌, Bool, true, false, List, ℕ, [], ◌∷◌, None, Option, Some, codes, flat_map, if◌then◌else◌, map}
+use Rattle.std.specs.Prelude.{Bool, true, false, List, ℕ, [], ◌∷◌, codes, flat_map, map}
 use Rattle.json.specs.Json.{Json}
 use Rattle.hwdb_spec.specs.Assignment.{Assignment}
-use Rattle.hwdb_spec.specs.Folders.{same}
-use Rattle.hwdb_spec.specs.Lines.{byte}
-use Rattle.hwdb_spec_commands.specs.DeviceDifferences.{device_changes_text, told_change}
+use Rattle.hwdb_spec_commands.specs.DeviceDifferences.{device_changes_text}
 use Rattle.hwdb_spec_commands.specs.Differences.{Change, changes_text}
 use Rattle.hwdb_spec_commands.specs.Differences.Change.{Came, Went, Changed}
+use Rattle.hwdb_spec_commands.specs.Renamed.{changed_pattern, grouped_text}
 use Rattle.hwdb_spec_commands.specs.Json.{array_of, json_line, number_json, object_of, text_json}
 
 -- ---- JSON
@@ -21,12 +20,6 @@ change_members (Came new) = (codes "change", text_json (codes "added")) ∷ (cod
 change_members (Went old) = (codes "change", text_json (codes "removed")) ∷ (codes "key", text_json old.position.key) ∷ (codes "old", given_json old) ∷ []
 change_members (Changed old new) =
     (codes "change", text_json (codes "changed")) ∷ (codes "key", text_json old.position.key) ∷ (codes "old", given_json old) ∷ (codes "new", given_json new) ∷ []
-
--- the pattern of a change
-abbrev pub changed_pattern : Change → List ℕ
-changed_pattern (Came new) = new.position.pattern
-changed_pattern (Went old) = old.position.pattern
-changed_pattern (Changed old new) = old.position.pattern
 
 -- a change as an object: its pattern, and what happened
 abbrev pub whole_object : Change → Json
@@ -44,24 +37,10 @@ device_changes_json device (change ∷ more) =
 
 -- ---- what is printed
 
--- a pattern on a line
-abbrev pub pattern_line : (pattern : List ℕ) → List ℕ
-pattern_line pattern = pattern ++ byte "\n" ∷ []
-
--- the same, if the change before hasn't the same pattern
-abbrev pub heading : (last : Option (List ℕ)) → (pattern : List ℕ) → List ℕ
-heading None pattern = pattern_line pattern
-heading (Some last) pattern = if same last pattern then [] else pattern_line pattern
-
--- changes by record, after one of this pattern: each pattern once, and below it a line for each change
-unfoldable pub grouped_after : (last : Option (List ℕ)) → List Change → List ℕ
-grouped_after last [] = []
-grouped_after last (c ∷ more) = heading last (changed_pattern c) ++ (told_change c ++ grouped_after (Some (changed_pattern c)) more)
-
 -- the changes of assignments as text: by record, or a line for each
 abbrev pub changes_lines : (lines : Bool) → List Change → List ℕ
 changes_lines true changes = changes_text changes
-changes_lines false changes = grouped_after None changes
+changes_lines false changes = grouped_text changes
 
 -- the same, or as JSON
 abbrev pub changes_form : (json lines : Bool) → List Change → List ℕ

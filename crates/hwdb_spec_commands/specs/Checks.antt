@@ -1,5 +1,6 @@
 -- What `check` prints of text files and rules files, how much it finds in them, and its status. Our choice.
-use Rattle.std.specs.Prelude.{Bool, true, false, ℕ, List, Option, None, Some, [], ◌∷◌, ◌++◌, ◌+◌, ◌-◌, ◌^◌, ◌==◌, if◌then◌else◌, codes, filter, flat_map, length, nat_lt, not}
+use Rattle.std.specs.List.{list_any}
+use Rattle.std.specs.Prelude.{Bool, true, false, ℕ, List, Option, None, Some, [], ◌∷◌, ◌++◌, ◌+◌, ◌-◌, ◌^◌, ◌==◌, ◌||◌, if◌then◌else◌, codes, filter, flat_map, length, nat_lt, not}
 use Rattle.std.specs.Fmt.{decimal}
 use Rattle.hwdb_spec.specs.Lines.{byte}
 use Rattle.hwdb_spec.specs.Records.{assignments}
@@ -124,3 +125,22 @@ names_nothing (Some name) files = not (any_dash files)
 -- what an error says then
 abbrev pub nothing_named : List ℕ
 nothing_named = codes "--name names standard input: give - as FILE"
+
+-- ---- `--rules`
+-- a path is no rules file's, and not standard input
+abbrev pub is_other : (path : List ℕ) → Bool
+is_other path = if is_dash path then false else not (is_rules path)
+
+-- one of the files is no rules file, or the name that is given for standard input is none's
+abbrev pub names_other : (name : Option (List ℕ)) (files : List (List ℕ)) → Bool
+names_other None files = list_any is_other files
+names_other (Some name) files = list_any is_other files || not (is_rules name)
+
+-- what an error says then
+abbrev pub other_named : List ℕ
+other_named = codes "--rules takes rules files alone: FILE and the NAME of --name end in .rules, and - is standard input"
+
+-- the name of standard input as a rules file: the one that is given, or one of ours if a file is that
+abbrev pub rules_name : (name : Option (List ℕ)) (files : List (List ℕ)) → Option (List ℕ)
+rules_name None files = if any_dash files then Some (codes "standard-input.rules") else None
+rules_name (Some name) files = Some name

@@ -102,6 +102,10 @@ format_rule = record (new_rule (codes "format")) { value_names = 1; long = Some 
 abbrev pub diff_rule : Rule
 diff_rule = record (new_rule (codes "diff")) { long = Some (codes "diff"); action = Some SetTrue }
 
+-- `--samples`
+abbrev pub samples_rule : Rule
+samples_rule = record (new_rule (codes "samples")) { long = Some (codes "samples"); action = Some SetTrue }
+
 -- `--baseline`, with a path
 abbrev pub baseline_rule : Rule
 baseline_rule = record (new_rule (codes "baseline")) { value_names = 1; long = Some (codes "baseline"); action = Some Set }
@@ -109,6 +113,10 @@ baseline_rule = record (new_rule (codes "baseline")) { value_names = 1; long = S
 -- `--name`, with a path
 abbrev pub name_rule : Rule
 name_rule = record (new_rule (codes "name")) { value_names = 1; long = Some (codes "name"); action = Some Set }
+
+-- `--rules`
+abbrev pub rules_rule : Rule
+rules_rule = record (new_rule (codes "rules")) { long = Some (codes "rules"); action = Some SetTrue }
 
 -- `--json`
 abbrev pub json_rule : Rule
@@ -199,7 +207,8 @@ device_app =
 -- `check`
 abbrev pub check_app : App
 check_app =
-    with_rule (with_rule (with_rule (with_rule (with_rule (with_rule (with_rule (with_shared (new_app (codes "check"))) allow_rule) baseline_rule) name_rule) diff_rule) format_rule) json_rule) files_rule
+    with_rule (with_rule (with_rule (with_rule (with_rule (with_rule (with_rule (with_rule (with_shared (new_app (codes "check"))) rules_rule) allow_rule) baseline_rule) name_rule) diff_rule) format_rule) json_rule)
+    files_rule
 
 -- `test`
 abbrev pub test_app : App
@@ -216,7 +225,8 @@ with_review app = with_rule (with_rule (with_rule (with_choice (with_rule app ve
 
 -- `diff`
 abbrev pub diff_app : App
-diff_app = with_rule (with_rule (with_review (with_rule (with_shared (new_app (codes "diff"))) devices_option_rule)) old_database_rule) new_database_rule
+diff_app =
+    with_rule (with_rule (with_review (with_rule (with_rule (with_shared (new_app (codes "diff"))) devices_option_rule) samples_rule)) old_database_rule) new_database_rule
 
 -- `verify`
 abbrev pub verify_app : App

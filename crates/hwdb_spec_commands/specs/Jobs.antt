@@ -43,6 +43,7 @@ review_of rows = record {
   stat = has_flag (codes "stat") rows;
   lines = asks_lines (first_of (codes "format") rows);
   verbose = has_flag (codes "verbose") rows;
+  samples = has_flag (codes "samples") rows;
   only = unwrap_or (all_of (codes "only") rows) [];
   without = unwrap_or (all_of (codes "not") rows) [];
   prefixes = unwrap_or (all_of (codes "prefix") rows) [];
@@ -63,7 +64,7 @@ IsTask name inner (Device d) = (name ≡ codes "device") × (option_map string_b
 IsTask name inner (Check c) = (name ≡ codes "check") × AreAnyValues (codes "FILE") inner (map string_bytes c.files.items)
     × AreAnyValues (codes "allow") inner (map string_bytes c.allowed.items) × (c.json ≡ has_flag (codes "json") inner)
     × (option_map string_bytes c.format ≡ first_of (codes "format") inner) × (option_map string_bytes c.name ≡ first_of (codes "name") inner)
-    × (option_map string_bytes c.baseline ≡ first_of (codes "baseline") inner) × (c.diff ≡ has_flag (codes "diff") inner)
+    × (option_map string_bytes c.baseline ≡ first_of (codes "baseline") inner) × (c.diff ≡ has_flag (codes "diff") inner) × (c.rules ≡ has_flag (codes "rules") inner)
 IsTask name inner (Test t) = (name ≡ codes "test") × (has_flag (codes "record") inner ≡ false) × (t.json ≡ has_flag (codes "json") inner) × (option_map string_bytes t.database ≡ first_of (codes "database") inner)
     × AreValues (codes "FILE") inner (map string_bytes t.files.items)
 IsTask name inner (Record r) = (name ≡ codes "test") × (has_flag (codes "record") inner ≡ true) × (r.json ≡ has_flag (codes "json") inner) × (option_map string_bytes r.database ≡ first_of (codes "database") inner)

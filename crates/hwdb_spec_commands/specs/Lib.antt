@@ -28,10 +28,16 @@ pub mod Progress
 pub mod ManyDevices
 pub mod Reloads
 pub mod Reviews
+pub mod Renamed
 pub mod ChangeForms
 pub mod Unmet
 pub mod ChangeCounts
 pub mod Comparisons
+pub mod SampleRules
+pub mod SampleTexts
+pub mod Overlaps
+pub mod SamplesFound
+pub mod SampleDevices
 pub mod LoneFile
 pub mod Databases
 pub mod Sysfs
@@ -43,6 +49,7 @@ pub mod LeftOut
 pub mod Asked
 pub mod Commands
 pub mod Ignored
+pub mod RulePaths
 pub mod Status
 pub mod Done
 pub mod FirstParts

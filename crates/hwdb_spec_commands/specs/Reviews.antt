@@ -13,13 +13,14 @@ use Rattle.hwdb_spec_commands.specs.Differences.Change.{Came, Went, Changed}
 use Rattle.hwdb_spec_commands.specs.Sides.{file_name, given_front}
 use Rattle.hwdb_spec_commands.specs.declared.args.ReviewArgs.{ReviewArgs}
 
--- whether as JSON, as counts, with a line of its own for each change, and with the changes that no device meets; the globs of files that count,
--- and of those that don't; and what patterns that count begin with
+-- whether as JSON, as counts, with a line of its own for each change, with the changes that no device meets, and of devices made of patterns;
+-- the globs of files that count, and of those that don't; and what patterns that count begin with
 pub record Review : Type 0 where
   pub json : Bool
   pub stat : Bool
   pub lines : Bool
   pub verbose : Bool
+  pub samples : Bool
   pub only : List (List ℕ)
   pub without : List (List ℕ)
   pub prefixes : List (List ℕ)
@@ -35,6 +36,7 @@ review_in r = record {
   stat = r.stat;
   lines = asks_lines (option_map string_bytes r.format);
   verbose = r.verbose;
+  samples = r.samples;
   only = map string_bytes r.only.items;
   without = map string_bytes r.without.items;
   prefixes = map string_bytes r.prefixes.items;

@@ -1,11 +1,14 @@
 -- What a file system tells of what it is asked, and why a run ends with an error, as data. Our choice.
-use Rattle.std.specs.Prelude.{◌≡◌, ◌≤◌, ◌<◌, ◌⊎◌, ℕ, Bool, List, None, Option, Some, Result, Ok, Err, MatchResult, IfSome, false, is_some, length, true}
+use Rattle.std.specs.Prelude.{◌≡◌, ◌≤◌, ◌<◌, ◌⊎◌, ℕ, Bool, List, None, Option, Some, Result, Ok, Err, MatchResult, IfSome, false, filter, find, is_some, length, not, true}
 use Rattle.std.specs.Str.{is_utf8}
 use Rattle.hwdb_spec.specs.Store.{Contents, path_in}
 use Rattle.hwdb_spec.specs.System.{AreNamesIn, bytes_at}
 use Rattle.hwdb_spec.specs.Texts.{max_file}
 use Rattle.hwdb_spec_commands.specs.Ignored.{AreIgnoredIn, text_folder}
+use Rattle.hwdb_rulefiles.specs.RuleFolders.{counts}
+use Rattle.hwdb_rulefiles.specs.declared.choice.Folder.{Folder}
 use Rattle.hwdb_spec_commands.specs.Reading.{IsFolderAt}
+use Rattle.hwdb_spec_commands.specs.RulePaths.{rules_folder}
 use Rattle.hwdb_spec_commands.specs.Refusals.{IsUnreadable}
 use Rattle.hwdb_spec.specs.declared.causes.Cause.{Cause}
 use Rattle.hwdb_spec.specs.declared.causes.Cause.TheVariants as why
@@ -30,6 +33,24 @@ pub record Reads : Type 0 where
   pub names : (folder : List ℕ) → Result (List (List ℕ)) Unlisted
   pub folder : (path : List ℕ) → Result (Option (List (List ℕ))) Unlisted
   pub ignored : (folder : List ℕ) → Result (List (List ℕ)) Unread
+
+-- the first name that isn't UTF-8
+abbrev pub first_misnamed : (names : List (List ℕ)) → Option (List ℕ)
+first_misnamed names = find (λ name. not (is_utf8 name)) names
+
+-- some names, or the one of them that isn't UTF-8
+abbrev pub unless_misnamed : (misnamed : Option (List ℕ)) (names : List (List ℕ)) → Result (List (List ℕ)) Unlisted
+unless_misnamed None names = Ok names
+unless_misnamed (Some name) names = Err (Misnamed name)
+
+-- the names of a listing, in its order, or the first of them that isn't UTF-8
+abbrev pub names_told : (names : List (List ℕ)) → Result (List (List ℕ)) Unlisted
+names_told names = unless_misnamed (first_misnamed names) names
+
+-- the names of a folder's rules files, by what is told of its ignored files (udev(7))
+abbrev pub rules_told : (ignored : Result (List (List ℕ)) Unread) → Result (List (List ℕ)) Unlisted
+rules_told (Ok names) = names_told (filter counts names)
+rules_told (Err w) = Err (Unopened w)
 
 -- why a run ends with an error: a call failed, or it did over a path; no database is there; or what these words say
 pub data Stop : Type 0 where
@@ -94,6 +115,10 @@ IsSoOfFolder Long MayFail folder (Misnamed name) = MayFail (path_in folder name)
 abbrev pub IsSoOfTexts : Contents → (MayFail : (path : List ℕ) → Type 0) (usr : Bool) (root : List ℕ) → Unlisted → Type 0
 IsSoOfTexts seen MayFail usr root u = IsSoOfFolder (IfSome (bytes_at seen (text_folder usr root)) (λ bytes. max_file < length bytes)) MayFail (text_folder usr root) u
 
+-- the same of a folder of rules files
+abbrev pub IsSoOfRules : Contents → (MayFail : (path : List ℕ) → Type 0) (root : List ℕ) → Folder → Unlisted → Type 0
+IsSoOfRules seen MayFail root f u = IsSoOfFolder (IfSome (bytes_at seen (rules_folder root f)) (λ bytes. max_file < length bytes)) MayFail (rules_folder root f) u
+
 -- what is told of each path is what is there, and of what isn't told the reason is so
 pub record AreReadsOf (reads : Reads) (seen : Contents) (MayFail : (path : List ℕ) → Type 0) : Type 0 where
   pub input : (path bytes : List ℕ) → reads.input path ≡ Ok bytes → (bytes_at seen path ≡ Some bytes) × (length bytes ≤ max_file)
@@ -108,3 +133,6 @@ pub record AreReadsOf (reads : Reads) (seen : Contents) (MayFail : (path : List 
   pub no_folder : (path : List ℕ) (u : Unlisted) → reads.folder path ≡ Err u → IsSoOfFolder (bytes_at seen path ≡ None) MayFail path u
   pub ignored : (usr : Bool) (root : List ℕ) (names : List (List ℕ)) → reads.ignored (text_folder usr root) ≡ Ok names → AreIgnoredIn (text_folder usr root) seen names
   pub no_ignored : (usr : Bool) (root : List ℕ) (w : Unread) → reads.ignored (text_folder usr root) ≡ Err w → IsSoOfTexts seen MayFail usr root (Unopened w)
+  -- a folder of rules files is one, too
+  pub rules : (root : List ℕ) (f : Folder) (names : List (List ℕ)) → reads.ignored (rules_folder root f) ≡ Ok names → AreIgnoredIn (rules_folder root f) seen names
+  pub no_rules : (root : List ℕ) (f : Folder) (w : Unread) → reads.ignored (rules_folder root f) ≡ Err w → IsSoOfRules seen MayFail root f (Unopened w)

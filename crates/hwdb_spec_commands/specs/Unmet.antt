@@ -9,7 +9,8 @@ use Rattle.hwdb_spec.specs.Assignment.{Assignment}
 use Rattle.hwdb_spec.specs.Explanations.{explained}
 use Rattle.hwdb_spec.specs.Folders.{same}
 use Rattle.hwdb_spec.specs.Tree.{Tree, answers}
-use Rattle.hwdb_spec_commands.specs.ChangeForms.{changed_pattern, whole_object}
+use Rattle.hwdb_spec_commands.specs.ChangeForms.{whole_object}
+use Rattle.hwdb_spec_commands.specs.Renamed.{changed_pattern}
 use Rattle.hwdb_spec_commands.specs.Differences.{Change, changes_text}
 use Rattle.hwdb_spec_commands.specs.Json.{array_of, json_line, number_json, object_of}
 use Rattle.hwdb_spec_commands.specs.Reviews.{Review}

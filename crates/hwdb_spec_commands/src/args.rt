@@ -54,8 +54,10 @@ pub struct ListArgs {
 /// What the words of `check` ask for.
 #[derive(Debug, Drop)]
 pub struct CheckArgs {
-    /// The text files' paths; none if both folders are meant.
+    /// The files' paths; none if the folders of text files are meant, or those of rules files.
     pub files: Vec<String>,
+    /// Whether rules files are checked, and no text files.
+    pub rules: bool,
     /// The names of the kinds of warnings that are left out.
     pub allowed: Vec<String>,
     /// Whether as JSON.
@@ -146,6 +148,8 @@ pub struct ReviewArgs {
     pub format: Option<String>,
     /// Whether the changes that no device meets are told.
     pub verbose: bool,
+    /// Whether devices are made of the patterns of both sides.
+    pub samples: bool,
     /// The globs of the files that count; none if all do.
     pub only: Vec<String>,
     /// The globs of files that don't.

@@ -34,10 +34,16 @@
 //! | `ManyDevices` | what `explain` prints of several devices, and a line of devices that is too long |
 //! | `Reloads` | what `query --reload -` says of a database that came in another one's place |
 //! | `Reviews` | how `diff` is asked to compare: its form, and which changes count, by file and by pattern |
+//! | `Renamed` | changes by record, and a record whose patterns alone changed |
 //! | `ChangeForms` | how `diff` tells changes: by record, a line for each, or as JSON |
 //! | `Unmet` | what `diff --devices` says of the changes that its devices don't meet |
 //! | `ChangeCounts` | how many changes there are, by file and by key, and what `diff --stat` prints of that |
 //! | `Comparisons` | what `diff` compares, and what it prints, as text or JSON |
+//! | `SampleRules` | what rules of one key give devices, and what shows that two sides differ |
+//! | `SampleTexts` | a short text that a pattern matches |
+//! | `Overlaps` | whether patterns are seen to match no text both, or one all that the other does |
+//! | `SamplesFound` | the samples of two sides: devices made of patterns, to which the two give something else |
+//! | `SampleDevices` | the devices that `diff --samples` asks about, and what it says of undecided patterns |
 //! | `LoneFile` | one text file alone, as `ask` reads it and `dump` writes it |
 //! | `Databases` | what bytes of databases give, and what is so of bytes that are none |
 //! | `Sysfs` | what sysfs holds of a device and its parents, and how udev reads it |
@@ -49,6 +55,7 @@
 //! | `Asked` | the database that a command asks for, and what is printed of it |
 //! | `Commands` | commands that are told, and how their words are quoted for a shell |
 //! | `Ignored` | which files of the folders of text files are none, by their names |
+//! | `RulePaths` | where udev's rules files are |
 //! | `Status` | what `status` says of the database that is asked, beside what the text files make |
 //! | `Done` | what `update` and `ask` leave, and what a crash leaves during an update |
 //! | `FirstParts` | strings whose first part may be left out |

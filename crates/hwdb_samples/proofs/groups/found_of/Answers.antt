@@ -1,16 +1,10 @@
-use Rattle.std.proofs.Common.{List, subst}
-use Rattle.hwdb_samples.specs.Keys.{IsFound}
+use Rattle.std.proofs.Common.{List, ap, map, ◌∙◌}
+use Rattle.hwdb_spec_commands.specs.SamplesFound.{samples_of}
+use Rattle.hwdb_samples.specs.Views.{rule_texts}
 use Rattle.hwdb_samples.specs.declared.rules.Rule.{Rule}
 use Rattle.hwdb_samples.proofs.groups.found_of.Goals as goal
 
 pub returns-clause-found : goal.returns-clause-found
 returns-clause-found c =
-    let found = c.in_ok-found.found in
-    let whole : IsFound c.deref.result.now c.deref-2.result.now found = record {
-      shown = c.in_ok-found.ensures.shown;
-      complete = c.in_ok-found.ensures.complete;
-      removed = c.in_ok-found.ensures.removed;
-      added = c.in_ok-found.ensures.added;
-    } in
-    subst (λ (l : List Rule). IsFound l c.args.sides.now.after.items found) c.deref.ensures.value
-    (subst (λ (l : List Rule). IsFound c.deref.result.now l found) c.deref-2.ensures.value whole)
+    c.in_ok-found.ensures ∙ ap (λ (l : List Rule). samples_of (map rule_texts l) (map rule_texts c.deref-2.result.now)) c.deref.ensures.value
+    ∙ ap (λ (l : List Rule). samples_of (map rule_texts c.args.sides.now.before.items) (map rule_texts l)) c.deref-2.ensures.value

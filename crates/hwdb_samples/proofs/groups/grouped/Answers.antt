@@ -1,5 +1,5 @@
 use Rattle.std.proofs.Common.{[]}
-use Rattle.hwdb_samples.specs.Keys.{rules_at}
+use Rattle.hwdb_samples.specs.Groups.{rules_at}
 use Rattle.hwdb_samples.proofs.GroupLemmas.{none_at}
 use Rattle.hwdb_samples.proofs.groups.grouped.Goals as goal
 

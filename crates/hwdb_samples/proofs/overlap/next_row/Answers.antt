@@ -16,9 +16,9 @@ loop-at-preserved c =
       within = omega (arith, le);
       size = length-set _ _ _ ∙ size;
       done =
-          row_next c.args.row.now c.loop-at.next.items _ (map token_of c.args.under.now) (token_at c.args.over.now) _ (i + 1) i c.cell.result refl (omega (arith, le, back, texts)) (c.requires ∙ ap suc (sym texts)) (size ∙ ap suc (sym texts)) refl
+          row_next c.args.row.now c.loop-at.next.items _ (map token_of c.args.under.now) (token_at c.args.over.now) _ (i + 1) i c.cell.result refl (omega (arith, le, back, texts)) (size ∙ ap suc (sym texts)) refl
           (dropped_token c.args.under.now i (i + 1) _ _ refl (omega (arith, le, back)) refl)
-          (λ us qs a b n. c.cell.ensures us qs a b (λ x. n (sym (own_value c.loop-at.next.items (i + 1) c.index.result.now false (omega (arith, size, le, back)) c.index.ensures) ∙ x)))
+          (λ us qs a b n. c.cell.ensures us qs a b (own_value c.loop-at.next.items (i + 1) c.index.result.now false (omega (arith, size, le, back)) c.index.ensures ∙ n))
           (subst (λ (n : ℕ). RowSoFar c.args.row.now c.loop-at.next.items (map token_of c.args.under.now) (token_at c.args.over.now) n) (sym back) c.loop-at.invariant.done);
     }
 

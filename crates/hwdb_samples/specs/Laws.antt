@@ -1,0 +1,39 @@
+-- What samples say of two sides.
+use Rattle.std.specs.Prelude.{List, ℕ, [], ◌≡◌, ◌⊎◌}
+use Rattle.std.specs.List.{AllByRecursion}
+use Rattle.hwdb_spec.specs.Assignment.{Assignment}
+use Rattle.hwdb_spec_commands.specs.SamplesFound.{Found, samples_by_key, samples_of}
+use Rattle.hwdb_samples.specs.Keys.{keyed_rules, properties}
+use Rattle.hwdb_spec_commands.specs.SampleRules.{AgreeOn, HasRule, HasSample, HasText, IsSame, RuleTexts, Shows}
+
+-- A pattern is settled: two sides give each device that it matches the same, or a sample of it shows that they don't, or it is told
+-- as undecided.
+abbrev pub IsSettled : (old new : List RuleTexts) → Found → List ℕ → Type 0
+IsSettled old new found pattern = AgreeOn old new pattern ⊎ (HasSample found.shown pattern ⊎ HasText found.undecided pattern)
+
+-- Each sample is a device that its pattern matches, and that two sides give something else.
+abbrev pub SamplesShow : Type 0
+SamplesShow = (old new : List RuleTexts) → AllByRecursion (Shows old new) (samples_of old new).shown
+
+-- If nothing is shown and nothing is undecided, two sides give each device the same.
+abbrev pub NothingIsSame : Type 0
+NothingIsSame =
+    (old new : List RuleTexts) → (samples_of old new).shown ≡ [] → (samples_of old new).undecided ≡ [] → (device : List ℕ) → IsSame old new device
+
+-- The pattern of each rule that one side alone has is settled.
+abbrev pub RemovedAreSettled : Type 0
+RemovedAreSettled =
+    (old new : List RuleTexts) (pattern value : List ℕ) → HasRule old pattern value → HasRule new pattern value ⊎ IsSettled old new (samples_of old new) pattern
+
+abbrev pub AddedAreSettled : Type 0
+AddedAreSettled =
+    (old new : List RuleTexts) (pattern value : List ℕ) → HasRule new pattern value → HasRule old pattern value ⊎ IsSettled old new (samples_of old new) pattern
+
+-- nothing is shown of a key, and nothing is undecided
+abbrev pub IsNothing : List ℕ × Found → Type 0
+IsNothing s = (s.1.shown ≡ []) × (s.1.undecided ≡ [])
+
+-- If nothing is shown of any key and nothing is undecided, both sides give each device the same keys and values.
+abbrev pub NothingIsSameOfAll : Type 0
+NothingIsSameOfAll =
+    (old new : List Assignment) → AllByRecursion IsNothing (samples_by_key (keyed_rules old) (keyed_rules new)) → (device : List ℕ) → properties device old ≡ properties device new
