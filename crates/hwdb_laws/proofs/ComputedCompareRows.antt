@@ -1,5 +1,5 @@
 -- The rows, computed.
-use Rattle.hwdb_laws.specs.CompareRows.{AmountRows, ChangeRows, ChosenRows, DeviceTextRows, FirstDeviceRows, GivenRows, LastDeviceRows, NamedRows, PassRows, PatternRows, RecordRows, SameRows, SecondDeviceRows, StaleRows, StatusRows, TextRows, UnmetRows, WhichRows}
+use Rattle.hwdb_laws.specs.CompareRows.{AmountRows, ChangeRows, ChosenRows, DeviceTextRows, FirstDeviceRows, GivenRows, LastDeviceRows, NamedRows, PassRows, PatternRows, RecordRows, RenamedRows, SameRows, SecondDeviceRows, StaleRows, StatusRows, TextRows, UnmetRows, WhichRows}
 use Rattle.hex.specs.Hex.{encode_with}
 use Rattle.hwdb_spec.specs.Answers.{effective_of, is_after, last_assignments, last_matching, last_of_each, last_value}
 use Rattle.hwdb_spec.specs.Assignment.{ascending, assignment_cmp, position_cmp, put, put_all}
@@ -24,7 +24,8 @@ use Rattle.std.specs.Str.{chars, is_utf8}
 use Rattle.hwdb_laws.proofs.MapLemmas.{Entry, differences_built, entries_built}
 use Rattle.hwdb_laws.specs.CompareRows.{as_counts, as_json, by_record, choosing, new_tree, of_usr, old_tree, plainly, some_devices, telling}
 use Rattle.hwdb_spec_commands.specs.ChangeCounts.{counted, no_stat, stat_form, with_changes, with_devices, with_told}
-use Rattle.hwdb_spec_commands.specs.ChangeForms.{changes_form, device_changes_form, grouped_after}
+use Rattle.hwdb_spec_commands.specs.ChangeForms.{changes_form, device_changes_form}
+use Rattle.hwdb_spec_commands.specs.Renamed.{any_went, first_came, groups, properties}
 use Rattle.hwdb_spec_commands.specs.Reviews.{Review, reviewed}
 use Rattle.hwdb_spec_commands.specs.Sides.{file_name}
 use Rattle.hwdb_spec_commands.specs.Unmet.{unmet_end, unmet_said}
@@ -85,8 +86,12 @@ text_rows =
     ∙ refl
 
 pub record_rows : RecordRows
-unfolding pieces numbered trimmed first_section sections_from behind records_from tokens_from token_at item_at items_from bracket_at classes nodes nodes_of depth depth_of explained first_of once last_up_to first_up_to some_up_to values_under values_below ascending put put_all assignment_cmp position_cmp matches some_ending byte_then piece_then visible_after is_utf8 chars encode_utf8 digits encode_with items_of members_of escaped_after escape_byte print_from answers effective_of last_of_each last_value last_matching last_assignments is_after answers_after prefix_of values_of with_empty_lines dumped is_said file_name grouped_after
+unfolding pieces numbered trimmed first_section sections_from behind records_from tokens_from token_at item_at items_from bracket_at classes nodes nodes_of depth depth_of explained first_of once last_up_to first_up_to some_up_to values_under values_below ascending put put_all assignment_cmp position_cmp matches some_ending byte_then piece_then visible_after is_utf8 chars encode_utf8 digits encode_with items_of members_of escaped_after escape_byte print_from answers effective_of last_of_each last_value last_matching last_assignments is_after answers_after prefix_of values_of with_empty_lines dumped is_said file_name groups properties first_came any_went
 record_rows = (λ i. told_all by_record (change_rows i) ∷ told_all by_record (no_changes i) ∷ [] ∷ []) ∙ refl
+
+pub renamed_rows : RenamedRows
+unfolding groups properties first_came any_went visible_after is_utf8 chars encode_utf8 digits
+renamed_rows = refl
 
 -- what is printed of these three devices
 abbrev told_for : Review → (first last second all : List Change) → List ℕ

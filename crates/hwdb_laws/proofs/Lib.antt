@@ -18,6 +18,7 @@ pub mod ComputedWordRows
 pub mod ComputedDeviceRows
 pub mod ComputedTaskRows
 pub mod ComputedPlanRows
+pub mod ComputedOwnRulesRows
 pub mod ComputedKeyRows
 pub mod PlannedLemmas
 pub mod PlannedErrorLemmas

@@ -84,7 +84,7 @@ FileRows =
 
 -- lines, of patterns that begin so
 abbrev pub of_b : Review
-of_b = record { json = false; stat = false; lines = true; verbose = false; only = []; without = []; prefixes = codes "b" ∷ [] }
+of_b = record { json = false; stat = false; lines = true; verbose = false; samples = false; only = []; without = []; prefixes = codes "b" ∷ [] }
 
 -- The same of these patterns alone.
 abbrev pub ReviewedFileRows : Type 0

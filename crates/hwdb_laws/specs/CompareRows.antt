@@ -6,6 +6,7 @@ use Rattle.hwdb_spec_commands.specs.Comparisons.{comparison_form, comparison_sai
 use Rattle.hwdb_spec_commands.specs.DeviceDifferences.{device_differences}
 use Rattle.hwdb_spec_commands.specs.Differences.{Change, diff_text, differ, differences}
 use Rattle.hwdb_spec_commands.specs.Differences.Change.{Came, Changed, Went}
+use Rattle.hwdb_spec_commands.specs.Renamed.{grouped_text}
 use Rattle.hwdb_spec_commands.specs.Reviews.{Review, change_counts, given_path}
 use Rattle.hwdb_spec.specs.Folders.{Source}
 use Rattle.hwdb_spec_commands.specs.NearAsked.{pattern_of}
@@ -42,27 +43,27 @@ given line pattern key value path = record { position = record { priority = 1; l
 
 -- as text, with nothing chosen
 abbrev pub plainly : Review
-plainly = record { json = false; stat = false; lines = true; verbose = false; only = []; without = []; prefixes = [] }
+plainly = record { json = false; stat = false; lines = true; verbose = false; samples = false; only = []; without = []; prefixes = [] }
 
 -- by record
 abbrev pub by_record : Review
-by_record = record { json = false; stat = false; lines = false; verbose = false; only = []; without = []; prefixes = [] }
+by_record = record { json = false; stat = false; lines = false; verbose = false; samples = false; only = []; without = []; prefixes = [] }
 
 -- as JSON
 abbrev pub as_json : Review
-as_json = record { json = true; stat = false; lines = true; verbose = false; only = []; without = []; prefixes = [] }
+as_json = record { json = true; stat = false; lines = true; verbose = false; samples = false; only = []; without = []; prefixes = [] }
 
 -- as counts, as text or JSON
 abbrev pub as_counts : (json : Bool) → Review
-as_counts json = record { json = json; stat = true; lines = false; verbose = false; only = []; without = []; prefixes = [] }
+as_counts json = record { json = json; stat = true; lines = false; verbose = false; samples = false; only = []; without = []; prefixes = [] }
 
 -- of some files and patterns
 abbrev pub choosing : (only without prefixes : List (List ℕ)) → Review
-choosing only without prefixes = record { json = false; stat = false; lines = true; verbose = false; only = only; without = without; prefixes = prefixes }
+choosing only without prefixes = record { json = false; stat = false; lines = true; verbose = false; samples = false; only = only; without = without; prefixes = prefixes }
 
 -- with the changes that aren't met
 abbrev pub telling : (json : Bool) → Review
-telling json = record { json = json; stat = false; lines = false; verbose = true; only = []; without = []; prefixes = [] }
+telling json = record { json = json; stat = false; lines = false; verbose = true; samples = false; only = []; without = []; prefixes = [] }
 
 -- what changed: a value, an assignment that went, and one that came
 abbrev pub ChangeRows : Type 0
@@ -118,6 +119,19 @@ abbrev pub RecordRows : Type 0
 RecordRows =
     comparison_form by_record None old_tree new_tree ∷ comparison_form by_record None old_tree old_tree ∷ comparison_said (telling false) None old_tree new_tree ∷ []
     ≡ codes "a*\n~\tK=1\tf:2\tK=2\tf:2\n-\tL=1\tf:3\nb\n+\tK=1\tg:5\n" ∷ [] ∷ [] ∷ []
+
+-- A pattern that went is told with the first that came with its properties, which isn't told again. Another one that came with them is, and so
+-- are a pattern with another value, and one that lost a property alone.
+abbrev pub RenamedRows : Type 0
+RenamedRows =
+    grouped_text (Went (given 2 (codes "a") (codes "K") (codes "1") (codes "f")) ∷ Went (given 3 (codes "a") (codes "L") (codes "2") (codes "f"))
+    ∷ Came (given 5 (codes "b") (codes "K") (codes "1") (codes "g")) ∷ Came (given 6 (codes "b") (codes "L") (codes "2") (codes "g"))
+    ∷ Came (given 8 (codes "c") (codes "K") (codes "1") (codes "g")) ∷ Came (given 9 (codes "c") (codes "L") (codes "2") (codes "g")) ∷ [])
+    ∷ grouped_text (Went (given 2 (codes "a") (codes "K") (codes "1") (codes "f")) ∷ Came (given 5 (codes "b") (codes "K") (codes "2") (codes "g")) ∷ [])
+    ∷ grouped_text (Came (given 5 (codes "a") (codes "K") (codes "1") (codes "g")) ∷ Went (given 2 (codes "b") (codes "K") (codes "1") (codes "f"))
+    ∷ Changed (given 3 (codes "b") (codes "L") (codes "1") (codes "f")) (given 3 (codes "b") (codes "L") (codes "2") (codes "f")) ∷ []) ∷ []
+    ≡ codes "a\n>\tb\tg:5\n=\tK=1\tf:2\n=\tL=2\tf:3\nc\n+\tK=1\tg:8\n+\tL=2\tg:9\n" ∷ codes "a\n-\tK=1\tf:2\nb\n+\tK=2\tg:5\n"
+    ∷ codes "a\n+\tK=1\tg:5\nb\n-\tK=1\tf:2\n~\tL=1\tf:3\tL=2\tf:3\n" ∷ []
 
 -- the devices that are asked
 abbrev pub some_devices : List (List ℕ)

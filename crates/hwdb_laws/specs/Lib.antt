@@ -17,6 +17,7 @@ pub mod WordRows
 pub mod DeviceRows
 pub mod TaskRows
 pub mod PlanRows
+pub mod OwnRulesRows
 pub mod KeyRows
 pub mod PlannedRuns
 pub mod PlannedErrors

@@ -115,7 +115,7 @@ BaselineRows =
 
 -- how changes are counted, and how some are chosen
 abbrev pub counting : Review
-counting = record { json = false; stat = true; lines = false; verbose = false; only = []; without = []; prefixes = [] }
+counting = record { json = false; stat = true; lines = false; verbose = false; samples = false; only = []; without = []; prefixes = [] }
 
 abbrev pub chosen : Review
 chosen = record {
@@ -123,6 +123,7 @@ chosen = record {
   stat = false;
   lines = true;
   verbose = true;
+  samples = false;
   only = codes "6*" ∷ [];
   without = codes "20-*" ∷ codes "30-*" ∷ [];
   prefixes = codes "evdev:" ∷ [];

@@ -35,7 +35,7 @@ abbrev pub list_all : String Global → Task
 list_all device = ListHits (record { after = None; limit = None; device = device; json = false })
 
 abbrev pub check : (files allowed : Vec (String Global) Global) → Task
-check files allowed = Check (record { files = files; allowed = allowed; json = false; format = None; diff = false; name = None; baseline = None })
+check files allowed = Check (record { files = files; rules = false; allowed = allowed; json = false; format = None; diff = false; name = None; baseline = None })
 
 abbrev pub near : Vec (String Global) Global → String Global → Task
 near files device = Near (record { files = files; device = device; limit = None; json = false })
@@ -51,7 +51,7 @@ devices = Device (record { path = None; strings = false; json = false; pattern =
 
 -- globs are no files, whatever they are
 abbrev pub reviewing : (globs : Vec (String Global) Global) → ReviewArgs
-reviewing globs = record { json = false; stat = false; format = None; verbose = false; only = globs; without = globs; prefixes = globs }
+reviewing globs = record { json = false; stat = false; format = None; verbose = false; samples = false; only = globs; without = globs; prefixes = globs }
 
 abbrev pub diff : (old new : String Global) → Vec (String Global) Global → Task
 diff old new given = Diff (record { old = old; new = new; devices = given; review = reviewing given })

@@ -24,6 +24,7 @@
 //! | `DeviceRows` | what `device` prints |
 //! | `TaskRows` | what tasks read, and what `explain --text` says besides |
 //! | `PlanRows` | which plans words ask for |
+//! | `OwnRulesRows` | which rules files `check --rules` reads, and which words it takes |
 //! | `KeyRows` | keys with their codes, and which of them words ask for |
 //!
 //! `rows` shows them. `planned` shows `PlannedRuns` and `PlannedErrors`: two runs with the same words are one, if the words have a plan.
@@ -45,9 +46,9 @@ pub use planned_updates::{planned_runs_keep_files, planned_updates_are_one};
 pub use program_runs::{input_errors_are_so, jobs_are_one, words_end_in_one};
 pub use rows::{
     answer_rows, change_rows, check_rows, colour_rows, compare_rows, device_rows, error_rows,
-    explain_rows, form_rows, key_rows, likely_rows, near_rows, over_text_rows, place_rows,
-    plan_rows, status_rows, sysfs_rows, task_rows, update_rows, verify_rows, wanted_rows,
-    word_rows,
+    explain_rows, form_rows, key_rows, likely_rows, near_rows, over_text_rows, own_rules_rows,
+    place_rows, plan_rows, status_rows, sysfs_rows, task_rows, update_rows, verify_rows,
+    wanted_rows, word_rows,
 };
 pub use shown::{shown_is_plain, shown_rows};
 pub use told::told_is_one;

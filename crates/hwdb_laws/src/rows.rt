@@ -11,6 +11,7 @@ ghost use Rattle.hwdb_laws.specs.FormRows;
 ghost use Rattle.hwdb_laws.specs.KeyRows;
 ghost use Rattle.hwdb_laws.specs.LikelyRows;
 ghost use Rattle.hwdb_laws.specs.OverTextRows;
+ghost use Rattle.hwdb_laws.specs.OwnRulesRows;
 ghost use Rattle.hwdb_laws.specs.PlaceRows;
 ghost use Rattle.hwdb_laws.specs.PlanRows;
 ghost use Rattle.hwdb_laws.specs.SaidRows;
@@ -192,6 +193,7 @@ pub fn compare_rows()
     ensures last_device { CompareRows.LastDeviceRows }
     ensures text { CompareRows.TextRows }
     ensures by_record { CompareRows.RecordRows }
+    ensures renamed { CompareRows.RenamedRows }
     ensures devices { CompareRows.DeviceTextRows }
     ensures status { CompareRows.StatusRows }
     ensures same { CompareRows.SameRows }
@@ -346,6 +348,15 @@ pub fn plan_rows()
     ensures status { PlanRows.StatusRows }
     ensures input { PlanRows.InputRows }
     ensures sysfs { PlanRows.SysfsRows }
+{}
+
+/// Which rules files `check --rules` reads, and which words it takes.
+pub fn own_rules_rows()
+    ensures folders { OwnRulesRows.FolderRows }
+    ensures names { OwnRulesRows.NameRows }
+    ensures fit { OwnRulesRows.FitRows }
+    ensures words { OwnRulesRows.WordRows }
+    ensures read { OwnRulesRows.ReadRows }
 {}
 
 /// Keys with their codes, and which of them words ask for.

@@ -2,7 +2,7 @@
 use Rattle.std.specs.Prelude.{ℕ, List, Result, if◌then◌else◌}
 use Rattle.hwdb_spec.specs.Folders.{Source}
 use Rattle.hwdb_spec.specs.Tree.{Tree}
-use Rattle.hwdb_spec_commands.specs.Comparisons.{comparison_form, comparison_said, devices_named, has_changed}
+use Rattle.hwdb_spec_commands.specs.SampleDevices.{told_changed, told_form, told_said}
 use Rattle.hwdb_spec_commands.specs.Reviews.{Review}
 use Rattle.hwdb_spec.specs.declared.errors.DiffError.{DiffError}
 use Rattle.hwdb_spec.specs.declared.errors.DiffError.TheVariants.{Memory, New, Old}
@@ -18,11 +18,9 @@ use Rattle.hwdb_plan.specs.Plans.Plan.{Decode, Done}
 use Rattle.hwdb_plan.specs.Requests.{Request, told_plan}
 use Rattle.hwdb_plan.specs.Requests.Request.{Alone, OfSide, Texts}
 
--- what is said of two trees, for the devices of some files, or of all that they assign; the status is 1 if something changed
+-- what is said of two trees, for devices that are made or those of some files, or of all that they assign; the status is 1 if something changed
 abbrev pub change_of : Review → List Source → (old new : Tree) → End
-change_of r sources old new =
-    let devices = devices_named sources in
-    Answers (if has_changed r devices old new then 1 else 0) (comparison_said r devices old new) (comparison_form r devices old new)
+change_of r sources old new = Answers (if told_changed r sources old new then 1 else 0) (told_said r sources old new) (told_form r sources old new)
 
 -- two sides' bytes are compared: a fault of the old one is told before one of the new
 abbrev pub compared : (old_path new_path old new : List ℕ) → (say : Tree → Tree → End) → Plan

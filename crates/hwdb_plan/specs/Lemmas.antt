@@ -3,6 +3,7 @@ pub mod Steps
 pub mod Asking
 pub mod Files
 pub mod Folders
+pub mod OwnRules
 pub mod GivenFolders
 pub mod Ends
 pub mod Streams

@@ -6,6 +6,7 @@ pub mod Input
 pub mod Given
 pub mod Files
 pub mod Folders
+pub mod OwnRules
 pub mod GivenFolders
 pub mod Verify
 pub mod Dump

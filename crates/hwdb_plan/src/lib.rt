@@ -13,6 +13,7 @@
 //! | `Given` | what is at a path that words give, or standard input |
 //! | `Files` | files that are read one after another, as the front of a plan |
 //! | `Folders` | the text files of both folders, as the front of a plan |
+//! | `OwnRules` | the machine's own rules files, as the front of a plan |
 //! | `GivenFolders` | what given paths mean: themselves, or the text files of their folders |
 //! | `Verify`, `Dump`, `Test`, `Near`, `Check` | the plans of these commands |
 //! | `Answers` | those of `query` and `explain`, also of devices of standard input |

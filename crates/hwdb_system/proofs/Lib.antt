@@ -7,6 +7,7 @@ pub mod ReasonLemmas
 pub mod RootLemmas
 pub mod SelectionLemmas
 pub mod SelectionPlanLemmas
+pub mod OwnRulesLemmas
 pub mod FirstLemmas
 pub mod RawLemmas
 pub mod EntryLemmas

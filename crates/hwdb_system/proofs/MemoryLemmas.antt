@@ -13,7 +13,7 @@ use Rattle.hwdb_spec.specs.Store.{path_in}
 use Rattle.hwdb_spec.specs.System.{AreNamesIn, bytes_at}
 use Rattle.hwdb_spec.specs.declared.errors.ToolError.TheVariants as error
 use Rattle.hwdb_spec_commands.specs.Ignored.{AreIgnoredIn}
-use Rattle.hwdb_spec_commands.specs.Told.{IsListedTo, IsUnlistedAs, Unlisted, stop_of, unlisted_stop}
+use Rattle.hwdb_spec_commands.specs.Told.{IsListedTo, IsUnlistedAs, Unlisted, first_misnamed, names_told, stop_of, unless_misnamed, unlisted_stop}
 use Rattle.hwdb_spec_commands.specs.Told.Unlisted.{Misnamed}
 use Rattle.hwdb_spec_commands.specs.declared.refusals.Refusal.{Refusal}
 use Rattle.hwdb_spec_commands.specs.declared.refusals.Refusal.TheVariants as refusal
@@ -23,7 +23,6 @@ use Rattle.hwdb_system.specs.Internal.{is_told_file, made_by, name_in, names_aft
 use Rattle.hwdb_system.specs.Lemmas.MemoryNames.{ignored_are, named_in, none_named_in}
 use Rattle.hwdb_system.specs.Lemmas.MemoryReads.{memory_agrees}
 use Rattle.hwdb_system.specs.Raw.{IsMisnamedAt, present}
-use Rattle.hwdb_system.specs.Reads.{first_misnamed, names_told, unless_misnamed}
 
 -- ---- one step
 -- the name after a folder and a slash
@@ -63,11 +62,11 @@ pub put_name : (o : Option (List ℕ)) (name : List ℕ) (old new : List (List �
 put_name o name old new is put = put ∙ ap (λ (x : Option (List ℕ)). old ++ option_to_list x) is
 
 -- ---- one step more
-one_is : (o : Option (List ℕ)) (h : Step → Option (List ℕ)) (x : Step) → h x ≡ o → filter_map h (x ∷ []) ≡ option_to_list o
+one_is : {X : Type 0} (o : Option (List ℕ)) (h : X → Option (List ℕ)) (x : X) → h x ≡ o → filter_map h (x ∷ []) ≡ option_to_list o
 one_is None h x is = rw is refl
 one_is (Some name) h x is = rw is refl
 
-pub names_more : (h : Step → Option (List ℕ)) (xs : List Step) (i : ℕ) (x : Step) (old new : List (List ℕ)) → i < length xs → x ≡ get_or xs i x
+pub names_more : {X : Type 0} (h : X → Option (List ℕ)) (xs : List X) (i : ℕ) (x : X) (old new : List (List ℕ)) → i < length xs → x ≡ get_or xs i x
     → old ≡ filter_map h (take i xs) → new ≡ old ++ option_to_list (h x) → new ≡ filter_map h (take (suc i) xs)
 names_more h xs i x old new lt at told put =
     put ∙ ap (λ (l : List (List ℕ)). l ++ option_to_list (h x)) told
@@ -107,7 +106,7 @@ good_more o old new none utf8 put = ap first_misnamed put ∙ none_before old (o
 one_bad : (name : List ℕ) (after : List (List ℕ)) → is_utf8 name ≡ false → first_misnamed (name ∷ after) ≡ Some name
 one_bad name after none = ap (λ (b : Bool). cond (not b) (Some name) (first_misnamed after)) none
 
-first_bad : (h : Step → Option (List ℕ)) (xs : List Step) (i : ℕ) (x : Step) (name : List ℕ) (old : List (List ℕ)) → i < length xs → x ≡ get_or xs i x
+first_bad : {X : Type 0} (h : X → Option (List ℕ)) (xs : List X) (i : ℕ) (x : X) (name : List ℕ) (old : List (List ℕ)) → i < length xs → x ≡ get_or xs i x
     → old ≡ filter_map h (take i xs) → first_misnamed old ≡ None → h x ≡ Some name → is_utf8 name ≡ false → first_misnamed (filter_map h xs) ≡ Some name
 first_bad h xs i x name old lt at told none is misnamed =
     let rest = filter_map h (drop (suc i) xs) in
@@ -136,7 +135,7 @@ misnamed_as folder name refusal.NoDatabase is = absurd is
 misnamed_as folder name (refusal.InWords text) is = absurd is
 
 -- an error of a step is that of the listing
-pub step_stops : (h : Step → Option (List ℕ)) (folder : List ℕ) (xs : List Step) (i : ℕ) (x : Step) (old : List (List ℕ)) (r : Refusal) → i < length xs → x ≡ get_or xs i x
+pub step_stops : {X : Type 0} (h : X → Option (List ℕ)) (folder : List ℕ) (xs : List X) (i : ℕ) (x : X) (old : List (List ℕ)) (r : Refusal) → i < length xs → x ≡ get_or xs i x
     → old ≡ filter_map h (take i xs) → first_misnamed old ≡ None
     → (r ≡ refusal.Plain error.Memory) ⊎ ((name : List ℕ) × (h x ≡ Some name) × IsMisnamedAt folder name r)
     → IsUnlistedAs (names_told (filter_map h xs)) folder r

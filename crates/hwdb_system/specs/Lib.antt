@@ -6,4 +6,5 @@ pub mod Raw
 pub mod ReadLaws
 pub mod Reads
 pub mod Selections
+pub mod OwnRules
 pub mod Lemmas

@@ -1,10 +1,10 @@
 -- What each file system tells of what it is asked. Our choice.
-use Rattle.std.specs.Prelude.{ℕ, List, false, true, None, Option, Some, Result, Ok, Err, find, is_some, not, pos, if◌then◌else◌}
-use Rattle.std.specs.Str.{bytes_eq, is_utf8}
+use Rattle.std.specs.Prelude.{ℕ, List, false, true, None, Option, Some, Result, Ok, Err, is_some, pos, if◌then◌else◌}
+use Rattle.std.specs.Str.{bytes_eq}
 use Rattle.hwdb_spec_commands.specs.Asked.{database_path}
 use Rattle.hwdb_spec.specs.System.{bytes_at}
-use Rattle.hwdb_spec_commands.specs.Told.{Reads, Unlisted}
-use Rattle.hwdb_spec_commands.specs.Told.Unlisted.{Misnamed, Unopened}
+use Rattle.hwdb_spec_commands.specs.Told.{Reads, names_told}
+use Rattle.hwdb_spec_commands.specs.Told.Unlisted.{Unopened}
 use Rattle.hwdb_spec.specs.declared.causes.Cause.TheVariants as why
 use Rattle.hwdb_spec_commands.specs.declared.unread.Unread.{Unread}
 use Rattle.hwdb_spec_commands.specs.declared.unread.Unread.TheVariants as unread
@@ -33,19 +33,6 @@ file_told (Some bytes) = told_bytes bytes
 abbrev pub found_told : Option (List ℕ) → Result (Option (List ℕ)) Unread
 found_told None = Ok None
 found_told (Some bytes) = present (told_bytes bytes)
-
--- the first name that isn't UTF-8
-abbrev pub first_misnamed : (names : List (List ℕ)) → Option (List ℕ)
-first_misnamed names = find (λ name. not (is_utf8 name)) names
-
--- some names, or the one of them that isn't UTF-8
-abbrev pub unless_misnamed : (misnamed : Option (List ℕ)) (names : List (List ℕ)) → Result (List (List ℕ)) Unlisted
-unless_misnamed None names = Ok names
-unless_misnamed (Some name) names = Err (Misnamed name)
-
--- the names of a listing, in its order, or the first of them that isn't UTF-8
-abbrev pub names_told : (names : List (List ℕ)) → Result (List (List ℕ)) Unlisted
-names_told names = unless_misnamed (first_misnamed names) names
 
 -- what it tells after these steps; what is no file is a folder
 abbrev pub memory_reads : List Step → Reads

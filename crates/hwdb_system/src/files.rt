@@ -18,11 +18,13 @@ use crate::reads::{
 };
 use crate::rooted::Rooted;
 use crate::roots::Root;
+use crate::rule_folders::rules_folder;
 use crate::system::System;
 use crate::text_folders::TextFolders;
 use crate::texts_below::TextsBelow;
 use hwdb_io::{Cause, after_failure, write_on};
 use hwdb_replace::{CallFailed, DATABASE_MODE, PART_MODE, Store};
+use hwdb_rulefiles::Folder;
 use hwdb_spec::ToolError;
 use hwdb_spec_commands::Refusal;
 use std::alloc::{AllocError, Global};
@@ -395,6 +397,16 @@ where
 {
     fn ignored_names(&self, alloc: Global, root: &str, usr: bool) -> Result<Vec<Vec<u8>>, Refusal> {
         let folder = text_folder(alloc, root, usr)?;
+        ignored_in(alloc, &self.files(), folder.as_str())
+    }
+
+    fn names_beside_rules(
+        &self,
+        alloc: Global,
+        root: &str,
+        folder: Folder,
+    ) -> Result<Vec<Vec<u8>>, Refusal> {
+        let folder = rules_folder(alloc, root, folder)?;
         ignored_in(alloc, &self.files(), folder.as_str())
     }
 }

@@ -9,6 +9,7 @@
 //! | `files` | files and folders: the file system that the runtime reaches |
 //! | `raw` | what a file system answers to what reading asks; `reads`: what is made of these answers; `read_laws`: laws of that; `one_file`: answers for tests |
 //! | `text_folders` | what else is in the folders of text files, as it is asked for; `ignored`: of a file system |
+//! | `rule_folders` | the machine's own rules files, chosen and read |
 //! | `texts_below` | the text files of a folder that is read as a root |
 //! | `identity` | what tells a file from one that replaced it; `opened`: a file that was opened, of which parts are read |
 //! | `devices` | the file system as it is asked for devices |
@@ -43,6 +44,7 @@ mod reads;
 mod refusals;
 mod rooted;
 mod roots;
+mod rule_folders;
 mod system;
 mod text_folders;
 mod texts_below;
@@ -64,6 +66,7 @@ pub use read_laws::answers_are_told;
 pub use reads::{database_bytes, is_there, open_database, text_bytes};
 pub use refusals::{refuse_for, refuse_memory, remedy};
 pub use rooted::Rooted;
+pub use rule_folders::{RulesRead, own_rules};
 pub use system::System;
 pub use text_folders::TextFolders;
 pub use texts_below::TextsBelow;

@@ -5,21 +5,23 @@ ghost use Rattle.hwdb_replace.specs.Memory.{seen_of};
 ghost use Rattle.hwdb_system.specs.Internal.{IsMisnamed, IsOfName, bytes_after, is_told, is_told_file, made_by, name_in, names_after, step_name};
 ghost use Rattle.hwdb_spec_commands.specs.Refusals.{HasReason, IsUnlisted, IsUnread, IsUnreadAt, IsUnreadable};
 ghost use Rattle.hwdb_system.specs.Raw.{IsMisnamedAt};
-ghost use Rattle.hwdb_system.specs.Reads.{file_told, found_told, memory_reads, names_told};
+ghost use Rattle.hwdb_system.specs.Reads.{file_told, found_told, memory_reads};
 ghost use Rattle.hwdb_system.specs.Lemmas.MemoryReads.{memory_agrees};
-ghost use Rattle.hwdb_spec_commands.specs.Told.{IsListedTo, IsReadTo};
+ghost use Rattle.hwdb_spec_commands.specs.Told.{IsListedTo, IsReadTo, names_told};
 
 use crate::files::text_of;
 use crate::folders::{Selection, selected};
 use crate::ignored::{is_ignored, text_folder};
 use crate::opened::OpenedBytes;
 use crate::rooted::Rooted;
+use crate::rule_folders::rules_folder;
 use crate::system::System;
 use crate::text_folders::TextFolders;
 use crate::texts_below::TextsBelow;
 use hwdb_io::{Cause, MAX_BYTES};
 use hwdb_replace::memory::state_of;
 use hwdb_replace::{Memory, Step};
+use hwdb_rulefiles::Folder;
 use hwdb_spec::ToolError;
 use hwdb_spec_commands::Refusal;
 use hwdb_sysfs::NO_ENTRY;
@@ -263,6 +265,16 @@ impl System for Memory {
 impl TextFolders for Memory {
     fn ignored_names(&self, alloc: Global, root: &str, usr: bool) -> Result<Vec<Vec<u8>>, Refusal> {
         let folder = text_folder(alloc, root, usr)?;
+        Ok(ignored_after(alloc, &self.steps, folder.as_str())?)
+    }
+
+    fn names_beside_rules(
+        &self,
+        alloc: Global,
+        root: &str,
+        folder: Folder,
+    ) -> Result<Vec<Vec<u8>>, Refusal> {
+        let folder = rules_folder(alloc, root, folder)?;
         Ok(ignored_after(alloc, &self.steps, folder.as_str())?)
     }
 }

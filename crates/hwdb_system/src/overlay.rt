@@ -21,6 +21,7 @@ use crate::text_folders::TextFolders;
 use crate::texts_below::TextsBelow;
 use hwdb_io::{Cause, MAX_BYTES, after_failure};
 use hwdb_replace::{CallFailed, Store};
+use hwdb_rulefiles::Folder;
 use hwdb_spec::ToolError;
 use hwdb_spec_commands::Refusal;
 use hwdb_sysfs::{DeviceFiles, DeviceNode};
@@ -247,6 +248,15 @@ impl<'a, D: TextFolders> TextFolders for Overlay<'a, D> {
     // The database isn't in these folders.
     fn ignored_names(&self, alloc: Global, root: &str, usr: bool) -> Result<Vec<Vec<u8>>, Refusal> {
         self.system.ignored_names(alloc, root, usr)
+    }
+
+    fn names_beside_rules(
+        &self,
+        alloc: Global,
+        root: &str,
+        folder: Folder,
+    ) -> Result<Vec<Vec<u8>>, Refusal> {
+        self.system.names_beside_rules(alloc, root, folder)
     }
 }
 

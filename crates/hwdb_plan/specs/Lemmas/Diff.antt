@@ -9,7 +9,7 @@ use Rattle.hwdb_spec.specs.Tree.{Tree}
 use Rattle.hwdb_spec.specs.declared.errors.DiffError.{DiffError}
 use Rattle.hwdb_spec.specs.declared.errors.DiffError.TheVariants.{Memory, New, Old}
 use Rattle.hwdb_spec.specs.declared.errors.ToolError.TheVariants as error
-use Rattle.hwdb_spec_commands.specs.Comparisons.{comparison_form, comparison_said, devices_named, has_changed}
+use Rattle.hwdb_spec_commands.specs.SampleDevices.{told_changed, told_form, told_said}
 use Rattle.hwdb_spec_commands.specs.Reviews.{Review}
 use Rattle.hwdb_spec_commands.specs.Databases.{IsDiffText, IsDifferent}
 use Rattle.hwdb_spec_commands.specs.DiffErrors.{IsDiffRefusal}
@@ -93,12 +93,9 @@ module _ (w : Reads) where
     abbrev Compared : Plan
     Compared = compared old_path new_path old new (change_of r sources)
 
-    abbrev devices : Option (List (List ℕ))
-    devices = devices_named sources
-
     -- they are compared
-    pub compared_end : (answer : Bool) (status : ℕ) (err out : List ℕ) → IsDiffText (comparison_form r devices) old new out → IsDiffText (comparison_said r devices) old new err
-        → IsDifferent (has_changed r devices) old new answer → status ≡ (if answer then 1 else 0) → Ends w Compared (Answers status err out)
+    pub compared_end : (answer : Bool) (status : ℕ) (err out : List ℕ) → IsDiffText (told_form r sources) old new out → IsDiffText (told_said r sources) old new err
+        → IsDifferent (told_changed r sources) old new answer → status ≡ (if answer then 1 else 0) → Ends w Compared (Answers status err out)
     unfolding Ends
     compared_end answer status err out text said differs says =
         inl (text.old_tree, text.old_database, inl (text.new_tree, text.new_database, same))
@@ -108,11 +105,11 @@ module _ (w : Reads) where
         as_text f t u is_old is_new = ap (λ (v : Tree). f v u) (one old t text.old_tree is_old text.old_database)
             ∙ ap (f text.old_tree) (one new u text.new_tree is_new text.new_database)
 
-        status_is : status ≡ (if has_changed r devices text.old_tree text.new_tree then 1 else 0)
-        status_is = says ∙ ap (λ (b : Bool). if b then 1 else 0) (differs.is ∙ as_text (has_changed r devices) differs.old_tree differs.new_tree differs.old_database differs.new_database)
+        status_is : status ≡ (if told_changed r sources text.old_tree text.new_tree then 1 else 0)
+        status_is = says ∙ ap (λ (b : Bool). if b then 1 else 0) (differs.is ∙ as_text (told_changed r sources) differs.old_tree differs.new_tree differs.old_database differs.new_database)
 
-        said_is : err ≡ comparison_said r devices text.old_tree text.new_tree
-        said_is = said.is ∙ as_text (comparison_said r devices) said.old_tree said.new_tree said.old_database said.new_database
+        said_is : err ≡ told_said r sources text.old_tree text.new_tree
+        said_is = said.is ∙ as_text (told_said r sources) said.old_tree said.new_tree said.old_database said.new_database
 
         same : Answers status err out ≡ change_of r sources text.old_tree text.new_tree
         same = λ i. Answers (status_is i) (said_is i) (text.is i)

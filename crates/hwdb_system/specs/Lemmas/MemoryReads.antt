@@ -17,12 +17,13 @@ use Rattle.hwdb_spec_commands.specs.declared.unread.Unread.{Unread}
 use Rattle.hwdb_spec_commands.specs.declared.unread.Unread.TheVariants as unread
 use Rattle.hwdb_replace.specs.Memory.{seen_of}
 use Rattle.hwdb_replace.specs.declared.memory.Step.{Step}
-use Rattle.hwdb_system.specs.Reads.{file_told, first_misnamed, found_told, memory_reads, names_told, unless_misnamed}
+use Rattle.hwdb_system.specs.Reads.{file_told, found_told, memory_reads}
 use Rattle.hwdb_spec_commands.specs.Refusals.{IsOfCause}
 use Rattle.hwdb_spec.specs.declared.errors.ToolError.TheVariants.{Read}
 use Rattle.hwdb_spec_commands.specs.declared.refusals.Refusal.{Refusal}
 use Rattle.hwdb_spec_commands.specs.declared.refusals.Refusal.TheVariants as refusal
-use Rattle.hwdb_spec_commands.specs.Told.{AreReadsOf, IsSo, IsSoOfFolder, IsUnreadAs, Unlisted}
+use Rattle.hwdb_spec_commands.specs.RulePaths.{rules_folder}
+use Rattle.hwdb_spec_commands.specs.Told.{AreReadsOf, IsSo, IsSoOfFolder, IsUnreadAs, Unlisted, first_misnamed, names_told, unless_misnamed}
 use Rattle.hwdb_spec_commands.specs.Told.Stop.{Over}
 use Rattle.hwdb_spec_commands.specs.Told.Unlisted.{Misnamed}
 
@@ -141,6 +142,8 @@ memory_agrees steps = record {
   no_folder = λ path u is. folder_err steps path (bytes_at (seen_of steps) path ≡ None) (is_some (bytes_at (seen_of steps) path)) u is;
   ignored = λ usr root names is. ignored_ok steps (text_folder usr root) names is;
   no_ignored = λ usr root w is. absurd (cc);
+  rules = λ root f names is. ignored_ok steps (rules_folder root f) names is;
+  no_rules = λ root f w is. absurd (cc);
 }
 
 -- nothing is there, and the error says so

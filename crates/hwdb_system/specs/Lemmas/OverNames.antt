@@ -11,6 +11,9 @@ use Rattle.hwdb_spec_commands.specs.Ignored.{AreIgnoredIn, IsIgnoredIn, text_fol
 use Rattle.hwdb_spec.specs.Lines.{has, is as is_byte}
 use Rattle.hwdb_spec_commands.specs.OverText.{with_database}
 use Rattle.hwdb_spec_commands.specs.Reading.{IsFolderAt}
+use Rattle.hwdb_spec_commands.specs.RulePaths.{rules_folder}
+use Rattle.hwdb_rulefiles.specs.declared.choice.Folder.{Folder}
+use Rattle.hwdb_rulefiles.specs.declared.choice.Folder.TheVariants.{Etc, Local, Run, Usr}
 use Rattle.hwdb_spec.specs.Store.{Contents, Stored, database_file, database_name, path_in}
 use Rattle.hwdb_spec.specs.System.{AreNamesIn, IsNameIn, bytes_at}
 
@@ -77,6 +80,13 @@ last_folder (x ∷ xs) (y ∷ ys) m n plain plain2 e = ap (λ h. h ∷ xs) (ap f
 named_folder : (usr : Bool) (root : List ℕ) → (above : List ℕ) × (text_folder usr root ≡ above ++ 47 ∷ codes "hwdb.d")
 named_folder true root = (root ++ codes "/usr/lib/udev", sym (append_assoc root (codes "/usr/lib/udev") (codes "/hwdb.d")))
 named_folder false root = (root ++ codes "/etc/udev", sym (append_assoc root (codes "/etc/udev") (codes "/hwdb.d")))
+
+-- and one of rules files this one, `rules.d`
+named_rules : (root : List ℕ) (f : Folder) → (above : List ℕ) × (rules_folder root f ≡ above ++ 47 ∷ codes "rules.d")
+named_rules root Etc = (root ++ codes "/etc/udev", sym (append_assoc root (codes "/etc/udev") (codes "/rules.d")))
+named_rules root Run = (root ++ codes "/run/udev", sym (append_assoc root (codes "/run/udev") (codes "/rules.d")))
+named_rules root Local = (root ++ codes "/usr/local/lib/udev", sym (append_assoc root (codes "/usr/local/lib/udev") (codes "/rules.d")))
+named_rules root Usr = (root ++ codes "/usr/lib/udev", sym (append_assoc root (codes "/usr/lib/udev") (codes "/rules.d")))
 
 module _ (root made : List ℕ) (files : Contents) where
   abbrev pub shown : Contents
@@ -150,6 +160,43 @@ module _ (root made : List ℕ) (files : Contents) where
           let named : codes "hwdb.d" ≡ codes "udev" =
           last_name folder.0 (root ++ codes "/etc") (codes "hwdb.d") (codes "udev") refl refl (sym folder.1 ∙ above ∙ sym (append_assoc root (codes "/etc") (codes "/udev"))) in
           absurd (true≢false (ap (has 46) named))
+
+  -- neither is a folder of rules files, nor the path of anything in it
+  pub rules_folder_apart : (below : List ℕ) (f : Folder) → is_database (rules_folder below f) ≡ false
+  rules_folder_apart below f = go (is_database (rules_folder below f)) refl
+    where
+      go : (b : Bool) → is_database (rules_folder below f) ≡ b → b ≡ false
+      go false e = refl
+      go true e =
+          let one : rules_folder below f ≡ database_path false root = (bytes_eq-Decides (rules_folder below f) (database_path false root)).0 e in
+          let folder = named_rules below f in
+          let named : codes "rules.d" ≡ database_name = last_name folder.0 (root ++ codes "/etc/udev") (codes "rules.d") database_name refl refl (sym folder.1 ∙ one) in
+          absurd (true≢false (sym (ap (has 98) named)))
+
+  rules_apart : (below : List ℕ) (f : Folder) (name : List ℕ) → has 47 name ≡ false → is_database (path_in (rules_folder below f) name) ≡ false
+  rules_apart below f name plain = go (is_database (path_in (rules_folder below f) name)) refl
+    where
+      go : (b : Bool) → is_database (path_in (rules_folder below f) name) ≡ b → b ≡ false
+      go false e = refl
+      go true e =
+          let path = path_in (rules_folder below f) name in
+          let one : path ≡ database_path false root = (bytes_eq-Decides path (database_path false root)).0 e in
+          let above : rules_folder below f ≡ root ++ codes "/etc/udev" = last_folder (rules_folder below f) (root ++ codes "/etc/udev") name database_name plain refl one in
+          let folder = named_rules below f in
+          let named : codes "rules.d" ≡ codes "udev" =
+          last_name folder.0 (root ++ codes "/etc") (codes "rules.d") (codes "udev") refl refl (sym folder.1 ∙ above ∙ sym (append_assoc root (codes "/etc") (codes "/udev"))) in
+          absurd (true≢false (ap (has 46) named))
+
+  -- what is in them is the same
+  pub rules_over : (below : List ℕ) (f : Folder) (names : List (List ℕ)) → AreIgnoredIn (rules_folder below f) files names → AreIgnoredIn (rules_folder below f) shown names
+  rules_over below f names are =
+      let folder = rules_folder below f in
+      let same : (name : List ℕ) → has 47 name ≡ false → bytes_at shown (path_in folder name) ≡ bytes_at files (path_in folder name) =
+      λ name plain. same_at (path_in folder name) (rules_apart below f name plain) in
+      record {
+        each = All-weaker (IsIgnoredIn folder files) (IsIgnoredIn folder shown) (λ name n. record { ignored = n.ignored; plain = n.plain; there = ap is_some (same name n.plain) ∙ n.there }) names are.each;
+        all = λ name n. are.all name record { ignored = n.ignored; plain = n.plain; there = ap is_some (sym (same name n.plain)) ∙ n.there };
+      }
 
   -- the ignored files are the same
   pub ignored_over : (usr : Bool) (below : List ℕ) (names : List (List ℕ)) → AreIgnoredIn (text_folder usr below) files names → AreIgnoredIn (text_folder usr below) shown names

@@ -4,16 +4,18 @@ use Rattle.std.proofs.Common.{◌∙◌, ap, inl, inr, refl, sym, subst}
 use Rattle.std.specs.Str.{bytes_eq}
 use Rattle.hwdb_spec_commands.specs.Asked.{database_path}
 use Rattle.hwdb_spec_commands.specs.Ignored.{text_folder}
+use Rattle.hwdb_rulefiles.specs.declared.choice.Folder.{Folder}
 use Rattle.hwdb_spec_commands.specs.Reading.{IsFolderAt}
+use Rattle.hwdb_spec_commands.specs.RulePaths.{rules_folder}
 use Rattle.hwdb_spec_commands.specs.OverText.{with_database}
 use Rattle.hwdb_spec_commands.specs.Refusals.{IsUnreadable}
 use Rattle.hwdb_spec.specs.Store.{Contents, Stored, database_file}
 use Rattle.hwdb_spec.specs.System.{bytes_at}
 use Rattle.hwdb_spec.specs.Texts.{max_file}
 use Rattle.hwdb_system.specs.Lemmas.MemoryReads.{above_err, present_err, present_ok, within_ok}
-use Rattle.hwdb_system.specs.Lemmas.OverNames.{folder_over, ignored_over, is_database, names_over, same_at, shown, text_folder_apart, there_at}
+use Rattle.hwdb_system.specs.Lemmas.OverNames.{folder_over, ignored_over, is_database, names_over, rules_folder_apart, rules_over, same_at, shown, text_folder_apart, there_at}
 use Rattle.hwdb_system.specs.Raw.{present, told_bytes}
-use Rattle.hwdb_spec_commands.specs.Told.{AreReadsOf, IsSo, IsSoOfFolder, IsSoOfTexts, IsUnreadAs, Reads, Unlisted}
+use Rattle.hwdb_spec_commands.specs.Told.{AreReadsOf, IsSo, IsSoOfFolder, IsSoOfRules, IsSoOfTexts, IsUnreadAs, Reads, Unlisted}
 use Rattle.hwdb_spec_commands.specs.Told.Unlisted.{Misnamed, Unopened}
 use Rattle.hwdb_system.specs.Reads.{with_read}
 use Rattle.hwdb_spec_commands.specs.declared.refusals.Refusal.{Refusal}
@@ -78,6 +80,13 @@ module _ (root made : List ℕ) (w : Reads) (seen : Contents) (fails : List ℕ 
   texts_so usr below (Unopened unread.Memory) so = tt
   texts_so usr below (Misnamed name) may = may
 
+  rules_so : (below : List ℕ) (f : Folder) (u : Unlisted) → IsSoOfRules seen fails below f u → IsSoOfRules (shown root made seen) fails below f u
+  rules_so below f (Unopened unread.TooLong) long =
+      subst (λ (o : Option (List ℕ)). IfSome o (λ bytes. max_file < length bytes)) (sym (same_at root made seen (rules_folder below f) (rules_folder_apart root made seen below f))) long
+  rules_so below f (Unopened (unread.Failed cause)) may = may
+  rules_so below f (Unopened unread.Memory) so = tt
+  rules_so below f (Misnamed name) may = may
+
   folder_so : (path : List ℕ) (u : Unlisted) → is_database root made seen path ≡ false → IsSoOfFolder (bytes_at seen path ≡ None) fails path u → IsSoOfFolder (bytes_at (shown root made seen) path ≡ None) fails path u
   folder_so path (Unopened unread.TooLong) other none = same_at root made seen path other ∙ none
   folder_so path (Unopened (unread.Failed cause)) other may = may
@@ -111,6 +120,8 @@ read_over root made w seen fails agree = record {
   no_folder = λ path u is. folder_err root made w seen fails agree path (is_database root made seen path) u refl is;
   ignored = λ usr below names is. ignored_over root made seen usr below names (agree.ignored usr below names is);
   no_ignored = λ usr below u is. texts_so root made w seen fails agree usr below (Unopened u) (agree.no_ignored usr below u is);
+  rules = λ below f names is. rules_over root made seen below f names (agree.rules below f names is);
+  no_rules = λ below f u is. rules_so root made w seen fails agree below f (Unopened u) (agree.no_rules below f u is);
 }
 
 -- an error of what was to be there

@@ -2,7 +2,7 @@ use Rattle.std.proofs.Common.{◌∙◌, add-one, ap, false, map, string_bytes}
 use Rattle.std.specs.Prelude.{filter_map}
 use Rattle.std.proofs.lemmas.List.{take_all}
 use Rattle.hwdb_system.specs.Internal.{names_after, step_name}
-use Rattle.hwdb_system.specs.Reads.{names_told}
+use Rattle.hwdb_spec_commands.specs.Told.{names_told}
 use Rattle.hwdb_system.proofs.MemoryLemmas.{all_listed, good_more, names_more, step_stops, stops_listing}
 use Rattle.hwdb_system.proofs.memory.names_after.Goals as goal
 

@@ -1,7 +1,7 @@
 use Rattle.std.proofs.Common.{◌≡◌, None, map, string_bytes, take, false}
 use Rattle.std.specs.Prelude.{filter_map}
 use Rattle.hwdb_system.specs.Internal.{step_name}
-use Rattle.hwdb_system.specs.Reads.{first_misnamed}
+use Rattle.hwdb_spec_commands.specs.Told.{first_misnamed}
 use Rattle.hwdb_system.proofs.memory.names_after.Given as goal
 
 abbrev pub invariant-loop-step : goal.invariant-loop-step
