@@ -411,3 +411,28 @@ def number(rng, data, at):
     near = (before + rng.choice([-24, -16, -8, -1, 1, 8, 16, 24])) % 2**64
     note = rng.choice([0, 1, 2, 79, 80, len(data) - 1, len(data), 2**31, 2**32, 2**63, 2**64 - 24, 2**64 - 1])
     return struct.pack("<Q", rng.choice([near, near, note, other, other]))
+
+
+# Rules files.
+
+RULE_KEYS = [b"ACTION", b"KERNEL", b"SUBSYSTEM", b"DRIVERS", b"ATTR{name}", b"ATTRS{id/vendor}", b"ENV{X}", b"TAG", b"TEST", b"TEST{0444}", b"PROGRAM", b"RESULT"]
+RULE_KEYS += [b"IMPORT{builtin}", b"IMPORT{program}", b"IMPORT{db}", b"GOTO", b"LABEL", b"NAME", b"SYMLINK", b"OPTIONS", b"RUN", b"RUN{builtin}", b"MODE", b"OWNER"]
+RULE_KEYS += [b"KERNL", b"ENV", b"ATTR", b"ATTR{", b"{x}", b"", b"SYSCTL{a/b}", b"CONST{arch}", b"SECLABEL{x}"]
+RULE_OPERATORS = [b"==", b"!=", b"=", b"+=", b"-=", b":=", b"=", b"==", b"===", b" = ", b"", b"!"]
+RULE_VALUES = [b'"add"', b'"event*"', b'"a|b"', b'"1"', b'""', b'"end"', b'"begin"', b'"hwdb --subsystem=usb"', b'"hwdb \'evdev:$attr{name}:\'"', b'"usb_id"']
+RULE_VALUES += [b'"nope"', b'e"\\t"', b'e"\\x4"', b'i"X"', b'ie"x"', b'"0600"', b'"$env{X}%k"', b'"x', b"x", b'"a\\"b"', b'"watch"', b'"link_priority=9"', b'"\xff"']
+RULE_BETWEEN = [b", ", b",", b" ", b", , ", b"", b", \\\n  ", b"\t"]
+
+
+def rules_row(rng):
+    """Some pairs, a comment, or an empty row."""
+    if rng.random() < 0.1:
+        return rng.choice([b"", b"# a comment", b"  # one", b"\\", b","])
+    row = b""
+    for _ in range(rng.choice([1, 2, 2, 3, 5])):
+        row += rng.choice(RULE_KEYS) + rng.choice(RULE_OPERATORS) + rng.choice(RULE_VALUES) + rng.choice(RULE_BETWEEN)
+    return row
+
+
+def rules_file(rng):
+    return b"\n".join(rules_row(rng) for _ in range(rng.randint(0, 8))) + rng.choice([b"\n", b"\n", b"", b"\\"])
