@@ -6,7 +6,7 @@
 # `make check` is the whole gate, `make check-edits` tries more wrong bodies,
 # `make check-survivors` those that the prover accepts, `make check-peer` compares with Debian's own files and releases, `make bench` measures
 # on them. `make check-power` cuts the power of a guest while it updates, and `make check-power-edits` tries wrong bodies so.
-# `make fuzz` gives changed files to the C library's calls, and changed text files to the program: each for five minutes, or for as long as
+# `make fuzz` gives changed files to the C library's calls, and changed text and rules files to the program: each for five minutes, or as long as
 # SECONDS says.
 # `make install` and `make uninstall` go by the folders below and need no toolchain, `make deb` makes Debian packages in out/, `make
 # dist` an archive of the sources, and `make check-package` tries all but the last; it installs what it needs with apt-get.

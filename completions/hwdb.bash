@@ -11,10 +11,10 @@ _hwdb_reply() {
     done
 }
 
-# _hwdb_value KIND: completions of an argument, of an option's value, or of the command, one of the table `arguments`
+# _hwdb_value KIND: completions of an argument, of a value of an option of $command, or of the command, one of the table `arguments`
 _hwdb_value() {
     case $1 in
-        FILE) _filedir '@(hwdb|test)' ;;
+        FILE) _filedir '@(hwdb|rules|test)' ;;
         DATABASE) _filedir bin ;;
         OLD | NEW) _filedir '@(bin|hwdb)' ;;
         PATH) _filedir -d ;;
@@ -31,7 +31,8 @@ _hwdb_value() {
             ;;
         # The keys that the program knows.
         WORD) _hwdb_reply < <(command "${words[0]}" keys 2>/dev/null | sed 's/ .*//') ;;
-        *) mapfile -t COMPREPLY < <(compgen -W "${kinds_of[$1]-}" -- "$cur") ;;
+        # Words of the command's own, or of all commands.
+        *) mapfile -t COMPREPLY < <(compgen -W "${kinds_of[$command $1]-${kinds_of[$1]-}}" -- "$cur") ;;
     esac
 }
 
@@ -68,9 +69,9 @@ _hwdb() {
         [list]='-r --root --color --after --limit --text --json -h --help'
         [near]='-r --root --color --limit --text --json -h --help'
         [device]='-r --root --color --from --text --strings --json --pattern --all -h --help'
-        [check]='-s --strict -r --root --color --allow --baseline --name --diff --format --json -h --help'
+        [check]='-s --strict -r --root --color --rules --allow --baseline --name --diff --format --json -h --help'
         [test]='-r --root --color --record --database --text --json -h --help'
-        [diff]='-r --root --color --devices --verbose --only --not --prefix --stat --format --json -h --help'
+        [diff]='-r --root --color --devices --samples --verbose --only --not --prefix --stat --format --json -h --help'
         [verify]='-r --root --color --text -h --help'
         [dump]='-r --root --color --text -h --help'
         [status]='-r --root --color --json -h --help'
@@ -97,9 +98,10 @@ _hwdb() {
         [--count]='N'
     )
     local -A kinds_of=(
-        [FORMAT]='text json github sarif grouped lines'
         [KIND]='byte-order-mark leading-tab carriage-return open-bracket empty-range spaced-equals cut-value repeated-match replaced near-name old-name scan-code unknown-key unfit-value zero-row singular-matrix two-defaults unread unknown-property unpaired unknown-prefix dead-pattern unlikely-pattern too-long-for-udev fragile-pattern taken-as-set no-separator'
         [WHEN]='auto always never'
+        [check FORMAT]='text json github sarif'
+        [diff FORMAT]='grouped lines'
     )
     # Until here.
 

@@ -9,7 +9,7 @@
 //! | `json_explanations` | the lines of JSON of `explain` |
 //! | `json_laws` | what is read of JSON is what was written |
 //! | `device_texts` | what is printed of devices, one after another |
-//! | `kept_texts` | what `query` prints of a database of which the strings alone are held |
+//! | `kept_texts` | what `query` and `explain` print of a database of which the strings alone are held |
 //! | `queries` | `query` and `explain`: what a database gives devices |
 //! | `hit_lines` | the hits of a cursor, one line after another |
 //! | `listing` | `list`: the hits that a database has for a device |

@@ -97,5 +97,6 @@ pub use laws::{
 };
 pub use line_texts::{LineStart, find_line, first_start};
 pub use patched::{Said, format_asked, say_files};
+pub use rules::is_rules;
 pub use tallies::push_count;
 pub use too_long::push_too_long;

@@ -4,7 +4,7 @@ ghost use Rattle.clap.specs.Walk.{rows_of};
 ghost use Rattle.clap.specs.Matches.{found_of};
 ghost use Rattle.hwdb_cli.specs.Drafts.{IsArgument, IsDraft};
 ghost use Rattle.hwdb_spec_commands.specs.Jobs.{IsTask};
-ghost use Rattle.hwdb_spec_commands.specs.CommandLine.{allow_rule, baseline_rule, check_app, diff_rule, format_rule, name_rule};
+ghost use Rattle.hwdb_spec_commands.specs.CommandLine.{allow_rule, baseline_rule, check_app, diff_rule, format_rule, name_rule, rules_rule};
 
 use crate::drafts::{Draft, flag, json_option, option, shared, with_argument, word};
 use crate::matched::{any_values_of, copied, has_flag, text_of};
@@ -30,13 +30,23 @@ pub fn command<'a>(alloc: Global) -> Draft<'a>
     let help =
         "A text file, a folder of them, a rules file (NAME.rules), or - for standard input; without one the text files of /etc/udev/hwdb.d and /usr/lib/udev/hwdb.d";
     let command = shared(alloc, "check", ABOUT, AFTER);
-    let with_allow = with_argument(command, allow_option(alloc));
+    let with_rules = with_argument(command, rules_option(alloc));
+    let with_allow = with_argument(with_rules, allow_option(alloc));
     let with_baseline = with_argument(with_allow, baseline_option(alloc));
     let with_name = with_argument(with_baseline, name_option(alloc));
     let with_diff = with_argument(with_name, diff_option(alloc));
     let with_format = with_argument(with_diff, format_option(alloc));
     let with_json = with_argument(with_format, json_option(alloc));
     with_argument(with_json, word(alloc, "FILE", help, ArgAction::Append))
+}
+
+/// `--rules`.
+fn rules_option<'a>(alloc: Global) -> Arg<'a>
+    ensures { IsArgument rules_rule result }
+{
+    let help =
+        "Check rules files: without FILE the system's own in udev/rules.d of /etc, /run, /usr/local/lib and /usr/lib; - is one, too";
+    flag(alloc, "rules", help)
 }
 
 /// `--allow`.
@@ -87,6 +97,7 @@ pub fn task(alloc: Global, inner: &ArgMatches<'_>) -> Result<Task, AllocError>
 {
     let files = any_values_of(alloc, inner, "FILE")?;
     let allowed = any_values_of(alloc, inner, "allow")?;
+    let rules = has_flag(inner, "rules");
     let json = has_flag(inner, "json");
     let diff = has_flag(inner, "diff");
     let format = copied(alloc, text_of(inner, "format"))?;
@@ -94,6 +105,7 @@ pub fn task(alloc: Global, inner: &ArgMatches<'_>) -> Result<Task, AllocError>
     let baseline = copied(alloc, text_of(inner, "baseline"))?;
     Ok(Task::Check(CheckArgs {
         files,
+        rules,
         allowed,
         json,
         format,

@@ -29,13 +29,18 @@ const AFTER: &str =
 const OLD: &str =
     "The old side: a database, or - for standard input, FILE.hwdb, a folder of such files, or a root";
 
+/// What it says of `--samples`.
+const SAMPLES: &str =
+    "Compare what devices get that are made of the patterns of both sides, so that they show what changed";
+
 /// The command.
 pub fn command<'a>(alloc: Global) -> Draft<'a>
     ensures { IsDraft diff_app result }
 {
     let command = shared(alloc, "diff", ABOUT, AFTER);
     let with_devices = with_argument(command, devices_option(alloc));
-    let with_options = with_review(alloc, with_devices);
+    let with_samples = with_argument(with_devices, flag(alloc, "samples", SAMPLES));
+    let with_options = with_review(alloc, with_samples);
     let old = needed_word(alloc, "OLD", OLD, ArgAction::Set);
     let with_old = with_argument(with_options, old);
     let new = needed_word(alloc, "NEW", "The new one", ArgAction::Set);
@@ -99,6 +104,7 @@ fn review(alloc: Global, inner: &ArgMatches<'_>) -> Result<ReviewArgs, AllocErro
         stat: has_flag(inner, "stat"),
         format,
         verbose: has_flag(inner, "verbose"),
+        samples: has_flag(inner, "samples"),
         only,
         without,
         prefixes,

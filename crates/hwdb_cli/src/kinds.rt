@@ -131,10 +131,24 @@ pub fn kind_fault(
     Ok(None)
 }
 
-/// What is said of words beside `--diff` that say how findings are told. None if there are none, or the task has no `--diff`.
+/// What is said of `diff --samples` beside files of devices.
+fn samples_fault(alloc: Global) -> Result<String, AllocError> {
+    let mut text = String::new(alloc);
+    text.push_str("error: --samples makes the devices itself: leave out --devices\n\n")?;
+    text.push_str("For more information, try 'hwdb diff --help'.\n")?;
+    Ok(text)
+}
+
+/// What is said of words beside `check --diff` that say how findings are told, and of `diff --devices` beside `--samples`. None if there
+/// are none, or the task has no such flag.
 ///
 /// The only error is want of memory.
 pub fn diff_fault(alloc: Global, task: &Task) -> Result<Option<String>, AllocError> {
+    if let Task::Diff(args) = task {
+        if args.review.samples && !args.devices.is_empty() {
+            return Ok(Some(samples_fault(alloc)?));
+        }
+    }
     let Task::Check(args) = task else {
         return Ok(None);
     };

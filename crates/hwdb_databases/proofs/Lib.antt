@@ -29,3 +29,4 @@ pub mod ReviewLemmas
 pub mod GivenLemmas
 pub mod UnmetLemmas
 pub mod LineLemmas
+pub mod RenamedLemmas

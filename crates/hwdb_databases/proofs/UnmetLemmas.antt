@@ -16,7 +16,7 @@ use Rattle.hwdb_spec.specs.Folders.{same}
 use Rattle.hwdb_spec.specs.Lemmas.Orders.{turned}
 use Rattle.hwdb_spec.specs.Lemmas.Truth.{or_one_more}
 use Rattle.hwdb_spec.specs.Tree.{Tree}
-use Rattle.hwdb_spec_commands.specs.ChangeForms.{changed_pattern}
+use Rattle.hwdb_spec_commands.specs.Renamed.{changed_pattern}
 use Rattle.hwdb_spec_commands.specs.Differences.{Change}
 use Rattle.hwdb_spec_commands.specs.Unmet.{is_met, is_pattern_in, told_to, unmet}
 use Rattle.hwdb_query.specs.Views.{assignment_of_answer, explained_values}

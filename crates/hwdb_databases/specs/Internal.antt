@@ -12,3 +12,4 @@ pub mod Unmet
 pub mod Counts
 pub mod Plain
 pub mod Holding
+pub mod Renaming

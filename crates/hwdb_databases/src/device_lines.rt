@@ -1,21 +1,23 @@
 //! The lines of what changed for a device, or at a pattern.
-ghost use Rattle.std.specs.Prelude.{◌≡◌, ◌++◌, ◌∷◌, map, option_map, None, OnOk};
-ghost use Rattle.hwdb_spec_commands.specs.ChangeForms.{grouped_after, heading, pattern_line};
+ghost use Rattle.std.specs.Prelude.{◌≡◌, ◌++◌, ◌∷◌, map, OnOk};
+ghost use Rattle.hwdb_spec_commands.specs.Renamed.{pattern_line};
 ghost use Rattle.hwdb_spec_commands.specs.DeviceDifferences.{device_changes_text, told_change, told_changes};
 ghost use Rattle.hwdb_spec_commands.specs.Differences.{origin_text};
 ghost use Rattle.hwdb_spec_commands.specs.Differences.Change.{Came, Went, Changed};
 ghost use Rattle.hwdb_spec.specs.Lines.{byte};
 ghost use Rattle.hwdb_databases.specs.Views.{assignment_of, change_shown};
 
-use crate::json_changes::pattern_of;
 use crate::lines::push_origin;
 use crate::pairs::Pair;
-use crate::texts::is_same;
 use hwdb_query::StoredAssignment;
 use std::alloc::AllocError;
 
 /// Adds a sign, a tab, and an assignment. The only error, here and below, is `AllocError`.
-fn push_marked(text: &mut Vec<u8>, sign: u8, f: &StoredAssignment<'_>) -> Result<(), AllocError>
+pub(crate) fn push_marked(
+    text: &mut Vec<u8>,
+    sign: u8,
+    f: &StoredAssignment<'_>,
+) -> Result<(), AllocError>
     ensures { OnOk result (text.new.items
         ≡ text.old.items ++ sign ∷ (byte "\t" ∷ origin_text (assignment_of f.now))) }
 {
@@ -62,19 +64,7 @@ fn push_changed(
 }
 
 /// Adds the line of a change.
-fn push_change(text: &mut Vec<u8>, change: Pair<'_, '_>) -> Result<(), AllocError>
-    ensures { OnOk result
-        (text.new.items ≡ text.old.items ++ told_change (change_shown change.entry)) }
-{
-    match change {
-        Pair::Old(old) => push_went(text, old),
-        Pair::New(new) => push_came(text, new),
-        Pair::Both(old, new) => push_changed(text, old, new),
-    }
-}
-
-/// Adds the line of a change.
-fn push_told(text: &mut Vec<u8>, change: Pair<'_, '_>) -> Result<(), AllocError>
+pub(crate) fn push_told(text: &mut Vec<u8>, change: Pair<'_, '_>) -> Result<(), AllocError>
     ensures { OnOk result
         (text.new.items ≡ text.old.items ++ told_change (change_shown change.entry)) }
 {
@@ -86,7 +76,7 @@ fn push_told(text: &mut Vec<u8>, change: Pair<'_, '_>) -> Result<(), AllocError>
 }
 
 /// Adds a device, or a pattern, on a line.
-fn push_heading(text: &mut Vec<u8>, name: &[u8]) -> Result<(), AllocError>
+pub(crate) fn push_heading(text: &mut Vec<u8>, name: &[u8]) -> Result<(), AllocError>
     ensures { OnOk result (text.new.items ≡ text.old.items ++ pattern_line name.now) }
 {
     text.extend_from_slice(name)?;
@@ -95,7 +85,7 @@ fn push_heading(text: &mut Vec<u8>, name: &[u8]) -> Result<(), AllocError>
 }
 
 /// Adds a line for each change.
-fn push_all(text: &mut Vec<u8>, changes: &[Pair<'_, '_>]) -> Result<(), AllocError>
+pub(crate) fn push_all(text: &mut Vec<u8>, changes: &[Pair<'_, '_>]) -> Result<(), AllocError>
     ensures { OnOk result
         (text.new.items ≡ text.old.items ++ told_changes (map change_shown changes.now)) }
 {
@@ -119,36 +109,4 @@ pub(crate) fn push_device(
     }
     push_heading(text, device)?;
     push_all(text, changes)
-}
-
-/// Adds the pattern of a change on a line, if the change before it hasn't the same.
-fn push_new_heading(
-    text: &mut Vec<u8>,
-    last: Option<&[u8]>,
-    pattern: &[u8],
-) -> Result<(), AllocError>
-    ensures { OnOk result (text.new.items
-        ≡ text.old.items ++ heading (option_map (λ t. t.now) last.entry) pattern.now) }
-{
-    if let Some(before) = last {
-        if is_same(before, pattern) {
-            return Ok(());
-        }
-    }
-    push_heading(text, pattern)
-}
-
-/// Adds changes by record: each pattern once, and below it a line for each change.
-pub(crate) fn push_grouped(text: &mut Vec<u8>, changes: &[Pair<'_, '_>]) -> Result<(), AllocError>
-    ensures { OnOk result
-        (text.new.items ≡ text.old.items ++ grouped_after None (map change_shown changes.now)) }
-{
-    let mut last = None;
-    for change in changes {
-        let pattern = pattern_of(*change);
-        push_new_heading(text, last, pattern)?;
-        push_told(text, *change)?;
-        last = Some(pattern);
-    }
-    Ok(())
 }

@@ -12,18 +12,23 @@ ghost use Rattle.hwdb_spec_commands.specs.Differences.{are_some};
 ghost use Rattle.hwdb_spec_commands.specs.Databases.{IsDiffText, IsDifferent};
 ghost use Rattle.hwdb_spec_commands.specs.DiffErrors.{IsDiffRefusal};
 ghost use Rattle.hwdb_spec_commands.specs.Reviews.{review_in};
+ghost use Rattle.hwdb_spec_commands.specs.SampleDevices.{samples_differ, samples_end, samples_form, samples_said, undecided_said};
 ghost use Rattle.hwdb_databases.specs.Internal.Unmet.{assigned_text, left_end, left_said};
 ghost use Rattle.hwdb_databases.specs.Views.{change_shown, held_shown};
 
 use crate::counting::{device_stat, stat_of};
 use crate::counts_text::form_of;
-use crate::device_lines::{push_device, push_grouped};
+use crate::device_lines::push_device;
 use crate::gifts::gifts;
 use crate::held::{Held, pairs_of};
 use crate::json_changes::{push_device_json, push_json};
 use crate::meeting::changes_met;
+use crate::ordering::in_order;
 use crate::pairs::{Pair, Pairs, Sides, are_any};
+use crate::renamed::push_grouped;
 use crate::reviewing::counting_changes;
+use crate::sampling::sampled_between;
+use crate::undecided::{undecided_json, undecided_text};
 use crate::unmet::{left_json, left_text, push_lines, unmet_changes};
 use hwdb_reader::{Db, check, law_ascending, law_one_tree};
 use hwdb_spec::DiffError;
@@ -49,14 +54,19 @@ struct Told {
 }
 
 /// Adds changes by record, or a line for each. The only error, here and below, is `AllocError`.
-fn push_text(lines: bool, text: &mut Vec<u8>, changes: &[Pair<'_, '_>]) -> Result<(), AllocError>
+fn push_text(
+    alloc: Global,
+    lines: bool,
+    text: &mut Vec<u8>,
+    changes: &[Pair<'_, '_>],
+) -> Result<(), AllocError>
     ensures { OnOk result
         (text.new.items ≡ text.old.items ++ changes_lines lines (map change_shown changes.now)) }
 {
     if lines {
         push_lines(text, changes)
     } else {
-        push_grouped(text, changes)
+        push_grouped(alloc, text, changes)
     }
 }
 
@@ -73,7 +83,7 @@ fn form_of_changes(
     if review.json {
         push_json(alloc, &mut text, changes)?;
     } else {
-        push_text(review.asks_lines(), &mut text, changes)?;
+        push_text(alloc, review.asks_lines(), &mut text, changes)?;
     }
     Ok(text)
 }
@@ -311,6 +321,49 @@ fn compared(
     }
 }
 
+/// What is said of undecided patterns, for each output: as JSON it is the last line of the first.
+fn with_undecided(
+    alloc: Global,
+    json: bool,
+    told: Told,
+    patterns: &[&[u8]],
+) -> Result<Changes, AllocError>
+    ensures text { IfOk result (λ changes. changes.text.items ≡ told.text.items
+        ++ samples_end json (map (λ t. t.now) patterns.now)) }
+    ensures said { IfOk result (λ changes.
+        changes.said.items ≡ undecided_said json (map (λ t. t.now) patterns.now)) }
+    ensures differ { IfOk result (λ changes. changes.differ ≡ told.differ) }
+{
+    let Told { mut text, differ } = told;
+    let mut said = Vec::new(alloc);
+    if json {
+        text.extend_from_slice(&undecided_json(alloc, patterns)?)?;
+    } else {
+        said = undecided_text(alloc, patterns)?;
+    }
+    Ok(Changes { text, said, differ })
+}
+
+/// What changed for devices made of patterns, which show that it did.
+fn compared_by_samples(
+    alloc: Global,
+    review: &ReviewArgs,
+    sides: Sides<'_, '_>,
+) -> Result<Changes, AllocError>
+    ensures text { IfOk result (λ made. made.text.items ≡ samples_form (review_in review.now)
+        sides.entry.old.now sides.entry.new.now) }
+    ensures said { IfOk result (λ made. made.said.items ≡ samples_said (review_in review.now)
+        sides.entry.old.now sides.entry.new.now) }
+    ensures differ { IfOk result (λ made. made.differ ≡ samples_differ (review_in review.now)
+        sides.entry.old.now sides.entry.new.now) }
+{
+    let found = sampled_between(alloc, sides)?;
+    let devices = in_order(alloc, &found.devices)?;
+    let undecided = in_order(alloc, &found.undecided)?;
+    let told = told_of_devices(alloc, review, sides, &devices)?;
+    with_undecided(alloc, review.json, told, &undecided)
+}
+
 /// The old database.
 fn check_old(old: &[u8]) -> Result<Db<'_>, DiffError>
     ensures accepted { IfOk result (λ db. IsDatabase old.now db) }
@@ -373,4 +426,33 @@ pub fn diff(
         new: &after,
     };
     Ok(compared(alloc, review, devices, sides)?)
+}
+
+/// Checks the bytes of both, and says what changed for devices that are made of the patterns of both, ascending: each of them gets
+/// something else from the new database. And of which patterns it isn't known whether they match such a device. If there is neither,
+/// the new database gives each device what the old one does.
+///
+/// The memory is all that both assign, with their patterns.
+pub fn diff_samples(
+    alloc: Global,
+    review: &ReviewArgs,
+    old: &[u8],
+    new: &[u8],
+) -> Result<Changes, DiffError>
+    ensures text { IfOk result (λ made.
+        IsDiffText (samples_form (review_in review.now)) old.now new.now made.text.items) }
+    ensures said { IfOk result (λ made.
+        IsDiffText (samples_said (review_in review.now)) old.now new.now made.said.items) }
+    ensures differ { IfOk result (λ made.
+        IsDifferent (samples_differ (review_in review.now)) old.now new.now made.differ) }
+    ensures errors { IfErr result (IsDiffRefusal old.now new.now) }
+{
+    law_one_tree();
+    let before = check_old(old)?;
+    let after = check_new(new)?;
+    let sides = Sides {
+        old: &before,
+        new: &after,
+    };
+    Ok(compared_by_samples(alloc, review, sides)?)
 }

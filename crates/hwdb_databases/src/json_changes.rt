@@ -2,7 +2,8 @@
 ghost use Rattle.std.specs.Prelude.{◌≡◌, ◌++◌, flat_map, map, IfOk, OnOk};
 ghost use Rattle.json.specs.Tree.{json_tokens};
 ghost use Rattle.hwdb_show.specs.JsonTokens.{tokens_of_member, tokens_of_members};
-ghost use Rattle.hwdb_spec_commands.specs.ChangeForms.{change_json, change_members, changed_pattern, device_changes_json, given_json, whole_object};
+ghost use Rattle.hwdb_spec_commands.specs.ChangeForms.{change_json, change_members, device_changes_json, given_json, whole_object};
+ghost use Rattle.hwdb_spec_commands.specs.Renamed.{changed_pattern};
 ghost use Rattle.hwdb_spec_commands.specs.Differences.Change.{Came, Went, Changed};
 ghost use Rattle.hwdb_spec_commands.specs.Json.{array_of};
 ghost use Rattle.hwdb_databases.specs.Views.{assignment_of, change_shown};

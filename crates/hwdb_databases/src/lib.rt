@@ -9,8 +9,10 @@
 //! |---|---|
 //! | `pairs` | two ascending lists of assignments, gone through side by side |
 //! | `held` | changes, each with its assignments; `reviewing`: which of them count |
-//! | `lines` | the lines of changes; `device_lines`: those of a device, and by record; `json_changes`: all as JSON |
+//! | `lines` | the lines of changes; `device_lines`: those of a device; `json_changes`: all as JSON |
+//! | `groups` | the changes of a pattern; `renamed`: changes by record, and records whose patterns alone changed |
 //! | `unmet` | the changes that no device meets |
+//! | `sampling` | devices made of the patterns of two databases; `undecided`: patterns of which it isn't known whether there is one |
 //! | `counting` | how many changes there are, by file and by key; `counts_text`: the same as lines or JSON |
 //! | `gifts` | what a database gives a device |
 //! | `listing` | `dump`: a database as text |
@@ -40,6 +42,7 @@ mod device_lines;
 mod difference;
 mod freshness;
 mod gifts;
+mod groups;
 mod held;
 mod holding;
 mod inventory;
@@ -54,19 +57,22 @@ mod ordering;
 mod pairs;
 mod plain;
 mod records;
+mod renamed;
 mod reports;
 mod reviewing;
+mod sampling;
 mod spelling;
 mod summary;
 mod texts;
 mod trail;
+mod undecided;
 mod unmet;
 mod verification;
 mod walk;
 
 pub use amounts::{Amount, amount_of};
 pub use depths::depth_of;
-pub use difference::{Changes, diff};
+pub use difference::{Changes, diff, diff_samples};
 pub use freshness::{Standing, State, standing_of};
 pub use hwdb_spec::{DiffError, DumpError, VerifyError};
 pub use laws::{dump_says, dump_tells, gifts_are_effective, members_are_the_map};

@@ -15,7 +15,7 @@ use std::alloc::{AllocError, Global};
 use std::cmp::Ordering;
 
 /// All that the database assigns, by priority, line, pattern and key. The only error is `AllocError`.
-fn ordered<'k, 'a>(
+pub(crate) fn ordered<'k, 'a>(
     alloc: Global,
     db: &Db<'a>,
     patterns: &[u8],

@@ -145,7 +145,7 @@ pub(crate) fn unmet_changes<'r, 'a>(
 }
 
 /// Adds a number.
-fn push_count(text: &mut Vec<u8>, n: usize) -> Result<(), AllocError>
+pub(crate) fn push_count(text: &mut Vec<u8>, n: usize) -> Result<(), AllocError>
     ensures { OnOk result (text.new.items ≡ text.old.items ++ decimal n) }
 {
     let mut number = Buffer::new();
@@ -154,7 +154,12 @@ fn push_count(text: &mut Vec<u8>, n: usize) -> Result<(), AllocError>
 }
 
 /// Adds one text, or another if it is another number.
-fn push_by_number(text: &mut Vec<u8>, one: &str, other: &str, n: usize) -> Result<(), AllocError>
+pub(crate) fn push_by_number(
+    text: &mut Vec<u8>,
+    one: &str,
+    other: &str,
+    n: usize,
+) -> Result<(), AllocError>
     ensures { OnOk result
         (text.new.items ≡ text.old.items ++ spec.by_number one.now other.now n) }
 {

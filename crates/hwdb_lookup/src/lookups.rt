@@ -1,9 +1,10 @@
-//! The properties of a device.
-ghost use Rattle.std.specs.Prelude.{◌≡◌, List, ℕ, IfOk, IfErr};
-ghost use Rattle.hwdb_spec.specs.Tree.{Tree, answers};
-ghost use Rattle.hwdb_spec.specs.Answers.{effective_of};
+//! The properties of a device, and where they come from.
+ghost use Rattle.std.specs.Prelude.{◌≡◌, List, ℕ, [], filter, map, IfOk, IfErr};
+ghost use Rattle.hwdb_spec.specs.Tree.{Tree, answers, members_under};
+ghost use Rattle.hwdb_spec.specs.Answers.{effective_of, is_wanted};
+ghost use Rattle.hwdb_spec.specs.Explanations.{explained};
 ghost use Rattle.hwdb_spec.specs.Format.{IsDatabase};
-ghost use Rattle.hwdb_query.specs.Views.{pairs_bytes};
+ghost use Rattle.hwdb_query.specs.Views.{assignment_of_answer, explained_values, pairs_bytes};
 ghost use Rattle.hwdb_lookup.specs.Views.{IsOf, Stops};
 ghost use Rattle.hwdb_lookup.specs.Sound.{AreSound};
 ghost use Rattle.hwdb_lookup.specs.Windows.{IsOfWindows, StopsOf};
@@ -14,7 +15,8 @@ use crate::opening::frame_of;
 use crate::parts::Parts;
 use crate::stop::Stop;
 use crate::windows::{Windows, seen_of};
-use hwdb_query::effective_among;
+use hwdb_query::{Explained, StoredAssignment, effective_among, explained_among};
+use hwdb_reader::law_ascending;
 use std::alloc::Global;
 
 /// For each key among the answers for the device the value of the last answer with that key, ascending by key. Keys and
@@ -47,8 +49,29 @@ pub fn lookup<'a>(
     Ok(pairs)
 }
 
-/// The same, of a file that was accepted before, and of which windows were read. If bytes of the nodes are needed that
-/// no window has, [`Stop::Missing`] has the offset of the first. One window there, or the file's last, has them.
+/// The answers for the device, of a file that was accepted before, and of which windows were read.
+fn found_in<'a>(
+    alloc: Global,
+    windows: Windows<'a>,
+    device: &[u8],
+) -> Result<Vec<StoredAssignment<'a>>, Stop>
+    ensures found { IfOk result (λ found. (file : List ℕ) (t : Tree)
+        → IsOfWindows windows.entry file → IsDatabase file t
+        → map assignment_of_answer found.items
+        ≡ filter (is_wanted device.now) (members_under [] t)) }
+    ensures stop { IfErr result
+        (λ s. StopsOf windows.entry (λ file. (t : Tree) × IsDatabase file t) s) }
+{
+    let frame = windows.outline.frame;
+    if frame.sizes.strings > windows.outline.size {
+        return Err(Stop::LongPath);
+    }
+    let found = descend(alloc, Parts::Windows(seen_of(windows)), frame, device)?;
+    Ok(found)
+}
+
+/// The same as `lookup`, of a file that was accepted before, and of which windows were read. If bytes of the nodes are needed
+/// that no window has, [`Stop::Missing`] has the offset of the first. One window there, or the file's last, has them.
 ///
 /// [`Stop::LongPath`] comes too if a record has more bytes than a window.
 pub fn lookup_windows<'a>(
@@ -62,11 +85,26 @@ pub fn lookup_windows<'a>(
     ensures stop { IfErr result
         (λ s. StopsOf windows.entry (λ file. (t : Tree) × IsDatabase file t) s) }
 {
-    let frame = windows.outline.frame;
-    if frame.sizes.strings > windows.outline.size {
-        return Err(Stop::LongPath);
-    }
-    let found = descend(alloc, Parts::Windows(seen_of(windows)), frame, device)?;
+    let found = found_in(alloc, windows, device)?;
     let pairs = effective_among(alloc, &found)?;
     Ok(pairs)
+}
+
+/// For each key among the answers for the device its answers, ascending by key, the last answer first. Else the same as
+/// [`lookup_windows`].
+pub fn explain_windows<'a>(
+    alloc: Global,
+    windows: Windows<'a>,
+    device: &[u8],
+) -> Result<Vec<Explained<'a>>, Stop>
+    ensures answer { IfOk result (λ list. (file : List ℕ) (t : Tree)
+        → IsOfWindows windows.entry file → IsDatabase file t
+        → explained_values list.items ≡ explained (answers device.now t)) }
+    ensures stop { IfErr result
+        (λ s. StopsOf windows.entry (λ file. (t : Tree) × IsDatabase file t) s) }
+{
+    law_ascending();
+    let found = found_in(alloc, windows, device)?;
+    let explained = explained_among(alloc, &found)?;
+    Ok(explained)
 }

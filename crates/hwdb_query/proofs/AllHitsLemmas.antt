@@ -108,6 +108,11 @@ all_offered a b pattern key s p c some is same =
     subst (λ o. all_shown b ≡ set_all (one_assignment pattern s o) (all_shown a)) (sym some)
     (ap (λ es. map assignment_at_place es) is ∙ inserted a.hits.entries p c ∙ ap (λ x. set x (all_shown a)) same)
 
+-- one answer is taken
+pub all_taken : (a b : AllHits) (p : Place) (c : HitValue) (x : Assignment) → b.hits.entries ≡ insert_entry place_order a.hits.entries p c → assignment_at_place (p, c) ≡ x → AllCollects a (x ∷ []) b
+unfolding AllCollects set_all
+all_taken a b p c x is same = ap (λ es. map assignment_at_place es) is ∙ inserted a.hits.entries p c ∙ ap (λ y. set y (all_shown a)) same
+
 -- ---- all at the end
 
 set_is_put : (x : Assignment) (l : List Assignment) → ((y : Assignment) → Among y l → assignment_cmp x y ≡ Equal → x ≡ y) → set x l ≡ put assignment_cmp x l

@@ -1,6 +1,7 @@
 //! All hits, each at its position: a sorted map, so that a hit costs the logarithm of their number.
-ghost use Rattle.std.specs.Prelude.{◌≡◌, [], IfOk, OnOk};
+ghost use Rattle.std.specs.Prelude.{◌≡◌, [], ◌∷◌, IfOk, OnOk};
 ghost use Rattle.hwdb_query.specs.Internal.Members.{assignment_shown};
+ghost use Rattle.hwdb_query.specs.Views.{assignment_of_answer};
 ghost use Rattle.hwdb_reader.specs.Views.{entry_shows};
 
 use crate::answer::StoredAssignment;
@@ -53,6 +54,25 @@ impl<'a> AllHits<'a> {
         let content = HitValue {
             value: entry.value,
             path: entry.path,
+        };
+        self.hits.insert(place, content)?;
+        Ok(())
+    }
+
+    /// Takes an answer that was found elsewhere.
+    pub(crate) fn take(&mut self, found: &StoredAssignment<'a>) -> Result<(), AllocError>
+        ensures { OnOk result
+            (AllCollects self.old (assignment_of_answer found.now ∷ []) self.new) }
+    {
+        let place = (
+            found.priority,
+            found.line,
+            found.pattern.clone()?,
+            found.key,
+        );
+        let content = HitValue {
+            value: found.value,
+            path: found.path,
         };
         self.hits.insert(place, content)?;
         Ok(())

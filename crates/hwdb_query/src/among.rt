@@ -1,11 +1,15 @@
-//! The effective list of answers that were collected elsewhere.
-ghost use Rattle.std.specs.Prelude.{◌≡◌, map, IfOk, OnOk};
+//! The effective list and the explanation of answers that were collected elsewhere.
+ghost use Rattle.std.specs.Prelude.{◌≡◌, List, ℕ, [], filter, map, IfOk, OnOk};
 ghost use Rattle.hwdb_spec.specs.Assignment.{assignment_cmp, in_order};
-ghost use Rattle.hwdb_spec.specs.Answers.{effective_of};
+ghost use Rattle.hwdb_spec.specs.Answers.{effective_of, is_wanted};
+ghost use Rattle.hwdb_spec.specs.Explanations.{explained};
+ghost use Rattle.hwdb_spec.specs.Tree.{IsTree, Tree, answers, members_under};
 ghost use Rattle.hwdb_query.specs.Internal.Collected.{LastCollects};
-ghost use Rattle.hwdb_query.specs.Views.{assignment_of_answer, pairs_bytes};
+ghost use Rattle.hwdb_query.specs.Internal.Explaining.{AllCollects};
+ghost use Rattle.hwdb_query.specs.Views.{assignment_of_answer, explained_values, pairs_bytes};
 
-use crate::answer::StoredAssignment;
+use crate::all_hits::AllHits;
+use crate::answer::{Explained, StoredAssignment};
 use crate::last_hits::LastHits;
 use std::alloc::{AllocError, Global};
 
@@ -34,4 +38,32 @@ pub fn effective_among<'a>(
     let mut last = LastHits::new(alloc);
     take_all(&mut last, found)?;
     last.pairs(alloc)
+}
+
+/// The same as [`take_all`], of all answers.
+fn take_each<'a>(all: &mut AllHits<'a>, found: &[StoredAssignment<'a>]) -> Result<(), AllocError>
+    ensures { OnOk result
+        (AllCollects all.old (map assignment_of_answer found.now) all.new) }
+{
+    for i in 0..found.len() {
+        all.take(&found[i])?;
+    }
+    Ok(())
+}
+
+/// For each key among the answers for a device its answers, ascending by key, the last answer first: what `explain` has. The
+/// answers are all those of a database, in any order.
+///
+/// The only error is `AllocError`.
+pub fn explained_among<'a>(
+    alloc: Global,
+    found: &[StoredAssignment<'a>],
+) -> Result<Vec<Explained<'a>>, AllocError>
+    ensures { IfOk result (λ list. (device : List ℕ) (t : Tree) → IsTree t
+        → map assignment_of_answer found.now ≡ filter (is_wanted device) (members_under [] t)
+        → explained_values list.items ≡ explained (answers device t)) }
+{
+    let mut all = AllHits::new(alloc);
+    take_each(&mut all, found)?;
+    all.by_key(alloc)?.explained(alloc)
 }

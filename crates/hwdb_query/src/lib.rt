@@ -52,7 +52,7 @@ mod refill;
 mod spelling;
 mod start;
 
-pub use among::effective_among;
+pub use among::{effective_among, explained_among};
 pub use answer::{Explained, StoredAssignment};
 pub use cursors::Cursor;
 pub use explanations::explain;

@@ -28,7 +28,7 @@ use Rattle.hwdb_spec_program.specs.TaskRefusals.{IsRootRefused, IsSaid}
 use Rattle.hwdb_plan.specs.Advice.{advice_of, advised_if}
 use Rattle.hwdb_plan.specs.Answers.{explain_plan, query_plan}
 use Rattle.hwdb_plan.specs.Ask.{lone_answer}
-use Rattle.hwdb_plan.specs.Check.{check_request, said_of}
+use Rattle.hwdb_plan.specs.Check.{asked_request, said_of}
 use Rattle.hwdb_plan.specs.Device.{search_of}
 use Rattle.hwdb_plan.specs.Diff.{change_of, changes_request}
 use Rattle.hwdb_plan.specs.Dump.{text_form}
@@ -110,9 +110,8 @@ device_command sight root rows (Some from) = OfFiles (report_of root rows from)
 -- `check`
 abbrev pub check_of : (root : List ℕ) (strict : Bool) → List Row → Request
 check_of root strict rows =
-    let name = first_of (codes "name") rows in
-    check_request (values_of (codes "FILE") rows) root name (first_of (codes "baseline") rows)
-    (said_of (format_asked (has_flag (codes "diff") rows) (has_flag (codes "json") rows) (first_of (codes "format") rows)) strict (values_of (codes "allow") rows) name)
+    asked_request (has_flag (codes "rules") rows) (values_of (codes "FILE") rows) root (first_of (codes "name") rows) (first_of (codes "baseline") rows)
+    (said_of (format_asked (has_flag (codes "diff") rows) (has_flag (codes "json") rows) (first_of (codes "format") rows)) strict (values_of (codes "allow") rows))
 
 -- `ask`
 abbrev pub ask_of : List Row → Request

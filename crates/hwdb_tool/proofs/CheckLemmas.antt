@@ -49,7 +49,7 @@ IsShort bytes = length bytes ≤ max_file
 abbrev IsShortSource : Source → Type 0
 IsShortSource s = IsShort s.bytes
 
-short_files : (files : List TextFile) → All IsShort (map (λ f. f.bytes.now) files) → All IsShortSource (map source_of files)
+pub short_files : (files : List TextFile) → All IsShort (map (λ f. f.bytes.now) files) → All IsShortSource (map source_of files)
 short_files [] short = All-nil IsShortSource
 short_files (f ∷ files) short =
     All-cons IsShortSource (source_of f) (map source_of files) (All-head IsShort f.bytes.now (map (λ f. f.bytes.now) files) short)

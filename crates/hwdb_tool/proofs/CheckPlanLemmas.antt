@@ -1,5 +1,6 @@
 -- Ends of `check`, from what its calls promise.
 use Rattle.std.proofs.Common.{◌≡◌, ◌≤◌, ◌∙◌, ◌⊎◌, ◌==◌, ◌∷◌, inl, inr, ap, subst, sym, arith, eqb-true, refl, All, Bool, Global, String, true, false, List, Option, None, Some, Result, Ok, Err, IfErr, IfOk, ℕ, [], length, map, string_bytes}
+use Rattle.std.specs.Prelude.{is_some, option_map}
 use Rattle.std.specs.Result.{IsErrAnd}
 use Rattle.hwdb_check.specs.Checks.{source_of}
 use Rattle.hwdb_check.specs.Known.{IsWrong}
@@ -15,7 +16,7 @@ use Rattle.hwdb_spec.specs.declared.errors.ToolError.TheVariants as error
 use Rattle.hwdb_spec_commands.specs.Baselines.{marks_in, wrong_text}
 use Rattle.hwdb_spec_commands.specs.CheckErrors.{HasLongFile, IsCheckRefusal}
 use Rattle.hwdb_spec_commands.specs.CheckedFiles.{IsChecked}
-use Rattle.hwdb_spec_commands.specs.Checks.{named, names_nothing, nothing_named}
+use Rattle.hwdb_spec_commands.specs.Checks.{named, names_nothing, names_other, nothing_named, other_named, rules_name}
 use Rattle.hwdb_spec_commands.specs.Jobs.{text_if}
 use Rattle.hwdb_spec_commands.specs.Patches.{said_err, said_out, said_status}
 use Rattle.hwdb_spec_commands.specs.Refusals.{IsInWords}
@@ -25,7 +26,7 @@ use Rattle.hwdb_spec_commands.specs.Undone.{AreNotChecked}
 use Rattle.hwdb_spec_commands.specs.declared.refusals.Refusal.{Refusal}
 use Rattle.hwdb_spec_commands.specs.declared.refusals.Refusal.TheVariants as refusal
 use Rattle.hwdb_spec_commands.specs.declared.unread.Unread.TheVariants as unread
-use Rattle.hwdb_plan.specs.Check.{check_plan, said_of, stored}
+use Rattle.hwdb_plan.specs.Check.{check_plan, checked_plan, rules_plan, said_of, stored}
 use Rattle.hwdb_plan.specs.Baseline.{if_marked, over_baseline}
 use Rattle.hwdb_plan.specs.Files.{OfInput, given_files, source_at}
 use Rattle.hwdb_plan.specs.Folders.{texts_of_folders}
@@ -33,6 +34,7 @@ use Rattle.hwdb_plan.specs.GivenFolders.{named_files}
 use Rattle.hwdb_plan.specs.Lemmas.Sides.{in_words_stops}
 use Rattle.hwdb_plan.specs.Lemmas.Steps.{input_told, input_untold}
 use Rattle.hwdb_plan.specs.OverText.{if_fit}
+use Rattle.hwdb_plan.specs.OwnRules.{own_rules, sources_of}
 use Rattle.hwdb_plan.specs.Plans.{End, Ends, Follows, Plan, ReachesValue}
 use Rattle.hwdb_plan.specs.Plans.End.{Stops}
 use Rattle.hwdb_plan.specs.Plans.Plan.{Done}
@@ -56,6 +58,20 @@ files_stored (c ∷ chosen) (text ∷ texts) (f ∷ files) named held =
     let rest = files_stored chosen texts files (cc) (cc) in
     ap (λ (n : List ℕ). source_at n f.bytes.now ∷ map source_of files) name ∙ ap (λ (b : List ℕ). source_at (path_of c) b ∷ map source_of files) bytes
     ∙ ap (λ (l : List Source). source_at (path_of c) text ∷ l) rest
+
+-- and rules files by these paths
+pub files_read : (paths texts : List (List ℕ)) (files : List TextFile) → map (λ f. f.path.now) files ≡ paths → map (λ f. f.bytes.now) files ≡ texts → map source_of files ≡ sources_of paths texts
+unfolding sources_of
+files_read [] texts [] named held = refl
+files_read [] texts (f ∷ files) named held = cc
+files_read (path ∷ paths) texts [] named held = cc
+files_read (path ∷ paths) [] (f ∷ files) named held = cc
+files_read (path ∷ paths) (text ∷ texts) (f ∷ files) named held =
+    let name : f.path.now ≡ path = cc in
+    let bytes : f.bytes.now ≡ text = cc in
+    let rest = files_read paths texts files (cc) (cc) in
+    ap (λ (n : List ℕ). source_at n f.bytes.now ∷ map source_of files) name ∙ ap (λ (b : List ℕ). source_at path b ∷ map source_of files) bytes
+    ∙ ap (λ (l : List Source). source_at path text ∷ l) rest
 
 module _ (w : Reads) (format : Format) (strict : Bool) (allowed : List (List ℕ)) (name : Option (List ℕ)) (known : List (List ℕ)) (sources : List Source) where
   -- they are looked over, which only want of memory can stop
@@ -88,6 +104,21 @@ module _ (w : Reads) (root : List ℕ) (say : List Source → End) (input : Opti
       → OfInput input n m (λ told. Follows end_of w (check_plan told (map string_bytes given) root say) result)
   check_some [] some follows = absurd (cc)
   check_some (path ∷ more) some follows = follows
+
+-- the same with `--rules`
+module _ (w : Reads) (root : List ℕ) (name baseline : Option (List ℕ)) (say : Option (List ℕ) → List (List ℕ) → List Source → End) (input : Option (List ℕ)) (n m : ℕ) (result : Result Answer Refusal) where
+  pub rules_none : (given : List (String Global)) → (length given == 0) ≡ true
+      → Follows end_of w (if_fit (text_if (is_some name) nothing_named) (over_baseline baseline (λ known. own_rules root (λ sources. Done (say name known sources))))) result
+      → OfInput input n m (λ told. Follows end_of w (rules_plan told (map string_bytes given) root name baseline say) result)
+  rules_none [] none follows = (Err unread.Memory, tt, follows)
+  rules_none (path ∷ more) none follows = absurd (let e = eqb-true (length (path ∷ more)) 0 none in omega (arith, e))
+
+  pub rules_some : (given : List (String Global)) → (length given == 0) ≡ false
+      → OfInput input n m (λ told. Follows end_of w (if_fit (text_if (names_other name (map string_bytes given)) other_named)
+      (checked_plan told (map string_bytes given) root (rules_name name (map string_bytes given)) baseline (say (rules_name name (map string_bytes given))))) result)
+      → OfInput input n m (λ told. Follows end_of w (rules_plan told (map string_bytes given) root name baseline say) result)
+  rules_some [] some follows = absurd (cc)
+  rules_some (path ∷ more) some follows = follows
 
 -- an error in words ends a plan that says them
 stopped : (w : Reads) (text : List ℕ) (s : Stop) → s ≡ Says text → Ends w (Done (Stops (Says text))) (Stops s)
@@ -129,14 +160,27 @@ module _ (w : Reads) {Y : Type 0} (marks_of : Y → List (List ℕ)) where
           by (inr says) = inr (λ next. wrong_ends number (stop_of r) next wrong says)
       baseline_wrong baseline.Memory r wrong is = inl is
 
+-- ---- words that don't fit
+module _ (w : Reads) (misfit : Bool) (text : List ℕ) (p : Plan) where
+  pub misfit_said : (r : Refusal) → misfit ≡ true → IsInWords text r → Follows end_of w (if_fit (text_if misfit text) p) (Err r)
+  misfit_said r unfit is = by (in_words_stops text r is)
+    where
+      by : (r ≡ refusal.Plain error.Memory) ⊎ (stop_of r ≡ Says text) → Follows end_of w (if_fit (text_if misfit text) p) (Err r)
+      by (inl memory) = inl memory
+      by (inr says) = inr (subst (λ (b : Bool). Ends w (if_fit (text_if b text) p) (Stops (stop_of r))) (sym unfit) (stopped w text (stop_of r) says))
+
+  pub fit_goes_on : (result : Result Answer Refusal) → misfit ≡ false → Follows end_of w p result → Follows end_of w (if_fit (text_if misfit text) p) result
+  fit_goes_on result fit follows = subst (λ (b : Bool). Follows end_of w (if_fit (text_if b text) p) result) (sym fit) follows
+
 -- ---- a name for standard input
 module _ (w : Reads) (name : Option (List ℕ)) (given : List (List ℕ)) (p : Plan) where
   pub named_in_vain : (r : Refusal) → names_nothing name given ≡ true → IsInWords nothing_named r → Follows end_of w (if_fit (text_if (names_nothing name given) nothing_named) p) (Err r)
-  named_in_vain r vain is = by (in_words_stops nothing_named r is)
-    where
-      by : (r ≡ refusal.Plain error.Memory) ⊎ (stop_of r ≡ Says nothing_named) → Follows end_of w (if_fit (text_if (names_nothing name given) nothing_named) p) (Err r)
-      by (inl memory) = inl memory
-      by (inr says) = inr (subst (λ (b : Bool). Ends w (if_fit (text_if b nothing_named) p) (Stops (stop_of r))) (sym vain) (stopped w nothing_named (stop_of r) says))
+  named_in_vain r vain is = misfit_said w (names_nothing name given) nothing_named p r vain is
 
   pub named_well : (result : Result Answer Refusal) → names_nothing name given ≡ false → Follows end_of w p result → Follows end_of w (if_fit (text_if (names_nothing name given) nothing_named) p) result
-  named_well result well follows = subst (λ (b : Bool). Follows end_of w (if_fit (text_if b nothing_named) p) result) (sym well) follows
+  named_well result well follows = fit_goes_on w (names_nothing name given) nothing_named p result well follows
+
+-- a name that is told is there
+pub option_named : {X Y : Type 0} (value : X → Y) (o : Option X) → is_some (option_map value o) ≡ is_some o
+option_named value None = refl
+option_named value (Some x) = refl

@@ -3,6 +3,8 @@ pub mod Views
 pub mod Verbs
 pub mod Laws
 pub mod Internal
+pub mod Looking
+pub mod CheckAsked
 pub mod Statuses
 pub mod TextPlans
 pub mod Emptying

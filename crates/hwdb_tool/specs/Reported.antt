@@ -21,7 +21,7 @@ use Rattle.hwdb_spec_program.specs.DeviceErrors.{SaysSeveral, asked_names}
 use Rattle.hwdb_tool.specs.Views.{end_of}
 use Rattle.hwdb_tool.specs.declared.answer.Answer.{Answer}
 use Rattle.hwdb_tool.specs.declared.reported.Report.{Report}
-use Rattle.hwdb_tool.specs.declared.reported.Wanted.{Wanted}
+use Rattle.hwdb_tool.specs.declared.reported.DeviceQuestion.{DeviceQuestion}
 
 -- what an export shows, what is said of what it lacks, and the root of the database
 abbrev pub report_of : (root : List ℕ) → Report → plan.Report
@@ -33,7 +33,7 @@ report_of root r = record {
 }
 
 -- the path or name of the device that is asked for
-abbrev pub given_in : Wanted → Option (List ℕ)
+abbrev pub given_in : DeviceQuestion → Option (List ℕ)
 given_in w = option_map (λ t. t.now) w.given
 
 -- no device of an export is meant, or several, or there is no memory

@@ -1,90 +1,26 @@
-//! What devices get: from the database, or from one text file.
-ghost use Rattle.std.specs.Prelude.{[], ◌∷◌, ◌≡◌, ◌≤◌, false, option_map, IfOk, OnOk};
+//! `list` and `ask`: the hits of the database, and what one text file gives.
+ghost use Rattle.std.specs.Prelude.{◌≡◌, false, option_map, IfOk, OnOk};
 ghost use Rattle.hwdb_spec.specs.Flushing.{HandsOn};
 ghost use Rattle.hwdb_spec_commands.specs.Given.{is_dash};
 ghost use Rattle.hwdb_spec_commands.specs.Runs.{Told, told_by};
-ghost use Rattle.hwdb_plan.specs.Answers.{answer_plan, explain_plan};
 ghost use Rattle.hwdb_plan.specs.Ask.{ask_plan};
 ghost use Rattle.hwdb_plan.specs.Ended.{ShowsEnd, outs};
 ghost use Rattle.hwdb_plan.specs.Input.{OverGiven};
 ghost use Rattle.hwdb_plan.specs.List.{list_plan};
 ghost use Rattle.hwdb_plan.specs.Plans.{Follows};
 ghost use Rattle.hwdb_tool.specs.Views.{end_of};
-ghost use Rattle.hwdb_spec_commands.specs.declared.job.Task.TheVariants.{Ask, Explain, List as ListHits};
+ghost use Rattle.hwdb_spec_commands.specs.declared.job.Task.TheVariants.{Ask, List as ListHits};
 
 use crate::answer::Answer;
 use crate::databases::{asked, refused_database};
 use crate::given::{is_dash, read};
-use crate::input_devices::answer_input;
-use crate::printing::printed;
 use crate::verb::{StreamVerb, Verb, root_of, text_of};
-use hwdb_answers::{Form, answer, ask_texts, print_list};
-use hwdb_cli::{AskArgs, ExplainArgs, Job, ListArgs};
+use hwdb_answers::{ask_texts, print_list};
+use hwdb_cli::{AskArgs, Job, ListArgs};
 use hwdb_io::{Sink, Source};
 use hwdb_system::{Machine, Refusal, System};
 use hwdb_writer::law_one_written_form;
 use std::alloc::Global;
-
-/// Prints the properties that the database below the root gives the device, and where each comes from. If the device is `-`,
-/// `input` names the devices, one a line. Each is answered as soon as its line is read. For any other device nothing is read of
-/// `input`.
-pub fn explain<D: System, I: Source, O: Sink, E: Sink>(
-    alloc: Global,
-    root: &str,
-    device: &str,
-    json: bool,
-    system: &D,
-    input: &mut I,
-    out: &mut O,
-    err: &mut E,
-) -> Result<u8, Refusal>
-    ensures small { IfOk result (λ status. status ≤ 1) }
-    ensures follows { D.Store.tells → ShowsEnd (D.System.reads system.now)
-        (explain_plan root.now json device.now)
-        (told_by I.left I.failures input.old) (told_by I.left I.failures input.new)
-        (outs (told_by E.taken E.failures err.old) (told_by O.taken O.failures out.old))
-        (outs (told_by E.taken E.failures err.new) (told_by O.taken O.failures out.new)) result }
-    ensures unread { is_dash device.now ≡ false → input.new ≡ input.old }
-    ensures unfailed { OnOk result (O.failures out.new ≡ O.failures out.old) }
-    ensures out_hands_on { HandsOn (O.is_flushed out.old) (O.is_flushed out.new)
-        (O.failures out.old) (O.failures out.new) }
-    ensures err_hands_on { HandsOn (E.is_flushed err.old) (E.is_flushed err.new)
-        (E.failures err.old) (E.failures err.new) }
-{
-    if is_dash(device) {
-        return answer_input(
-            alloc,
-            root,
-            Form::Explain { json },
-            false,
-            system,
-            input,
-            out,
-            err,
-        );
-    }
-    let answer = explain_given(alloc, root, device.as_bytes(), json, system);
-    printed(answer, out, err)
-}
-
-/// The properties that the database below the root gives this device, and where each comes from.
-fn explain_given<D: System>(
-    alloc: Global,
-    root: &str,
-    device: &[u8],
-    json: bool,
-    system: &D,
-) -> Result<Answer, Refusal>
-    ensures status { IfOk result (λ a. a.status ≡ 0) }
-    ensures follows { D.Store.tells → Follows end_of (D.System.reads system.now)
-        (answer_plan root.now (Form.Explain json) (device.now ∷ [])) result }
-{
-    let found = asked(alloc, root, system)?;
-    match answer(alloc, &found.bytes, device, Form::Explain { json }) {
-        Ok(text) => Ok(Answer::new(alloc, text, 0)),
-        Err(error) => Err(refused_database(alloc, error, found.path.as_bytes())),
-    }
-}
 
 /// Prints the hits that the database below the root has for the device, each as it is found.
 pub fn list<D: System, O: Sink>(
@@ -150,23 +86,6 @@ impl<D: Machine, I: Source> Verb<D, I> for AskArgs {
     ) -> Result<Answer, Refusal> {
         let (file, device) = (self.file.as_str(), self.device.as_bytes());
         ask_file(alloc, file, device, system, input)
-    }
-}
-
-impl<D: Machine, I: Source, O: Sink, E: Sink> StreamVerb<D, I, O, E> for ExplainArgs {
-    ghost task = { λ args. Explain args };
-
-    fn run(
-        &self,
-        alloc: Global,
-        job: &Job,
-        system: &D,
-        input: &mut I,
-        out: &mut O,
-        err: &mut E,
-    ) -> Result<u8, Refusal> {
-        let (root, device) = (root_of(job), self.device.as_str());
-        explain(alloc, root, device, self.json, system, input, out, err)
     }
 }
 

@@ -21,11 +21,12 @@ ghost use Rattle.hwdb_tool.specs.Views.{end_of, texts_in};
 ghost use Rattle.hwdb_spec_commands.specs.declared.job.Task.TheVariants.{Check};
 
 use crate::answer::Answer;
+use crate::check_rules::check_words;
 use crate::given::{any_dash, bytes_given, input_text};
 use crate::given_folders::named_files;
-use crate::verb::{Verb, root_of, text_of};
+use crate::verb::{Verb, root_of};
 use hwdb_answers::ToolError;
-use hwdb_check::{BaselineFault, Telling, TextFile, format_asked, marks_in, say_files, wrong_text};
+use hwdb_check::{BaselineFault, Telling, TextFile, marks_in, say_files, wrong_text};
 use hwdb_cli::{CheckArgs, Job};
 use hwdb_io::Source;
 use hwdb_spec_commands::Format;
@@ -138,7 +139,7 @@ fn check_chosen<D: System>(
 }
 
 /// The same of files that were read.
-fn check_read(
+pub(crate) fn check_read(
     alloc: Global,
     files: &[TextFile<'_>],
     name: Option<&str>,
@@ -178,7 +179,7 @@ fn names_nothing(name: Option<&str>, given: &[String]) -> bool
 }
 
 /// The error of that.
-fn nothing_named(alloc: Global) -> Refusal
+pub(crate) fn nothing_named(alloc: Global) -> Refusal
     ensures { IsInWords nothing_named result }
 {
     let words = b"--name names standard input: give - as FILE";
@@ -202,7 +203,7 @@ fn refused_baseline(alloc: Global, path: &str, fault: BaselineFault) -> Refusal
 }
 
 /// The findings of the baseline at a path, if one is given.
-fn known_at<D: System>(
+pub(crate) fn known_at<D: System>(
     alloc: Global,
     baseline: Option<&str>,
     system: &D,
@@ -380,12 +381,6 @@ impl<D: Machine, I: Source> Verb<D, I> for CheckArgs {
         system: &D,
         input: &mut I,
     ) -> Result<Answer, Refusal> {
-        let form = format_asked(self.diff, self.json, &self.format);
-        let (name, known) = (text_of(&self.name), text_of(&self.baseline));
-        let (files, allowed) = (&self.files, &self.allowed);
-        let (root, strict) = (root_of(job), job.strict);
-        check_as_asked(
-            alloc, root, files, name, known, form, allowed, strict, system, input,
-        )
+        check_words(alloc, root_of(job), self, job.strict, system, input)
     }
 }

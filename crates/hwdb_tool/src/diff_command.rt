@@ -5,6 +5,7 @@ ghost use Rattle.hwdb_spec_commands.specs.Comparisons.{comparison_form, comparis
 ghost use Rattle.hwdb_spec_commands.specs.Databases.{IsDiffText, IsDifferent};
 ghost use Rattle.hwdb_spec_commands.specs.DiffErrors.{IsDiffRefusal};
 ghost use Rattle.hwdb_spec.specs.Folders as folders;
+ghost use Rattle.hwdb_spec_commands.specs.SampleDevices.{told_changed, told_form, told_said};
 ghost use Rattle.hwdb_spec_commands.specs.Given.{any_dash, is_dash};
 ghost use Rattle.hwdb_spec_program.specs.GivenDatabases.{names_twice, twice_text};
 ghost use Rattle.hwdb_spec_commands.specs.Refusals.{IsInWords};
@@ -30,7 +31,7 @@ use crate::verb::Verb;
 use hwdb_answers::ToolError;
 use hwdb_check::TextFile;
 use hwdb_cli::{DiffArgs, Job, ReviewArgs};
-use hwdb_databases::{Changes, DiffError};
+use hwdb_databases::{Changes, DiffError, diff_samples};
 use hwdb_io::Source;
 use hwdb_reader::law_one_tree;
 use hwdb_system::{Machine, Refusal, TextsBelow};
@@ -127,8 +128,33 @@ fn answer_of(changes: Changes) -> Answer
     Answer::with_error(said, text, status_of(differ))
 }
 
-/// What changed from one database to another, for the devices of some files if there are any.
+/// What changed from one database to another: for devices that are made, or as below.
 fn changes_of(
+    alloc: Global,
+    review: &ReviewArgs,
+    files: &[TextFile<'_>],
+    old: &[u8],
+    new: &[u8],
+) -> Result<Changes, DiffError>
+    ensures text { IfOk result (λ changes. IsDiffText
+        (told_form (review_in review.now) (map source_of files.now))
+        old.now new.now changes.text.items) }
+    ensures said { IfOk result (λ changes. IsDiffText
+        (told_said (review_in review.now) (map source_of files.now))
+        old.now new.now changes.said.items) }
+    ensures differ { IfOk result (λ changes. IsDifferent
+        (told_changed (review_in review.now) (map source_of files.now))
+        old.now new.now changes.differ) }
+    ensures errors { IfErr result (IsDiffRefusal old.now new.now) }
+{
+    if review.samples {
+        return diff_samples(alloc, review, old, new);
+    }
+    listed_changes(alloc, review, files, old, new)
+}
+
+/// What changed from one database to another, for the devices of some files if there are any.
+fn listed_changes(
     alloc: Global,
     review: &ReviewArgs,
     files: &[TextFile<'_>],

@@ -1,4 +1,4 @@
-//! `query` of a database of which the strings alone are held. The file is checked while it is read. After that the few records
+//! `query` and `explain` of a database of which the strings alone are held. The file is checked while it is read. After that the few records
 //! are read that the devices need.
 //!
 //! The file is opened once, so that another one that takes its path meanwhile isn't read. None says nothing: the file isn't
@@ -46,57 +46,57 @@ fn asked_path<D: System>(alloc: Global, root: &str, system: &D) -> Option<String
     }
 }
 
-/// What `query` prints of the devices, if the file is accepted, and isn't changed until then.
+/// What is printed of the devices, if the file is accepted, and isn't changed until then.
 fn text_of_opened<F: OpenedFile>(
     alloc: Global,
     file: &F,
     devices: &[String],
-    json: bool,
+    form: Form,
 ) -> Option<Vec<u8>>
     ensures { IfSome result (λ text. (bytes : List ℕ) → F.is_of file.now bytes
         → (length bytes ≤ max_file)
-        × IsTextOf (texts_of (Form.Query json) (map string_bytes devices.now)) bytes text.items) }
+        × IsTextOf (texts_of form (map string_bytes devices.now)) bytes text.items) }
 {
     let kept = accepted(alloc, file, MAX_BYTES as usize)?;
-    let text = texts_of_kept(alloc, file, &kept, devices, json)?;
+    let text = texts_of_kept(alloc, file, &kept, devices, form)?;
     if !file.is_unchanged() {
         return None;
     }
     Some(text)
 }
 
-/// What `query` prints of the devices, if the file at the path can be opened, and is accepted.
+/// What is printed of the devices, if the file at the path can be opened, and is accepted.
 fn text_in_parts<D: System>(
     alloc: Global,
     path: &str,
     devices: &[String],
-    json: bool,
+    form: Form,
     system: &D,
 ) -> Option<Vec<u8>>
     ensures { D.Store.tells → IfSome result (λ text. (bytes : List ℕ)
         × ((D.System.reads system.now).database path.now ≡ Ok (Some bytes))
-        × IsTextOf (texts_of (Form.Query json) (map string_bytes devices.now)) bytes text.items) }
+        × IsTextOf (texts_of form (map string_bytes devices.now)) bytes text.items) }
 {
     let file = system.open_database(alloc, path)?;
-    text_of_opened(alloc, &file, devices, json)
+    text_of_opened(alloc, &file, devices, form)
 }
 
-/// What `query` prints of the devices, if it can be told without all of the database in memory.
+/// What is printed of the devices, if it can be told without all of the database in memory.
 pub fn answer_in_parts<D: System>(
     alloc: Global,
     root: &str,
     devices: &[String],
-    json: bool,
+    form: Form,
     system: &D,
 ) -> Option<Answer>
     ensures status { IfSome result (λ a. a.status ≡ 0) }
     ensures follows { D.Store.tells → IfSome result (λ a. Ends (D.System.reads system.now)
-        (answer_plan root.now (Form.Query json) (map string_bytes devices.now)) (end_of a)) }
+        (answer_plan root.now form (map string_bytes devices.now)) (end_of a)) }
 {
     if devices.len() > FEW {
         return None;
     }
     let path = asked_path(alloc, root, system)?;
-    let text = text_in_parts(alloc, path.as_str(), devices, json, system)?;
+    let text = text_in_parts(alloc, path.as_str(), devices, form, system)?;
     Some(Answer::new(alloc, text, 0))
 }

@@ -9,11 +9,12 @@
 //! | `coloured` | one that shows what it takes in colour, and as a terminal is shown it |
 //! | `advising` | what is said on a terminal if a command prints nothing; `kept`: its texts until that is known |
 //! | `update_command` | `update`; `progress`: what it says of its files; `hiding`: of a database that hides the new one; `emptied`: of one that is lost |
-//! | `query_command` | `query`, of the devices of the words or of standard input; `in_parts`: of a database whose strings alone are held |
-//! | `answers` | `explain`, `list` and `ask` |
+//! | `query_command` | `query` and `explain`, of the devices of the words or of standard input; `in_parts`: of a database whose strings alone are held |
+//! | `answers` | `list` and `ask` |
 //! | `input_devices` | `query -` and `explain -`: the devices that standard input names |
 //! | `reloading` | the database that answers them, and the one that replaces it |
 //! | `check_command` | `check` |
+//! | `check_rules` | `check --rules` |
 //! | `test_command` | `test`; `record_command`: `test --record` |
 //! | `near_command` | `near` |
 //! | `device_command` | `device`; `missing`: what is said if there is no sysfs, or no such device |
@@ -42,6 +43,7 @@ mod answer;
 mod answers;
 mod besides;
 mod check_command;
+mod check_rules;
 mod coloured;
 mod commands;
 mod crash;
@@ -81,7 +83,7 @@ mod verdicts;
 mod verify_command;
 
 pub use answer::Answer;
-pub use answers::{ask_file, explain, list};
+pub use answers::{ask_file, list};
 pub use check_command::check;
 pub use coloured::{Coloured, kind_of, terminals_get_no_control, write_shown};
 pub use crash::{crash_then_query, kill_then_query};
@@ -105,7 +107,7 @@ pub use laws::{listings_give_one_reading, update_then_query};
 pub use near_command::near;
 pub use outlet::Outlet;
 pub use over_text::text_shows_over;
-pub use query_command::query;
+pub use query_command::{Lookup, look_up};
 pub use record_command::record;
 pub use status_command::status;
 pub use test_command::test;

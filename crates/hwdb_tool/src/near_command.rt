@@ -31,7 +31,7 @@ const TOLD: usize = 3;
 
 /// What is asked: the patterns nearest to a device, how many of them, and in which form.
 #[derive(Clone, Copy)]
-pub struct Wanted<'a> {
+pub struct NearQuestion<'a> {
     /// What is in front of the paths of databases.
     pub root: &'a str,
     /// The device.
@@ -47,21 +47,21 @@ pub struct Wanted<'a> {
 pub fn near<D: System, I: Source>(
     alloc: Global,
     given: &[String],
-    wanted: Wanted<'_>,
+    question: NearQuestion<'_>,
     system: &D,
     input: &mut I,
 ) -> Result<Answer, Refusal>
     ensures status { IfOk result (λ a. a.status ≡ 0) }
     ensures follows { D.Store.tells → OfInput (I.left input.old) (I.failures input.old)
         (I.failures input.new) (λ told. Follows end_of (D.System.reads system.now)
-        (near_plan told (map string_bytes given.now) wanted.entry.root.now
-        (near_form wanted.entry.json wanted.entry.device.now wanted.entry.limit)) result) }
+        (near_plan told (map string_bytes given.now) question.entry.root.now
+        (near_form question.entry.json question.entry.device.now question.entry.limit)) result) }
     ensures unread { any_dash (map string_bytes given.now) ≡ false → input.new ≡ input.old }
 {
     if given.is_empty() {
-        near_asked(alloc, wanted, system)
+        near_asked(alloc, question, system)
     } else {
-        near_given(alloc, given, wanted, system, input)
+        near_given(alloc, given, question, system, input)
     }
 }
 
@@ -76,19 +76,23 @@ fn count_of(limit: Option<u64>) -> usize
 }
 
 /// The same of the patterns of the database.
-fn near_asked<D: System>(alloc: Global, wanted: Wanted<'_>, system: &D) -> Result<Answer, Refusal>
+fn near_asked<D: System>(
+    alloc: Global,
+    question: NearQuestion<'_>,
+    system: &D,
+) -> Result<Answer, Refusal>
     ensures status { IfOk result (λ a. a.status ≡ 0) }
     ensures follows { D.Store.tells → Follows end_of (D.System.reads system.now)
-        (asked wanted.entry.root.now (near_database
-        (near_form wanted.entry.json wanted.entry.device.now wanted.entry.limit))) result }
+        (asked question.entry.root.now (near_database
+        (near_form question.entry.json question.entry.device.now question.entry.limit))) result }
 {
-    let found = asked(alloc, wanted.root, system)?;
+    let found = asked(alloc, question.root, system)?;
     match near_in_database(
         alloc,
         &found.bytes,
-        wanted.device,
-        wanted.limit,
-        wanted.json,
+        question.device,
+        question.limit,
+        question.json,
     ) {
         Ok(text) => Ok(Answer::new(alloc, text, 0)),
         Err(error) => {
@@ -112,7 +116,7 @@ fn error_of(error: NearError) -> ToolError
 fn near_given<D: System, I: Source>(
     alloc: Global,
     given: &[String],
-    wanted: Wanted<'_>,
+    question: NearQuestion<'_>,
     system: &D,
     input: &mut I,
 ) -> Result<Answer, Refusal>
@@ -120,14 +124,20 @@ fn near_given<D: System, I: Source>(
     ensures follows { D.Store.tells → OfInput (I.left input.old) (I.failures input.old)
         (I.failures input.new) (λ told. Follows end_of (D.System.reads system.now)
         (given_files (map string_bytes given.now) told (map string_bytes given.now)
-        (λ sources. Done (Answers 0 [] (near_form wanted.entry.json wanted.entry.device.now
-        wanted.entry.limit (patterns_from 1 sources))))) result) }
+        (λ sources. Done (Answers 0 [] (near_form question.entry.json question.entry.device.now
+        question.entry.limit (patterns_from 1 sources))))) result) }
     ensures unread { any_dash (map string_bytes given.now) ≡ false → input.new ≡ input.old }
 {
     let texts = given_texts(alloc, given, given, system, input)?;
     let files = with_paths(alloc, given, &texts)?;
     let compared = compared(alloc, &files)?;
-    let told = near_in_files(alloc, &compared, wanted.device, wanted.limit, wanted.json)?;
+    let told = near_in_files(
+        alloc,
+        &compared,
+        question.device,
+        question.limit,
+        question.json,
+    )?;
     Ok(Answer::new(alloc, told, 0))
 }
 
@@ -159,12 +169,12 @@ impl<D: Machine, I: Source> Verb<D, I> for NearArgs {
         system: &D,
         input: &mut I,
     ) -> Result<Answer, Refusal> {
-        let wanted = Wanted {
+        let question = NearQuestion {
             root: root_of(job),
             device: self.device.as_bytes(),
             limit: count_of(self.limit),
             json: self.json,
         };
-        near(alloc, &self.files, wanted, system, input)
+        near(alloc, &self.files, question, system, input)
     }
 }

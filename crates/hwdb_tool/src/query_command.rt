@@ -1,13 +1,14 @@
-//! `query`: what each of several devices gets, those of the words or those that standard input names.
+//! `query` and `explain`: what each of several devices gets, those of the words or those that standard input names.
 ghost use Rattle.std.specs.Prelude.{◌≡◌, ◌≤◌, false, map, string_bytes, IfOk, OnOk};
 ghost use Rattle.hwdb_spec.specs.Flushing.{HandsOn};
 ghost use Rattle.hwdb_spec_commands.specs.Given.{is_input};
 ghost use Rattle.hwdb_spec_commands.specs.Runs.{told_by};
-ghost use Rattle.hwdb_plan.specs.Answers.{answer_plan, query_plan};
+ghost use Rattle.hwdb_plan.specs.Answers.{answer_plan};
 ghost use Rattle.hwdb_plan.specs.Ended.{ShowsEnd, outs};
 ghost use Rattle.hwdb_plan.specs.Plans.{Follows};
+ghost use Rattle.hwdb_tool.specs.Looking.{lookup_plan};
 ghost use Rattle.hwdb_tool.specs.Views.{end_of};
-ghost use Rattle.hwdb_spec_commands.specs.declared.job.Task.TheVariants.{Query};
+ghost use Rattle.hwdb_spec_commands.specs.declared.job.Task.TheVariants.{Explain, Query};
 
 use crate::answer::Answer;
 use crate::databases::{asked, refused_database};
@@ -16,19 +17,30 @@ use crate::input_devices::answer_input;
 use crate::printing::printed;
 use crate::verb::{StreamVerb, root_of};
 use hwdb_answers::{Form, answers};
-use hwdb_cli::{Job, QueryArgs};
+use hwdb_cli::{ExplainArgs, Job, QueryArgs};
 use hwdb_io::{Sink, Source};
 use hwdb_system::{Machine, Refusal, System};
 use std::alloc::Global;
+use std::slice::from_ref;
 
-/// Prints the properties that the database below the root gives each device. If the only device is `-`, `input` names the
-/// devices, one a line. Each is answered as soon as its line is read. For other devices nothing is read of `input`.
-pub fn query<D: System, I: Source, O: Sink, E: Sink>(
+/// Devices that the database below a root is asked for, and what is printed of each.
+#[derive(Clone, Copy)]
+pub struct Lookup<'a> {
+    /// What is in front of the paths of databases.
+    pub root: &'a str,
+    /// The devices.
+    pub devices: &'a [String],
+    /// What is printed.
+    pub form: Form,
+    /// Whether a database that is replaced meanwhile is read anew.
+    pub reload: bool,
+}
+
+/// Prints what the database below the root gives each device. If the only device is `-`, `input` names the devices, one a line.
+/// Each is answered as soon as its line is read. For other devices nothing is read of `input`.
+pub fn look_up<D: System, I: Source, O: Sink, E: Sink>(
     alloc: Global,
-    root: &str,
-    devices: &[String],
-    json: bool,
-    reload: bool,
+    lookup: Lookup<'_>,
     system: &D,
     input: &mut I,
     out: &mut O,
@@ -36,30 +48,28 @@ pub fn query<D: System, I: Source, O: Sink, E: Sink>(
 ) -> Result<u8, Refusal>
     ensures small { IfOk result (λ status. status ≤ 1) }
     ensures follows { D.Store.tells → ShowsEnd (D.System.reads system.now)
-        (query_plan root.now json (map string_bytes devices.now))
+        (lookup_plan lookup.entry)
         (told_by I.left I.failures input.old) (told_by I.left I.failures input.new)
         (outs (told_by E.taken E.failures err.old) (told_by O.taken O.failures out.old))
         (outs (told_by E.taken E.failures err.new) (told_by O.taken O.failures out.new)) result }
-    ensures unread { is_input (map string_bytes devices.now) ≡ false → input.new ≡ input.old }
+    ensures unread { is_input (map string_bytes lookup.entry.devices.now) ≡ false
+        → input.new ≡ input.old }
     ensures unfailed { OnOk result (O.failures out.new ≡ O.failures out.old) }
     ensures out_hands_on { HandsOn (O.is_flushed out.old) (O.is_flushed out.new)
         (O.failures out.old) (O.failures out.new) }
     ensures err_hands_on { HandsOn (E.is_flushed err.old) (E.is_flushed err.new)
         (E.failures err.old) (E.failures err.new) }
 {
+    let Lookup {
+        root,
+        devices,
+        form,
+        reload,
+    } = lookup;
     if is_input(devices) {
-        return answer_input(
-            alloc,
-            root,
-            Form::Query { json },
-            reload,
-            system,
-            input,
-            out,
-            err,
-        );
+        return answer_input(alloc, root, form, reload, system, input, out, err);
     }
-    let answer = query_given(alloc, root, devices, json, system);
+    let answer = answer_given(alloc, root, devices, form, system);
     printed(answer, out, err)
 }
 
@@ -73,38 +83,38 @@ pub(crate) fn is_input(devices: &[String]) -> bool
     }
 }
 
-/// The properties that the database below the root gives each of these devices.
-fn query_given<D: System>(
+/// What the database below the root gives each of these devices.
+fn answer_given<D: System>(
     alloc: Global,
     root: &str,
     devices: &[String],
-    json: bool,
+    form: Form,
     system: &D,
 ) -> Result<Answer, Refusal>
     ensures status { IfOk result (λ a. a.status ≡ 0) }
     ensures follows { D.Store.tells → Follows end_of (D.System.reads system.now)
-        (answer_plan root.now (Form.Query json) (map string_bytes devices.now)) result }
+        (answer_plan root.now form (map string_bytes devices.now)) result }
 {
-    match answer_in_parts(alloc, root, devices, json, system) {
+    match answer_in_parts(alloc, root, devices, form, system) {
         Some(answer) => Ok(answer),
-        None => query_whole(alloc, root, devices, json, system),
+        None => answer_whole(alloc, root, devices, form, system),
     }
 }
 
 /// The same of a database that is read as a whole.
-fn query_whole<D: System>(
+fn answer_whole<D: System>(
     alloc: Global,
     root: &str,
     devices: &[String],
-    json: bool,
+    form: Form,
     system: &D,
 ) -> Result<Answer, Refusal>
     ensures status { IfOk result (λ a. a.status ≡ 0) }
     ensures follows { D.Store.tells → Follows end_of (D.System.reads system.now)
-        (answer_plan root.now (Form.Query json) (map string_bytes devices.now)) result }
+        (answer_plan root.now form (map string_bytes devices.now)) result }
 {
     let found = asked(alloc, root, system)?;
-    match answers(alloc, &found.bytes, devices, Form::Query { json }) {
+    match answers(alloc, &found.bytes, devices, form) {
         Ok(text) => Ok(Answer::new(alloc, text, 0)),
         Err(error) => Err(refused_database(alloc, error, found.path.as_bytes())),
     }
@@ -122,9 +132,34 @@ impl<D: Machine, I: Source, O: Sink, E: Sink> StreamVerb<D, I, O, E> for QueryAr
         out: &mut O,
         err: &mut E,
     ) -> Result<u8, Refusal> {
-        let (root, devices, json) = (root_of(job), &self.devices, self.json);
-        query(
-            alloc, root, devices, json, job.reload, system, input, out, err,
-        )
+        let lookup = Lookup {
+            root: root_of(job),
+            devices: &self.devices,
+            form: Form::Query { json: self.json },
+            reload: job.reload,
+        };
+        look_up(alloc, lookup, system, input, out, err)
+    }
+}
+
+impl<D: Machine, I: Source, O: Sink, E: Sink> StreamVerb<D, I, O, E> for ExplainArgs {
+    ghost task = { λ args. Explain args };
+
+    fn run(
+        &self,
+        alloc: Global,
+        job: &Job,
+        system: &D,
+        input: &mut I,
+        out: &mut O,
+        err: &mut E,
+    ) -> Result<u8, Refusal> {
+        let lookup = Lookup {
+            root: root_of(job),
+            devices: from_ref(&self.device),
+            form: Form::Explain { json: self.json },
+            reload: false,
+        };
+        look_up(alloc, lookup, system, input, out, err)
     }
 }

@@ -45,7 +45,7 @@ const SYS: &[u8] = b"/sys";
 
 /// What `device` is asked for.
 #[derive(Clone, Copy)]
-pub struct Wanted<'w> {
+pub struct DeviceQuestion<'w> {
     /// The root of the database.
     pub root: &'w str,
     /// The device's path or name; None if the devices are listed.
@@ -67,7 +67,7 @@ struct Report<'b> {
 pub fn devices_from<D: Machine, I: Source>(
     alloc: Global,
     from: Option<&str>,
-    wanted: Wanted<'_>,
+    question: DeviceQuestion<'_>,
     system: &D,
     input: &mut I,
 ) -> Result<Answer, Refusal>
@@ -75,18 +75,18 @@ pub fn devices_from<D: Machine, I: Source>(
     ensures unread { names_input (option_map (λ t. t.now) from.entry) ≡ false
         → input.new ≡ input.old }
     ensures follows { D.Store.tells → FollowsFrom (option_map (λ t. t.now) from.entry)
-        wanted.entry.root.now wanted.entry.form wanted.entry.all (given_in wanted.entry)
+        question.entry.root.now question.entry.form question.entry.all (given_in question.entry)
         (sight_by D.answers system.now) (D.System.reads system.now)
         (I.left input.old) (I.failures input.old) (I.failures input.new) result }
 {
     match from {
-        Some(from) => over_file(alloc, from, wanted, system, input),
+        Some(from) => over_file(alloc, from, question, system, input),
         None => devices(
             alloc,
-            wanted.root,
-            wanted.given,
-            wanted.form,
-            wanted.all,
+            question.root,
+            question.given,
+            question.form,
+            question.all,
             system,
         ),
     }
@@ -96,7 +96,7 @@ pub fn devices_from<D: Machine, I: Source>(
 fn over_file<D: System, I: Source>(
     alloc: Global,
     from: &str,
-    wanted: Wanted<'_>,
+    question: DeviceQuestion<'_>,
     system: &D,
     input: &mut I,
 ) -> Result<Answer, Refusal>
@@ -105,11 +105,11 @@ fn over_file<D: System, I: Source>(
     ensures follows { D.Store.tells → OfInput
         (I.left input.old) (I.failures input.old) (I.failures input.new) (λ told. Follows end_of
         (D.System.reads system.now) (given_at told from.now (plan.report_answer asked_names
-        wanted.entry.root.now wanted.entry.form wanted.entry.all (given_in wanted.entry)))
+        question.entry.root.now question.entry.form question.entry.all (given_in question.entry)))
         result) }
 {
     let bytes = read(alloc, from, system, input)?;
-    over_bytes(alloc, named(from), &bytes, wanted, system)
+    over_bytes(alloc, named(from), &bytes, question, system)
 }
 
 /// How errors call a file.
@@ -128,20 +128,20 @@ fn over_bytes<D: System>(
     alloc: Global,
     path: &[u8],
     bytes: &[u8],
-    wanted: Wanted<'_>,
+    question: DeviceQuestion<'_>,
     system: &D,
 ) -> Result<Answer, Refusal>
     ensures status { IfOk result (λ a. a.status ≡ 0) }
     ensures follows { D.Store.tells → Follows end_of (D.System.reads system.now)
-        (plan.report_answer asked_names wanted.entry.root.now wanted.entry.form
-        wanted.entry.all (given_in wanted.entry) path.now bytes.now) result }
+        (plan.report_answer asked_names question.entry.root.now question.entry.form
+        question.entry.all (given_in question.entry) path.now bytes.now) result }
 {
     if !is_export(bytes) {
         return Err(no_export(alloc, path));
     }
     let export = Export::of(alloc, bytes)?;
     let report = Report { export, path };
-    over_report(alloc, &report, wanted, system)
+    over_report(alloc, &report, question, system)
 }
 
 /// The error of bytes that are no export.
@@ -183,19 +183,19 @@ fn lacks(alloc: Global, report: &Report<'_>) -> Result<Vec<u8>, AllocError>
 fn over_report<D: System>(
     alloc: Global,
     report: &Report<'_>,
-    wanted: Wanted<'_>,
+    question: DeviceQuestion<'_>,
     system: &D,
 ) -> Result<Answer, Refusal>
     ensures status { IfOk result (λ a. a.status ≡ 0) }
     ensures follows { D.Store.tells → Follows end_of (D.System.reads system.now)
-        (plan.found_asked (report_of wanted.entry.root.now report.now) wanted.entry.form
-        wanted.entry.all (given_in wanted.entry)) result }
+        (plan.found_asked (report_of question.entry.root.now report.now) question.entry.form
+        question.entry.all (given_in question.entry)) result }
 {
-    if wanted.all {
-        return every(alloc, report, wanted, system);
+    if question.all {
+        return every(alloc, report, question, system);
     }
-    match wanted.given {
-        Some(given) => shown(alloc, report, given.as_bytes(), wanted, system),
+    match question.given {
+        Some(given) => shown(alloc, report, given.as_bytes(), question, system),
         None => listed(alloc, report),
     }
 }
@@ -257,16 +257,16 @@ fn shown<D: System>(
     alloc: Global,
     report: &Report<'_>,
     given: &[u8],
-    wanted: Wanted<'_>,
+    question: DeviceQuestion<'_>,
     system: &D,
 ) -> Result<Answer, Refusal>
     ensures status { IfOk result (λ a. a.status ≡ 0) }
     ensures follows { D.Store.tells → Follows end_of (D.System.reads system.now)
-        (plan.found_device (report_of wanted.entry.root.now report.now) wanted.entry.form
+        (plan.found_device (report_of question.entry.root.now report.now) question.entry.form
         given.now) result }
 {
     let place = place_in(alloc, SYS, given, &report.export)?;
-    answered(alloc, report, &place, wanted, system)
+    answered(alloc, report, &place, question, system)
 }
 
 /// The same of the device at a place.
@@ -274,15 +274,15 @@ fn answered<D: System>(
     alloc: Global,
     report: &Report<'_>,
     place: &[u8],
-    wanted: Wanted<'_>,
+    question: DeviceQuestion<'_>,
     system: &D,
 ) -> Result<Answer, Refusal>
     ensures status { IfOk result (λ a. a.status ≡ 0) }
     ensures follows { D.Store.tells → Follows end_of (D.System.reads system.now)
-        (asked wanted.entry.root.now (plan.found_answer (report_of wanted.entry.root.now report.now)
-        wanted.entry.form place.now)) result }
+        (asked question.entry.root.now (plan.found_answer
+        (report_of question.entry.root.now report.now) question.entry.form place.now)) result }
 {
-    let found = asked(alloc, wanted.root, system)?;
+    let found = asked(alloc, question.root, system)?;
     let sysfs = Sysfs {
         files: &report.export,
         names: ATTRIBUTES.as_bytes(),
@@ -290,7 +290,7 @@ fn answered<D: System>(
     };
     let device = read_device(alloc, &sysfs, place)?;
     let told = lacks(alloc, report)?;
-    match text_over(alloc, &found.bytes, &device, wanted.form) {
+    match text_over(alloc, &found.bytes, &device, question.form) {
         Ok(text) => Ok(Answer::with_error(told, text, 0)),
         Err(error) => Err(refused_database(alloc, error, found.path.as_bytes())),
     }
@@ -300,17 +300,18 @@ fn answered<D: System>(
 fn every<D: System>(
     alloc: Global,
     report: &Report<'_>,
-    wanted: Wanted<'_>,
+    question: DeviceQuestion<'_>,
     system: &D,
 ) -> Result<Answer, Refusal>
     ensures status { IfOk result (λ a. a.status ≡ 0) }
     ensures follows { D.Store.tells → Follows end_of (D.System.reads system.now)
-        (if_fit (all_misuse wanted.entry.form (given_in wanted.entry)) (asked wanted.entry.root.now
-        (plan.found_strings (report_of wanted.entry.root.now report.now)))) result }
+        (if_fit (all_misuse question.entry.form (given_in question.entry))
+        (asked question.entry.root.now
+        (plan.found_strings (report_of question.entry.root.now report.now)))) result }
 {
-    match all_misuse(wanted.form, wanted.given) {
+    match all_misuse(question.form, question.given) {
         Some(text) => Err(misused(alloc, text)),
-        None => all_strings(alloc, report, wanted, system),
+        None => all_strings(alloc, report, question, system),
     }
 }
 
@@ -318,15 +319,15 @@ fn every<D: System>(
 fn all_strings<D: System>(
     alloc: Global,
     report: &Report<'_>,
-    wanted: Wanted<'_>,
+    question: DeviceQuestion<'_>,
     system: &D,
 ) -> Result<Answer, Refusal>
     ensures status { IfOk result (λ a. a.status ≡ 0) }
     ensures follows { D.Store.tells → Follows end_of (D.System.reads system.now)
-        (asked wanted.entry.root.now
-        (plan.found_strings (report_of wanted.entry.root.now report.now))) result }
+        (asked question.entry.root.now
+        (plan.found_strings (report_of question.entry.root.now report.now))) result }
 {
-    let found = asked(alloc, wanted.root, system)?;
+    let found = asked(alloc, question.root, system)?;
     let told = told_besides(alloc, report)?;
     match strings_over(alloc, &found.bytes, SYS, &report.export) {
         Ok(text) => Ok(Answer::with_error(told, text, 0)),
@@ -358,12 +359,12 @@ impl<D: Machine, I: Source> Verb<D, I> for DeviceArgs {
     ) -> Result<Answer, Refusal> {
         let (root, given, named) = (root_of(job), text_of(&self.path), text_of(&self.from));
         let form = device_form(self.strings, self.json, self.pattern);
-        let wanted = Wanted {
+        let question = DeviceQuestion {
             root,
             given,
             form,
             all: self.all,
         };
-        devices_from(alloc, named, wanted, system, input)
+        devices_from(alloc, named, question, system, input)
     }
 }

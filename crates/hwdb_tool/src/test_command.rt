@@ -29,7 +29,7 @@ use std::alloc::Global;
 
 /// What is tested: the database at a path, or without a path the one that is asked below a root; and in which form it is told.
 #[derive(Clone, Copy)]
-pub struct Wanted<'a> {
+pub struct TestQuestion<'a> {
     /// What is in front of the paths of databases.
     pub root: &'a str,
     /// The path.
@@ -45,36 +45,37 @@ pub struct Wanted<'a> {
 pub fn test<D: System, I: Source>(
     alloc: Global,
     given: &[String],
-    wanted: Wanted<'_>,
+    question: TestQuestion<'_>,
     system: &D,
     input: &mut I,
 ) -> Result<Answer, Refusal>
     ensures follows { D.Store.tells → OfInput (I.left input.old) (I.failures input.old)
         (I.failures input.new) (λ told. Follows end_of (D.System.reads system.now)
-        (test_plan told (map string_bytes given.now) (option_map (λ t. t.now) wanted.entry.database)
-        wanted.entry.root.now wanted.entry.json) result) }
+        (test_plan told (map string_bytes given.now)
+        (option_map (λ t. t.now) question.entry.database)
+        question.entry.root.now question.entry.json) result) }
     ensures unread { any_dash (map string_bytes given.now) ≡ false → input.new ≡ input.old }
 {
     let texts = given_texts(alloc, given, given, system, input)?;
     let files = with_paths(alloc, given, &texts)?;
-    tried(alloc, wanted, &files, system)
+    tried(alloc, question, &files, system)
 }
 
 /// The same of files that were read.
 fn tried<D: System>(
     alloc: Global,
-    wanted: Wanted<'_>,
+    question: TestQuestion<'_>,
     files: &[TextFile<'_>],
     system: &D,
 ) -> Result<Answer, Refusal>
     ensures follows { D.Store.tells
         → All (λ (s : Source). length s.bytes ≤ max_file) (map source_of files.now)
         → Follows end_of (D.System.reads system.now)
-        (named (option_map (λ t. t.now) wanted.entry.database) wanted.entry.root.now
-        (tested wanted.entry.json (map source_of files.now))) result }
+        (named (option_map (λ t. t.now) question.entry.database) question.entry.root.now
+        (tested question.entry.json (map source_of files.now))) result }
 {
-    let found = named(alloc, wanted.root, wanted.database, system)?;
-    match tried_over(alloc, wanted.json, files, &found.bytes) {
+    let found = named(alloc, question.root, question.database, system)?;
+    match tried_over(alloc, question.json, files, &found.bytes) {
         Ok(answer) => Ok(answer),
         Err(error) => Err(refused_database(alloc, error, found.path.as_bytes())),
     }
@@ -111,11 +112,11 @@ impl<D: Machine, I: Source> Verb<D, I> for TestArgs {
         system: &D,
         input: &mut I,
     ) -> Result<Answer, Refusal> {
-        let wanted = Wanted {
+        let question = TestQuestion {
             root: root_of(job),
             database: text_of(&self.database),
             json: self.json,
         };
-        test(alloc, &self.files, wanted, system, input)
+        test(alloc, &self.files, question, system, input)
     }
 }

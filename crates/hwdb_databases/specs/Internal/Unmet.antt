@@ -7,7 +7,8 @@ use Rattle.hwdb_spec.specs.Assignment.{Assignment, text_cmp}
 use Rattle.hwdb_spec.specs.Folders.{same}
 use Rattle.hwdb_spec.specs.Tree.{Tree}
 use Rattle.hwdb_spec_commands.specs.ChangeCounts.{no_stat, stat_form, with_changes}
-use Rattle.hwdb_spec_commands.specs.ChangeForms.{changed_pattern, changes_form}
+use Rattle.hwdb_spec_commands.specs.ChangeForms.{changes_form}
+use Rattle.hwdb_spec_commands.specs.Renamed.{changed_pattern}
 use Rattle.hwdb_spec_commands.specs.Differences.{Change}
 use Rattle.hwdb_spec_commands.specs.Json.{json_line}
 use Rattle.hwdb_spec_commands.specs.Reviews.{Review}

@@ -3,7 +3,8 @@ use Rattle.std.proofs.lemmas.Result.{on_ok_weaker}
 use Rattle.json.specs.Json.{Json}
 use Rattle.std.proofs.Common.{◌∙◌, ap}
 use Rattle.json.specs.Token.{begin_object}
-use Rattle.hwdb_spec_commands.specs.ChangeForms.{change_members, changed_pattern}
+use Rattle.hwdb_spec_commands.specs.ChangeForms.{change_members}
+use Rattle.hwdb_spec_commands.specs.Renamed.{changed_pattern}
 use Rattle.hwdb_spec_commands.specs.Json.{text_json}
 use Rattle.hwdb_show.specs.JsonTokens.{tokens_of_member}
 use Rattle.hwdb_databases.specs.Views.{change_shown}

@@ -1,5 +1,5 @@
 use Rattle.std.proofs.Common.{◌∙◌, ap}
-use Rattle.hwdb_spec_commands.specs.ChangeForms.{changed_pattern}
+use Rattle.hwdb_spec_commands.specs.Renamed.{changed_pattern}
 use Rattle.hwdb_databases.specs.Views.{change_shown}
 use Rattle.hwdb_databases.proofs.UnmetLemmas.{names_step, no_names}
 use Rattle.hwdb_databases.proofs.unmet.patterns_of.Goals as goal

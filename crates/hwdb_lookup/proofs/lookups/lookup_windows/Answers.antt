@@ -2,19 +2,10 @@ use Rattle.std.proofs.Common.{◌≡◌, ◌∙◌, ap, map}
 use Rattle.hwdb_query.specs.Views.{assignment_of_answer}
 use Rattle.hwdb_spec.specs.Assignment.{assignment_cmp, in_order}
 use Rattle.hwdb_spec.specs.Answers.{effective_of}
-use Rattle.hwdb_spec.specs.Format.{IsDatabase, layout_of}
-use Rattle.hwdb_spec.specs.Tree.{Tree, answers}
-use Rattle.hwdb_lookup.proofs.PartsLemmas.{windows_given}
+use Rattle.hwdb_spec.specs.Tree.{answers}
 use Rattle.hwdb_lookup.proofs.lookups.lookup_windows.Goals as goal
 
 pub returns-clause-answer : goal.returns-clause-answer
 unfolding answers
 returns-clause-answer c file t m h =
-    let found = c.in_ok-found.ensures.found file t (c.seen_of.ensures.seen file m) m.outline.layout h in
-    c.in_ok-pairs.ensures ∙ ap (λ l. effective_of (in_order assignment_cmp l)) (ap (map assignment_of_answer) c.deref.ensures.value ∙ found)
-
-pub returns-in_err-found-clause-stop : goal.returns-in_err-found-clause-stop
-returns-in_err-found-clause-stop c =
-    windows_given c.args.windows c.seen_of.result (λ file. (t : Tree) × (c.args.windows.outline.frame.sizes ≡ layout_of file) × IsDatabase file t) (λ file. (t : Tree) × IsDatabase file t)
-    c.seen_of.ensures.bytes c.seen_of.ensures.places c.seen_of.ensures.seen (λ file is q. (q.0, is.outline.layout, q.1))
-    c.in_err-found.field-0.0 c.from_residual.result c.from_residual.ensures.1 c.in_err-found.ensures.stop
+    c.in_ok-pairs.ensures ∙ ap (λ l. effective_of (in_order assignment_cmp l)) (ap (map assignment_of_answer) c.deref.ensures.value ∙ c.in_ok-found.ensures.found file t m h)

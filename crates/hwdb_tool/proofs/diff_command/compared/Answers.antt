@@ -1,6 +1,6 @@
 use Rattle.std.proofs.Common.{◌≡◌, Bool, List, map, subst, sym, ◌∙◌, ℕ, Err, Ok, Result, ap}
 use Rattle.hwdb_check.specs.Checks.{source_of}
-use Rattle.hwdb_spec_commands.specs.Comparisons.{comparison_form, comparison_said, devices_named, has_changed}
+use Rattle.hwdb_spec_commands.specs.SampleDevices.{told_changed, told_form, told_said}
 use Rattle.hwdb_spec_commands.specs.Databases.{IsDiffText, IsDifferent}
 use Rattle.hwdb_plan.specs.Diff.{change_of, compared}
 use Rattle.hwdb_plan.specs.Lemmas.Diff.{compared_end, pair_told, uncompared_end}
@@ -83,15 +83,14 @@ returns-in-Ok-clause-follows g c = λ tells one.
     let sources = map source_of c.args.files.now in
     let r = review_in c.args.review.now in
     let say = change_of r sources in
-    let devices = devices_named sources in
     let olds = c.in_ok-old.old.items in
     let news = c.in_ok-new.new.items in
     let changes = c.in-Ok.changes in
     let o = c.deref.ensures.value in
     let n = c.deref-2.ensures.value in
-    let text = moved (List ℕ) (IsDiffText (comparison_form r devices)) c.deref.result.now olds c.deref-2.result.now news o n changes.text.items c.in-Ok.ensures.text in
-    let said = moved (List ℕ) (IsDiffText (comparison_said r devices)) c.deref.result.now olds c.deref-2.result.now news o n changes.said.items c.in-Ok.ensures.said in
-    let differs = moved Bool (IsDifferent (has_changed r devices)) c.deref.result.now olds c.deref-2.result.now news o n changes.differ c.in-Ok.ensures.differ in
+    let text = moved (List ℕ) (IsDiffText (told_form r sources)) c.deref.result.now olds c.deref-2.result.now news o n changes.text.items c.in-Ok.ensures.text in
+    let said = moved (List ℕ) (IsDiffText (told_said r sources)) c.deref.result.now olds c.deref-2.result.now news o n changes.said.items c.in-Ok.ensures.said in
+    let differs = moved Bool (IsDifferent (told_changed r sources)) c.deref.result.now olds c.deref-2.result.now news o n changes.differ c.in-Ok.ensures.differ in
     let told = pair_told w items items old_path new_path (left c.args.input.now) (left c.side.new.input) (failures c.args.input.now) (failures c.side.new.input) (failures c.side-2.new.input)
     (Ok c.in_ok-old.old) (Ok c.in_ok-new.new) one (λ plain. (ap left (c.in_ok-old.ensures.unread plain), ap failures (c.in_ok-old.ensures.unread plain))) (λ plain. ap failures (c.in_ok-new.ensures.unread plain))
     (c.in_ok-old.ensures.told tells) (c.in_ok-new.ensures.told tells) in (
@@ -100,6 +99,6 @@ returns-in-Ok-clause-follows g c = λ tells one.
       value_ends w items end_of (side told.0 old_path) (after_old told.0 old_path new_path say) c.in_ok-old.old (Ok c.answer_of.result) told.2.0
           (value_ends w items end_of (side told.0 new_path) (λ new. compared old_path new_path olds new say) c.in_ok-new.new (Ok c.answer_of.result) told.2.1
           (compared_end w c.law_one_tree.ensures r sources old_path new_path olds news changes.differ c.answer_of.result.status c.answer_of.result.err.items c.answer_of.result.out.items
-          (subst (IsDiffText (comparison_form r devices) olds news) (sym c.answer_of.ensures.out) text) (subst (IsDiffText (comparison_said r devices) olds news) (sym c.answer_of.ensures.err) said)
+          (subst (IsDiffText (told_form r sources) olds news) (sym c.answer_of.ensures.out) text) (subst (IsDiffText (told_said r sources) olds news) (sym c.answer_of.ensures.err) said)
           differs c.answer_of.ensures.status)),
     )

@@ -19,7 +19,7 @@ returns-in_err-texts-clause-follows g c = λ tells.
       told.0,
       told.1,
       files_stopped (λ (v : Vec (Vec ℕ Global) Global). map (λ t. t.items) v.items) end_of given (g.D.System.reads c.args.system.now) (given_files given told.0 given)
-          (λ sources. Done (Answers 0 [] (near_form c.args.wanted.json c.args.wanted.device.now c.args.wanted.limit (patterns_from 1 sources)))) c.in_err-texts.field-0.0 c.from_residual.result told.2 c.from_residual.ensures.1,
+          (λ sources. Done (Answers 0 [] (near_form c.args.question.json c.args.question.device.now c.args.question.limit (patterns_from 1 sources)))) c.in_err-texts.field-0.0 c.from_residual.result told.2 c.from_residual.ensures.1,
     )
 
 pub returns-clause-follows : goal.returns-clause-follows
@@ -27,7 +27,7 @@ returns-clause-follows g c = λ tells.
     let w = g.D.System.reads c.args.system.now in
     let told = c.in_ok-texts.ensures.told tells in
     let given = map string_bytes c.args.given.now in
-    let form = near_form c.args.wanted.json c.args.wanted.device.now c.args.wanted.limit in
+    let form = near_form c.args.question.json c.args.question.device.now c.args.question.limit in
     let a = c.new.result in
     let files = c.deref-2.result.now in
     let are = are_files files given _ (ap (map (λ f. f.path.now)) c.deref-2.ensures.value ∙ c.in_ok-files.ensures.paths)

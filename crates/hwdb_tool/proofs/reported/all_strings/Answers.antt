@@ -17,19 +17,19 @@ use Rattle.hwdb_tool.proofs.reported.all_strings.Goals as goal
 
 pub returns-in_err-found-clause-follows : goal.returns-in_err-found-clause-follows
 returns-in_err-found-clause-follows g c = λ tells.
-    let root = c.args.wanted.root.now in
+    let root = c.args.question.root.now in
     stopped (λ (f : FoundDatabase). string_bytes f.path) (λ f. f.bytes.items) end_of (g.D.System.reads c.args.system.now) (asked root) (found_strings (report_of root c.args.report.now))
     c.in_err-found.field-0.0 c.from_residual.result (c.in_err-found.ensures.follows tells) c.from_residual.ensures.1
 
 pub returns-in_err-told-clause-follows : goal.returns-in_err-told-clause-follows
 returns-in_err-told-clause-follows g c = λ tells.
-    let root = c.args.wanted.root.now in
+    let root = c.args.question.root.now in
     memory_ends end_of (g.D.System.reads c.args.system.now) (asked root (found_strings (report_of root c.args.report.now))) c.from_residual-in_err-told.result c.from_residual-in_err-told.ensures.1
 
 pub returns-in-Ok-clause-follows : goal.returns-in-Ok-clause-follows
 returns-in-Ok-clause-follows g c = λ tells.
     let w = g.D.System.reads c.args.system.now in
-    let root = c.args.wanted.root.now in
+    let root = c.args.question.root.now in
     let r = report_of root c.args.report.now in
     let path = string_bytes c.in_ok-found.found.path in
     let bytes = c.in_ok-found.found.bytes.items in
@@ -42,7 +42,7 @@ returns-in-Ok-clause-follows g c = λ tells.
 pub returns-clause-follows : goal.returns-clause-follows
 returns-clause-follows g c = λ tells.
     let w = g.D.System.reads c.args.system.now in
-    let root = c.args.wanted.root.now in
+    let root = c.args.question.root.now in
     let r = report_of root c.args.report.now in
     let path = string_bytes c.in_ok-found.found.path in
     let bytes = c.in_ok-found.found.bytes.items in

@@ -20,24 +20,24 @@ use Rattle.hwdb_tool.proofs.reported.answered.Goals as goal
 
 pub returns-in_err-found-clause-follows : goal.returns-in_err-found-clause-follows
 returns-in_err-found-clause-follows g c = λ tells.
-    let a = c.args.wanted in
+    let a = c.args.question in
     stopped (λ (f : FoundDatabase). string_bytes f.path) (λ f. f.bytes.items) end_of (g.D.System.reads c.args.system.now) (asked a.root.now) (found_answer (report_of a.root.now c.args.report.now) a.form c.args.place.now)
     c.in_err-found.field-0.0 c.from_residual.result (c.in_err-found.ensures.follows tells) c.from_residual.ensures.1
 
 pub returns-in_err-device-clause-follows : goal.returns-in_err-device-clause-follows
 returns-in_err-device-clause-follows g c = λ tells.
-    let a = c.args.wanted in
+    let a = c.args.question in
     memory_ends end_of (g.D.System.reads c.args.system.now) (asked a.root.now (found_answer (report_of a.root.now c.args.report.now) a.form c.args.place.now)) c.from_residual-in_err-device.result c.from_residual-in_err-device.ensures.1
 
 pub returns-in_err-told-clause-follows : goal.returns-in_err-told-clause-follows
 returns-in_err-told-clause-follows g c = λ tells.
-    let a = c.args.wanted in
+    let a = c.args.question in
     memory_ends end_of (g.D.System.reads c.args.system.now) (asked a.root.now (found_answer (report_of a.root.now c.args.report.now) a.form c.args.place.now)) c.from_residual-in_err-told.result c.from_residual-in_err-told.ensures.1
 
 pub returns-in-Ok-clause-follows : goal.returns-in-Ok-clause-follows
 returns-in-Ok-clause-follows g c = λ tells.
     let w = g.D.System.reads c.args.system.now in
-    let wanted = c.args.wanted in
+    let wanted = c.args.question in
     let r = report_of wanted.root.now c.args.report.now in
     let device = device_of c.in_ok-device.device in
     let path = string_bytes c.in_ok-found.found.path in
@@ -52,7 +52,7 @@ returns-in-Ok-clause-follows g c = λ tells.
 pub returns-clause-follows : goal.returns-clause-follows
 returns-clause-follows g c = λ tells.
     let w = g.D.System.reads c.args.system.now in
-    let wanted = c.args.wanted in
+    let wanted = c.args.question in
     let r = report_of wanted.root.now c.args.report.now in
     let path = string_bytes c.in_ok-found.found.path in
     let bytes = c.in_ok-found.found.bytes.items in

@@ -10,14 +10,14 @@ use Rattle.hwdb_tool.proofs.reported.over_file.Goals as goal
 
 pub returns-in_err-bytes-clause-follows : goal.returns-in_err-bytes-clause-follows
 returns-in_err-bytes-clause-follows g c = λ tells.
-    let a = c.args.wanted in
+    let a = c.args.question in
     let from = c.args.from.now in
     over_unread end_of (g.D.System.reads c.args.system.now) (g.I.Source.left c.args.input.now) (g.I.Source.failures c.args.input.now) (g.I.Source.failures c.read.new.input)
     (report_answer asked_names a.root.now a.form a.all (given_in a)) (is_dash from) from c.in_err-bytes.field-0.0 c.from_residual.result refl (c.in_err-bytes.ensures.told tells) c.from_residual.ensures.1
 
 pub returns-clause-follows : goal.returns-clause-follows
 returns-clause-follows g c = λ tells.
-    let a = c.args.wanted in
+    let a = c.args.question in
     let from = c.args.from.now in
     let w = g.D.System.reads c.args.system.now in
     let next : Next = report_answer asked_names a.root.now a.form a.all (given_in a) in

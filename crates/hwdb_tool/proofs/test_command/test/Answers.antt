@@ -16,7 +16,7 @@ returns-in_err-texts-clause-follows g c = λ tells.
       told.0,
       told.1,
       files_stopped (λ (v : Vec (Vec ℕ Global) Global). map (λ t. t.items) v.items) end_of given (g.D.System.reads c.args.system.now) (given_files given told.0 given)
-          (λ sources. named (option_map (λ t. t.now) c.args.wanted.database) c.args.wanted.root.now (tested c.args.wanted.json sources)) c.in_err-texts.field-0.0 c.from_residual.result told.2 c.from_residual.ensures.1,
+          (λ sources. named (option_map (λ t. t.now) c.args.question.database) c.args.question.root.now (tested c.args.question.json sources)) c.in_err-texts.field-0.0 c.from_residual.result told.2 c.from_residual.ensures.1,
     )
 
 pub returns-clause-follows : goal.returns-clause-follows
@@ -29,6 +29,6 @@ returns-clause-follows g c = λ tells.
       told.0,
       told.1,
       files_go (λ (v : Vec (Vec ℕ Global) Global). map (λ t. t.items) v.items) end_of given (g.D.System.reads c.args.system.now) (given_files given told.0 given)
-          (λ sources. named (option_map (λ t. t.now) c.args.wanted.database) c.args.wanted.root.now (tested c.args.wanted.json sources)) c.in_ok-texts.texts (map source_of files) c.tried.result told.2 are
+          (λ sources. named (option_map (λ t. t.now) c.args.question.database) c.args.question.root.now (tested c.args.question.json sources)) c.in_ok-texts.texts (map source_of files) c.tried.result told.2 are
           (c.tried.ensures.follows tells (c.in_ok-texts.ensures.files tells (map source_of files) are).within),
     )

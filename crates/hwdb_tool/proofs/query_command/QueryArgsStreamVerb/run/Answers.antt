@@ -17,13 +17,13 @@ returns-clause-follows g c = λ tells words asked.
     let O = told_by g.O.Sink.taken g.O.Sink.failures in
     let E = told_by g.E.Sink.taken g.E.Sink.failures in
     let input = I c.args.input.now in
-    let left = I c.query.new.input in
+    let left = I c.look_up.new.input in
     let before = outs (E c.args.err.now) (O c.args.out.now) in
-    let now = outs (E c.query.new.err) (O c.query.new.out) in
+    let now = outs (E c.look_up.new.err) (O c.look_up.new.out) in
     let args = c.args.self.now in
     let root = root_of c.args.job.now in
-    let result = c.query.result in
+    let result = c.look_up.result in
     of_words sight input left (λ p. ShowsEnd w p input left before now result) words c.args.job.now asked
     (λ word rows is. query_planned w sight input left before now result root c.args.job.now.strict word rows args (subst (λ t. IsTask word rows t) c.requires is)
     (subst (λ (ds : List (String Global)). ShowsEnd w (query_plan root args.json (map string_bytes ds)) input left before now result) c.deref.ensures.value
-    (subst (λ (r : List ℕ). ShowsEnd w (query_plan r args.json (map string_bytes c.deref.result.now)) input left before now result) c.root_of-root.ensures (c.query.ensures.follows tells))))
+    (subst (λ (r : List ℕ). ShowsEnd w (query_plan r args.json (map string_bytes c.deref.result.now)) input left before now result) c.root_of.ensures (c.look_up.ensures.follows tells))))
