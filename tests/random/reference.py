@@ -931,16 +931,39 @@ def differences(old, new):
 
 
 def grouped_differences(old, new):
-    """The same by record: each pattern on a line, and below it the lines of its keys, without it."""
+    """The same by record: each pattern on a line, and below it the lines of its keys, without it.
+
+    A pattern that went, and the first that came with its keys and values, are one record: the new pattern has `>`, what stayed `=`.
+    """
     was, now = ({(a.pattern, a.key): a for a in assignments} for assignments in (old, new))
     records = {}
-    for place in {*was, *now}:
+    for place in sorted({*was, *now}):
         before, after = was.get(place), now.get(place)
         if before is None or after is None or before.value != after.value:
-            sign = b"+" if before is None else b"-" if after is None else b"~"
-            told = b"\t".join([sign] + [sourced(a) for a in (before, after) if a is not None])
-            records.setdefault(place[0], {})[place[1]] = told + b"\n"
-    return b"".join(pattern + b"\n" + b"".join(keys[key] for key in sorted(keys)) for pattern, keys in sorted(records.items()))
+            records.setdefault(place[0], []).append((before, after))
+    # By properties: the patterns that came with them, and the patterns that went with them.
+    came, went = {}, {}
+    for pattern, changes in records.items():
+        for side, others, patterns in ((0, 1, went), (1, 0, came)):
+            if not any(change[others] for change in changes):
+                properties = tuple((change[side].key, change[side].value) for change in changes)
+                patterns.setdefault(properties, []).append(pattern)
+    first_of = {pattern: came[its][0] for its in went if its in came for pattern in went[its]}
+    text = b""
+    for pattern, changes in records.items():
+        if pattern in first_of:
+            first = first_of[pattern]
+            place = records[first][0][1]
+            text += b"%s\n>\t%s\t%s:%d\n" % (pattern, first, place.path, place.line)
+            text += b"".join(b"=\t%s\n" % sourced(before) for before, _ in changes)
+        elif pattern not in first_of.values():
+            text += pattern + b"\n" + b"".join(change_line(*change) for change in changes)
+    return text
+
+
+def change_line(before, after):
+    sign = b"+" if before is None else b"-" if after is None else b"~"
+    return b"\t".join([sign] + [sourced(a) for a in (before, after) if a is not None]) + b"\n"
 
 
 def sourced(a):
