@@ -101,7 +101,7 @@ _hwdb() {
         [KIND]='byte-order-mark leading-tab carriage-return open-bracket empty-range spaced-equals cut-value repeated-match replaced near-name old-name scan-code unknown-key unfit-value zero-row singular-matrix two-defaults unread unknown-property unpaired unknown-prefix dead-pattern unlikely-pattern too-long-for-udev fragile-pattern taken-as-set no-separator'
         [WHEN]='auto always never'
         [check FORMAT]='text json github sarif'
-        [diff FORMAT]='grouped lines'
+        [diff FORMAT]='grouped lines markdown'
     )
     # Until here.
 

@@ -164,7 +164,7 @@ complete -c hwdb -n '__hwdb_at diff' -l only -x -d 'Compare only files whose nam
 complete -c hwdb -n '__hwdb_at diff' -l not -x -d 'Leave out files whose name matches this, as 20-*; may come more than once'
 complete -c hwdb -n '__hwdb_at diff' -l prefix -x -d 'Compare only patterns, or devices, that begin with this, as evdev:; may come more than once'
 complete -c hwdb -n '__hwdb_at diff' -l stat -d 'Print how many assignments came, went and changed, by file and by key'
-complete -c hwdb -n '__hwdb_at diff' -l format -x -a 'grouped lines' -d 'Print changes grouped by record, or as lines: one for each, with its pattern'
+complete -c hwdb -n '__hwdb_at diff' -l format -x -a 'grouped lines markdown' -d 'Print changes grouped by record, as lines, one for each with its pattern, or as markdown: tables'
 complete -c hwdb -n '__hwdb_at scan' -l count -x -d 'End after N keys'
 
 complete -c hwdb -n '__hwdb_at query' -a '(__hwdb_modalias)' -d MODALIAS

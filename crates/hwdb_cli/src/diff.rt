@@ -67,7 +67,7 @@ fn with_review<'a>(alloc: Global, command: Draft<'a>) -> Draft<'a>
     let verbose_help = "With --devices, say which changed assignments none of them meets";
     let stat_help = "Print how many assignments came, went and changed, by file and by key";
     let format_help =
-        "Print changes grouped by record, or as lines: one for each, with its pattern";
+        "Print changes grouped by record, as lines, one for each with its pattern, or as markdown: tables";
     let with_verbose = with_argument(command, flag(alloc, "verbose", verbose_help));
     let with_globs = with_choice(alloc, with_verbose);
     let with_stat = with_argument(with_globs, flag(alloc, "stat", stat_help));

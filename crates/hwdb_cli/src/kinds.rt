@@ -8,7 +8,7 @@ use strsim::jaro;
 const CHECK_FORMATS: &str = "text, json, github, sarif";
 
 /// What `diff --format` takes.
-const DIFF_FORMATS: &str = "grouped, lines";
+const DIFF_FORMATS: &str = "grouped, lines, markdown";
 
 /// Whether a name is one of those in some lists, a line each.
 fn is_kind(name: &str, kinds: &[&str]) -> bool {
@@ -85,6 +85,7 @@ fn unknown_of_diff(args: &ReviewArgs) -> Option<&str> {
     match name.as_str() {
         "grouped" => None,
         "lines" => None,
+        "markdown" => None,
         other => Some(other),
     }
 }

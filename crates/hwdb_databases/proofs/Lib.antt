@@ -7,6 +7,7 @@ pub mod WalkLemmas
 pub mod OrderLemmas
 pub mod MergeLemmas
 pub mod PairLemmas
+pub mod CompleteLemmas
 pub mod DepthLemmas
 pub mod DifferentLemmas
 pub mod TallyLemmas

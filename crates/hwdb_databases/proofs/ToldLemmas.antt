@@ -38,7 +38,7 @@ none_passes p [] a = refl
 none_passes p (x ∷ xs) a = ap (λ (b : Bool). b || list_any p xs) a.0 ∙ none_passes p xs a.1
 
 -- each of them is the last with its place
-last_apart : (xs : List Assignment) → Apart xs → last_of_each xs ≡ xs
+pub last_apart : (xs : List Assignment) → Apart xs → last_of_each xs ≡ xs
 unfolding last_of_each
 last_apart [] a = refl
 last_apart (x ∷ xs) a =
@@ -126,7 +126,7 @@ module _ (all : List Assignment) (distinct_places : IsDistinct (eq_by_cmp by_pla
     rising_apart xs up.1 (λ u h. from u (inr h)),
   )
 
-dumped_apart : (t : Tree) → IsTree t → Apart (dumped t)
+pub dumped_apart : (t : Tree) → IsTree t → Apart (dumped t)
 unfolding dumped
 dumped_apart t ascends =
     rising_apart (members_under [] t) (places_distinct (members_under [] t) (members_sorted t ascends)) (in_order assignment_cmp (members_under [] t))
@@ -196,14 +196,14 @@ told_said xs ys h =
     (in_order text_cmp (map key_of_answer ys))
 
 -- of assignments that rise, without a place in common
-last_are : (device : List ℕ) (xs : List Assignment) → IsStrictlySortedBy assignment_cmp xs → Apart xs → last_assignments device None xs ≡ filter (is_wanted device) xs
+pub last_are : (device : List ℕ) (xs : List Assignment) → IsStrictlySortedBy assignment_cmp xs → Apart xs → last_assignments device None xs ≡ filter (is_wanted device) xs
 unfolding last_assignments last_matching
 last_are device xs up apart =
     all_behind (in_order assignment_cmp (filter (is_wanted device) (last_of_each xs)))
     ∙ ap (λ l. in_order assignment_cmp (filter (is_wanted device) l)) (last_apart xs apart)
     ∙ ordered_again assignment_cmp assignment_total (filter (is_wanted device) xs) (IsStrictlySortedBy-filter assignment_cmp (is_wanted device) xs up)
 
-answers_are : (device : List ℕ) (t : Tree) → IsTree t → answers device t ≡ filter (is_wanted device) (dumped t)
+pub answers_are : (device : List ℕ) (t : Tree) → IsTree t → answers device t ≡ filter (is_wanted device) (dumped t)
 unfolding answers dumped
 answers_are device t ascends =
     kept_in_order assignment_cmp assignment_total (is_wanted device) (members_under [] t) (distinct (members_under [] t) (members_sorted t ascends))

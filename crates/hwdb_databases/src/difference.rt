@@ -2,7 +2,7 @@
 ghost use Rattle.std.specs.Prelude.{◌≡◌, ◌++◌, [], ℕ, List, None, Some, false, map, option_map, IfOk, IfErr, OnOk};
 ghost use Rattle.hwdb_spec_commands.specs.ChangeCounts as spec;
 ghost use Rattle.hwdb_spec_commands.specs.ChangeCounts.{no_stat, stat_form, with_changes};
-ghost use Rattle.hwdb_spec_commands.specs.ChangeForms.{changes_form, changes_lines, device_changes_form};
+ghost use Rattle.hwdb_spec_commands.specs.ChangeForms.{changes_form, changes_lines, device_changes_form, device_changes_lines};
 ghost use Rattle.hwdb_spec_commands.specs.Comparisons.{assigned_changes, comparison_form, comparison_lines, comparison_said, comparison_text, device_changes, files_diff_form, has_changed};
 ghost use Rattle.hwdb_spec.specs.Folders.{Source};
 ghost use Rattle.hwdb_spec.specs.Format.{IsDatabase};
@@ -12,8 +12,9 @@ ghost use Rattle.hwdb_spec_commands.specs.Differences.{are_some};
 ghost use Rattle.hwdb_spec_commands.specs.Databases.{IsDiffText, IsDifferent};
 ghost use Rattle.hwdb_spec_commands.specs.DiffErrors.{IsDiffRefusal};
 ghost use Rattle.hwdb_spec_commands.specs.Reviews.{review_in};
-ghost use Rattle.hwdb_spec_commands.specs.SampleDevices.{samples_differ, samples_end, samples_form, samples_said, undecided_said};
+ghost use Rattle.hwdb_spec_commands.specs.SampleDevices.{samples_differ, samples_end, samples_form, samples_said, undecided_patterns, undecided_said};
 ghost use Rattle.hwdb_databases.specs.Internal.Unmet.{assigned_text, left_end, left_said};
+ghost use Rattle.hwdb_databases.specs.Laws.{GiveSame, LeavesNoneOut};
 ghost use Rattle.hwdb_databases.specs.Views.{change_shown, held_shown};
 
 use crate::counting::{device_stat, stat_of};
@@ -22,17 +23,19 @@ use crate::device_lines::push_device;
 use crate::gifts::gifts;
 use crate::held::{Held, pairs_of};
 use crate::json_changes::{push_device_json, push_json};
+use crate::laws::samples_are_complete;
 use crate::meeting::changes_met;
 use crate::ordering::in_order;
 use crate::pairs::{Pair, Pairs, Sides, are_any};
 use crate::renamed::push_grouped;
 use crate::reviewing::counting_changes;
 use crate::sampling::sampled_between;
+use crate::tables::{push_device_table, push_tables};
 use crate::undecided::{undecided_json, undecided_text};
 use crate::unmet::{left_json, left_text, push_lines, unmet_changes};
 use hwdb_reader::{Db, check, law_ascending, law_one_tree};
 use hwdb_spec::DiffError;
-use hwdb_spec_commands::ReviewArgs;
+use hwdb_spec_commands::{Layout, ReviewArgs};
 use std::alloc::{AllocError, Global};
 
 /// What changed from one database to another.
@@ -53,20 +56,20 @@ struct Told {
     differ: bool,
 }
 
-/// Adds changes by record, or a line for each. The only error, here and below, is `AllocError`.
+/// Adds changes by record, a line for each, or tables. The only error, here and below, is `AllocError`.
 fn push_text(
     alloc: Global,
-    lines: bool,
+    layout: Layout,
     text: &mut Vec<u8>,
     changes: &[Pair<'_, '_>],
 ) -> Result<(), AllocError>
     ensures { OnOk result
-        (text.new.items ≡ text.old.items ++ changes_lines lines (map change_shown changes.now)) }
+        (text.new.items ≡ text.old.items ++ changes_lines layout (map change_shown changes.now)) }
 {
-    if lines {
-        push_lines(text, changes)
-    } else {
-        push_grouped(alloc, text, changes)
+    match layout {
+        Layout::Grouped => push_grouped(alloc, text, changes),
+        Layout::Lines => push_lines(text, changes),
+        Layout::Tables => push_tables(alloc, text, changes),
     }
 }
 
@@ -77,13 +80,13 @@ fn form_of_changes(
     changes: &[Pair<'_, '_>],
 ) -> Result<Vec<u8>, AllocError>
     ensures { IfOk result (λ text. text.items ≡ changes_form (review_in review.now).json
-        (review_in review.now).lines (map change_shown changes.now)) }
+        (review_in review.now).layout (map change_shown changes.now)) }
 {
     let mut text = Vec::new(alloc);
     if review.json {
         push_json(alloc, &mut text, changes)?;
     } else {
-        push_text(alloc, review.asks_lines(), &mut text, changes)?;
+        push_text(alloc, review.layout(), &mut text, changes)?;
     }
     Ok(text)
 }
@@ -117,21 +120,39 @@ fn told_of_changes(
     }
 }
 
-/// Adds what changed for a device, as text or JSON.
-fn push_device_form(
+/// Adds what changed for a device, as text.
+fn push_device_lines(
     alloc: Global,
-    json: bool,
+    layout: Layout,
     text: &mut Vec<u8>,
     device: &[u8],
     changes: &[Pair<'_, '_>],
 ) -> Result<(), AllocError>
     ensures { OnOk result (text.new.items ≡ text.old.items
-        ++ device_changes_form json device.now (map change_shown changes.now)) }
+        ++ device_changes_lines layout device.now (map change_shown changes.now)) }
 {
-    if json {
+    match layout {
+        Layout::Tables => push_device_table(alloc, text, device, changes),
+        _ => push_device(text, device, changes),
+    }
+}
+
+/// The same, or as JSON.
+fn push_device_form(
+    alloc: Global,
+    review: &ReviewArgs,
+    text: &mut Vec<u8>,
+    device: &[u8],
+    changes: &[Pair<'_, '_>],
+) -> Result<(), AllocError>
+    ensures { OnOk result (text.new.items ≡ text.old.items
+        ++ device_changes_form (review_in review.now).json (review_in review.now).layout
+        device.now (map change_shown changes.now)) }
+{
+    if review.json {
         push_device_json(alloc, text, device, changes)
     } else {
-        push_device(text, device, changes)
+        push_device_lines(alloc, review.layout(), text, device, changes)
     }
 }
 
@@ -144,15 +165,16 @@ fn compare_device(
     device: &[u8],
 ) -> Result<bool, AllocError>
     ensures text { OnOk result (text.new.items ≡ text.old.items
-        ++ device_changes_form (review_in review.now).json device.now (device_changes
-        (review_in review.now) sides.entry.old.now sides.entry.new.now device.now)) }
+        ++ device_changes_form (review_in review.now).json (review_in review.now).layout
+        device.now (device_changes (review_in review.now)
+        sides.entry.old.now sides.entry.new.now device.now)) }
     ensures differs { IfOk result (λ differs. differs ≡ are_some (device_changes
         (review_in review.now) sides.entry.old.now sides.entry.new.now device.now)) }
 {
     let old_ones = gifts(alloc, sides.old, device)?;
     let new_ones = gifts(alloc, sides.new, device)?;
     let changes = counting_changes(alloc, review, Pairs::new(&old_ones, &new_ones))?;
-    push_device_form(alloc, review.json, text, device, &changes)?;
+    push_device_form(alloc, review, text, device, &changes)?;
     Ok(are_any(&changes))
 }
 
@@ -430,7 +452,7 @@ pub fn diff(
 
 /// Checks the bytes of both, and says what changed for devices that are made of the patterns of both, ascending: each of them gets
 /// something else from the new database. And of which patterns it isn't known whether they match such a device. If there is neither,
-/// the new database gives each device what the old one does.
+/// and no option leaves a change out, the new database gives each device what the old one does.
 ///
 /// The memory is all that both assign, with their patterns.
 pub fn diff_samples(
@@ -445,9 +467,15 @@ pub fn diff_samples(
         IsDiffText (samples_said (review_in review.now)) old.now new.now made.said.items) }
     ensures differ { IfOk result (λ made.
         IsDifferent (samples_differ (review_in review.now)) old.now new.now made.differ) }
+    ensures complete { IfOk result (λ made. (t u : Tree) → IsDatabase old.now t
+        → IsDatabase new.now u → LeavesNoneOut (review_in review.now)
+        → made.differ ≡ false → undecided_patterns t u ≡ []
+        → (device : List ℕ) → GiveSame t u device) }
     ensures errors { IfErr result (IsDiffRefusal old.now new.now) }
 {
     law_one_tree();
+    law_ascending();
+    samples_are_complete();
     let before = check_old(old)?;
     let after = check_new(new)?;
     let sides = Sides {

@@ -1,8 +1,9 @@
 //! Laws of databases. Each function holds no code: its contract is a law of definitions.
-ghost use Rattle.hwdb_databases.specs.Laws.{MembersAreTheMap, DumpSays, DumpTells, GiftsAreEffective};
+ghost use Rattle.hwdb_databases.specs.Laws.{MembersAreTheMap, DumpSays, DumpTells, GiftsAreEffective, SamplesAreComplete, SamplesShowChanges};
 ghost use Rattle.hwdb_databases.specs.Rows.{DeviceStatRows, EtcRows, NameRows, StatJsonRows, StatRows, TextRows};
 
 use hwdb_query::explained_are_effective;
+use hwdb_samples::{law_found, law_nothing_found, law_rules_give};
 
 /// All that a tree assigns, in the order of its nodes and values, is the tree's map, by pattern and key.
 pub fn members_are_the_map()
@@ -24,6 +25,18 @@ pub fn gifts_are_effective()
     ensures { GiftsAreEffective }
 {
     explained_are_effective();
+}
+
+/// Each device of the samples gets something else from the new database. If no change is told of them and no pattern is undecided, the
+/// new database gives each device what the old one does.
+pub fn samples_are_complete()
+    ensures shown { SamplesShowChanges }
+    ensures complete { SamplesAreComplete }
+{
+    law_found();
+    law_nothing_found();
+    law_rules_give();
+    gifts_are_effective();
 }
 
 /// Worked rows: what the definitions give when they are computed.

@@ -11,6 +11,7 @@
 //! | `held` | changes, each with its assignments; `reviewing`: which of them count |
 //! | `lines` | the lines of changes; `device_lines`: those of a device; `json_changes`: all as JSON |
 //! | `groups` | the changes of a pattern; `renamed`: changes by record, and records whose patterns alone changed |
+//! | `tables` | changes as tables of Markdown |
 //! | `unmet` | the changes that no device meets |
 //! | `sampling` | devices made of the patterns of two databases; `undecided`: patterns of which it isn't known whether there is one |
 //! | `counting` | how many changes there are, by file and by key; `counts_text`: the same as lines or JSON |
@@ -63,6 +64,7 @@ mod reviewing;
 mod sampling;
 mod spelling;
 mod summary;
+mod tables;
 mod texts;
 mod trail;
 mod undecided;
@@ -75,7 +77,9 @@ pub use depths::depth_of;
 pub use difference::{Changes, diff, diff_samples};
 pub use freshness::{Standing, State, standing_of};
 pub use hwdb_spec::{DiffError, DumpError, VerifyError};
-pub use laws::{dump_says, dump_tells, gifts_are_effective, members_are_the_map};
+pub use laws::{
+    dump_says, dump_tells, gifts_are_effective, members_are_the_map, samples_are_complete,
+};
 pub use listing::dump;
 pub use ordering::in_order;
 pub use reports::{Report, is_well, report_in};

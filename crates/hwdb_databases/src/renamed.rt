@@ -37,7 +37,7 @@ fn run_len(pattern: &[u8], changes: &[Pair<'_, '_>]) -> usize
 }
 
 /// Changes by pattern.
-fn groups_of<'g, 'r, 'a>(
+pub(crate) fn groups_of<'g, 'r, 'a>(
     alloc: Global,
     changes: &'g [Pair<'r, 'a>],
 ) -> Result<Vec<Group<'g, 'r, 'a>>, AllocError>
@@ -134,7 +134,7 @@ fn moves_of<'t, 'g, 'r, 'a>(
 }
 
 /// The pattern of some changes.
-fn pattern_in<'r>(changes: &[Pair<'r, '_>]) -> &'r [u8]
+pub(crate) fn pattern_in<'r>(changes: &[Pair<'r, '_>]) -> &'r [u8]
     ensures { result.now ≡ first_pattern (map change_shown changes.now) }
 {
     match changes.split_first() {
@@ -144,7 +144,7 @@ fn pattern_in<'r>(changes: &[Pair<'r, '_>]) -> &'r [u8]
 }
 
 /// Adds where an assignment is.
-fn push_place(text: &mut Vec<u8>, f: &StoredAssignment<'_>) -> Result<(), AllocError>
+pub(crate) fn push_place(text: &mut Vec<u8>, f: &StoredAssignment<'_>) -> Result<(), AllocError>
     ensures { OnOk result (text.new.items ≡ text.old.items
         ++ place_text (assignment_of f.now).path (assignment_of f.now).position.line) }
 {

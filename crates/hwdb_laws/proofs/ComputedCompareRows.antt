@@ -24,6 +24,7 @@ use Rattle.std.specs.Str.{chars, is_utf8}
 use Rattle.hwdb_laws.proofs.MapLemmas.{Entry, differences_built, entries_built}
 use Rattle.hwdb_laws.specs.CompareRows.{as_counts, as_json, by_record, choosing, new_tree, of_usr, old_tree, plainly, some_devices, telling}
 use Rattle.hwdb_spec_commands.specs.ChangeCounts.{counted, no_stat, stat_form, with_changes, with_devices, with_told}
+use Rattle.hwdb_spec_commands.specs.declared.args.Layout.TheVariants.{Grouped}
 use Rattle.hwdb_spec_commands.specs.ChangeForms.{changes_form, device_changes_form}
 use Rattle.hwdb_spec_commands.specs.Renamed.{any_went, first_came, groups, properties}
 use Rattle.hwdb_spec_commands.specs.Reviews.{Review, reviewed}
@@ -77,7 +78,7 @@ last_device_rows = differences_built (entries_to (codes "x") old_tree) (entries_
 
 -- what is printed of all changes
 abbrev told_all : Review → List Change → List ℕ
-told_all r c = (if r.stat then stat_form r.json None (with_changes no_stat (reviewed r c)) else changes_form r.json r.lines (reviewed r c)) ++ []
+told_all r c = (if r.stat then stat_form r.json None (with_changes no_stat (reviewed r c)) else changes_form r.json r.layout (reviewed r c)) ++ []
 
 pub text_rows : TextRows
 unfolding pieces numbered trimmed first_section sections_from behind records_from tokens_from token_at item_at items_from bracket_at classes nodes nodes_of depth depth_of explained first_of once last_up_to first_up_to some_up_to values_under values_below ascending put put_all assignment_cmp position_cmp matches some_ending byte_then piece_then visible_after is_utf8 chars encode_utf8 digits encode_with items_of members_of escaped_after escape_byte print_from answers effective_of last_of_each last_value last_matching last_assignments is_after answers_after prefix_of values_of with_empty_lines dumped is_said counted with_changes file_name
@@ -96,8 +97,8 @@ renamed_rows = refl
 -- what is printed of these three devices
 abbrev told_for : Review → (first last second all : List Change) → List ℕ
 told_for r first last second all =
-    (device_changes_form r.json (codes "ab") (reviewed r first)
-    ++ (device_changes_form r.json (codes "x") (reviewed r last) ++ (device_changes_form r.json (codes "b") (reviewed r second) ++ [])))
+    (device_changes_form r.json r.layout (codes "ab") (reviewed r first)
+    ++ (device_changes_form r.json r.layout (codes "x") (reviewed r last) ++ (device_changes_form r.json r.layout (codes "b") (reviewed r second) ++ [])))
     ++ unmet_end r (Some some_devices) old_tree new_tree (reviewed r all)
 
 pub device_text_rows : DeviceTextRows
@@ -138,7 +139,7 @@ no_device_changes = differences_built (entries_to (codes "x") old_tree) (entries
 -- what is printed of one device
 abbrev told_of : (device : List ℕ) (new : Tree) (its all : List Change) → List ℕ
 told_of device new its all =
-    (device_changes_form true device (reviewed (telling true) its) ++ []) ++ unmet_end (telling true) (Some (device ∷ [])) old_tree new (reviewed (telling true) all)
+    (device_changes_form true Grouped device (reviewed (telling true) its) ++ []) ++ unmet_end (telling true) (Some (device ∷ [])) old_tree new (reviewed (telling true) all)
 
 pub which_rows : WhichRows
 unfolding pieces numbered trimmed first_section sections_from behind records_from tokens_from token_at item_at items_from bracket_at classes nodes nodes_of depth depth_of explained first_of once last_up_to first_up_to some_up_to values_under values_below ascending put put_all assignment_cmp position_cmp matches some_ending byte_then piece_then visible_after is_utf8 chars encode_utf8 digits encode_with items_of members_of escaped_after escape_byte print_from answers effective_of last_of_each last_value last_matching last_assignments is_after answers_after prefix_of values_of with_empty_lines dumped is_said file_name

@@ -7,6 +7,8 @@ use Rattle.hwdb_spec_commands.specs.DeviceDifferences.{device_changes_text}
 use Rattle.hwdb_spec_commands.specs.Differences.{change_at, changes_text, differences, files_diff_text, places}
 use Rattle.hwdb_spec_commands.specs.Differences.Change.{Came, Changed, Went}
 use Rattle.hwdb_spec_commands.specs.Reviews.{Review}
+use Rattle.hwdb_spec_commands.specs.Tables.{device_table, tables_text}
+use Rattle.hwdb_spec_commands.specs.declared.args.Layout.TheVariants.{Lines}
 use Rattle.hwdb_spec.specs.Folders.{Source}
 use Rattle.hwdb_spec.specs.Tree.{Map, entry_of}
 
@@ -71,6 +73,22 @@ DeviceRows =
     device_changes_text (codes "dev") [] ∷ device_changes_text (codes "dev") (Changed a_k1 a_k2 ∷ Went a_l1 ∷ Came b_k1 ∷ []) ∷ []
     ≡ [] ∷ codes "dev\n~\tK=1\tf:2\tK=2\tf:2\n-\tL=1\tf:2\n+\tK=1\tf:2\n" ∷ []
 
+-- an assignment whose key, value and path have signs of Markdown and HTML
+abbrev pub marked : Assignment
+marked = said_by (codes "f_<") (codes "[a|b]") (codes "K_1") (codes "`1`&2")
+
+-- Tables of GitHub Flavored Markdown: a cell for what isn't there is empty, and signs are told by their numbers. None of a device without a
+-- change.
+abbrev pub TableRows : Type 0
+TableRows =
+    tables_text (Changed a_k1 a_k2 ∷ Went a_l1 ∷ Came b_k1 ∷ []) ∷ tables_text [] ∷ device_table (codes "d\\*") (Came marked ∷ []) ∷ device_table (codes "d") [] ∷ []
+    ≡ codes
+    "<code>a&#42;</code>\n\n| Property | Before | After |\n|---|---|---|\n| <code>K</code> | <code>1</code><br><code>f:2</code> | <code>2</code><br><code>f:2</code> |\n| <code>L</code> | <code>1</code><br><code>f:2</code> |  |\n\n<code>b&#42;</code>\n\n| Property | Before | After |\n|---|---|---|\n| <code>K</code> |  | <code>1</code><br><code>f:2</code> |\n\n"
+    ∷ []
+    ∷ codes
+    "<code>d&#92;&#42;</code>\n\n| Property | Before | After |\n|---|---|---|\n| <code>K&#95;1</code> |  | <code>&#96;1&#96;&#38;2</code><br><code>f&#95;&#60;:2</code> |\n\n"
+    ∷ [] ∷ []
+
 -- a text file
 abbrev pub file_of : (name text : List ℕ) → Source
 file_of name text = record { name = name; bytes = text }
@@ -84,7 +102,7 @@ FileRows =
 
 -- lines, of patterns that begin so
 abbrev pub of_b : Review
-of_b = record { json = false; stat = false; lines = true; verbose = false; samples = false; only = []; without = []; prefixes = codes "b" ∷ [] }
+of_b = record { json = false; stat = false; layout = Lines; verbose = false; samples = false; only = []; without = []; prefixes = codes "b" ∷ [] }
 
 -- The same of these patterns alone.
 abbrev pub ReviewedFileRows : Type 0

@@ -8,6 +8,7 @@ use Rattle.hwdb_spec_commands.specs.Differences.{Change, diff_text, differ, diff
 use Rattle.hwdb_spec_commands.specs.Differences.Change.{Came, Changed, Went}
 use Rattle.hwdb_spec_commands.specs.Renamed.{grouped_text}
 use Rattle.hwdb_spec_commands.specs.Reviews.{Review, change_counts, given_path}
+use Rattle.hwdb_spec_commands.specs.declared.args.Layout.TheVariants.{Grouped, Lines}
 use Rattle.hwdb_spec.specs.Folders.{Source}
 use Rattle.hwdb_spec_commands.specs.NearAsked.{pattern_of}
 use Rattle.hwdb_spec_commands.specs.NearPrefixes.{files_patterns}
@@ -43,27 +44,27 @@ given line pattern key value path = record { position = record { priority = 1; l
 
 -- as text, with nothing chosen
 abbrev pub plainly : Review
-plainly = record { json = false; stat = false; lines = true; verbose = false; samples = false; only = []; without = []; prefixes = [] }
+plainly = record { json = false; stat = false; layout = Lines; verbose = false; samples = false; only = []; without = []; prefixes = [] }
 
 -- by record
 abbrev pub by_record : Review
-by_record = record { json = false; stat = false; lines = false; verbose = false; samples = false; only = []; without = []; prefixes = [] }
+by_record = record { json = false; stat = false; layout = Grouped; verbose = false; samples = false; only = []; without = []; prefixes = [] }
 
 -- as JSON
 abbrev pub as_json : Review
-as_json = record { json = true; stat = false; lines = true; verbose = false; samples = false; only = []; without = []; prefixes = [] }
+as_json = record { json = true; stat = false; layout = Lines; verbose = false; samples = false; only = []; without = []; prefixes = [] }
 
 -- as counts, as text or JSON
 abbrev pub as_counts : (json : Bool) → Review
-as_counts json = record { json = json; stat = true; lines = false; verbose = false; samples = false; only = []; without = []; prefixes = [] }
+as_counts json = record { json = json; stat = true; layout = Grouped; verbose = false; samples = false; only = []; without = []; prefixes = [] }
 
 -- of some files and patterns
 abbrev pub choosing : (only without prefixes : List (List ℕ)) → Review
-choosing only without prefixes = record { json = false; stat = false; lines = true; verbose = false; samples = false; only = only; without = without; prefixes = prefixes }
+choosing only without prefixes = record { json = false; stat = false; layout = Lines; verbose = false; samples = false; only = only; without = without; prefixes = prefixes }
 
 -- with the changes that aren't met
 abbrev pub telling : (json : Bool) → Review
-telling json = record { json = json; stat = false; lines = false; verbose = true; samples = false; only = []; without = []; prefixes = [] }
+telling json = record { json = json; stat = false; layout = Grouped; verbose = true; samples = false; only = []; without = []; prefixes = [] }
 
 -- what changed: a value, an assignment that went, and one that came
 abbrev pub ChangeRows : Type 0

@@ -24,6 +24,7 @@ use Rattle.hwdb_plan.specs.Device.{device_plan, strings_plan}
 use Rattle.hwdb_plan.specs.Sysfs.{says}
 use Rattle.hwdb_plan.specs.Diff.{change_of, diff_plan}
 use Rattle.hwdb_spec_commands.specs.Reviews.{Review}
+use Rattle.hwdb_spec_commands.specs.declared.args.Layout.TheVariants.{Grouped, Lines}
 use Rattle.hwdb_plan.specs.Dump.{dump_plan}
 use Rattle.hwdb_plan.specs.Folders.{texts_of_folders}
 use Rattle.hwdb_plan.specs.Keys.{keys_plan}
@@ -115,13 +116,13 @@ BaselineRows =
 
 -- how changes are counted, and how some are chosen
 abbrev pub counting : Review
-counting = record { json = false; stat = true; lines = false; verbose = false; samples = false; only = []; without = []; prefixes = [] }
+counting = record { json = false; stat = true; layout = Grouped; verbose = false; samples = false; only = []; without = []; prefixes = [] }
 
 abbrev pub chosen : Review
 chosen = record {
   json = true;
   stat = false;
-  lines = true;
+  layout = Lines;
   verbose = true;
   samples = false;
   only = codes "6*" ∷ [];

@@ -104,6 +104,7 @@ pub fn change_rows()
     ensures differences { ChangeRows.DifferenceRows }
     ensures lines { ChangeRows.LineRows }
     ensures device { ChangeRows.DeviceRows }
+    ensures tables { ChangeRows.TableRows }
     ensures files { ChangeRows.FileRows }
     ensures reviewed { ChangeRows.ReviewedFileRows }
 {}

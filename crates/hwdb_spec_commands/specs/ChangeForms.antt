@@ -1,4 +1,4 @@
--- How `diff` tells changes: of assignments by record, a line for each, or as JSON; for a device, as text or JSON. Our choice.
+-- How `diff` tells changes: of assignments by record, a line for each, as tables or as JSON; for a device, as text, a table or JSON. Our choice.
 use Rattle.std.specs.Prelude.{Bool, true, false, List, ℕ, [], ◌∷◌, codes, flat_map, map}
 use Rattle.json.specs.Json.{Json}
 use Rattle.hwdb_spec.specs.Assignment.{Assignment}
@@ -6,6 +6,9 @@ use Rattle.hwdb_spec_commands.specs.DeviceDifferences.{device_changes_text}
 use Rattle.hwdb_spec_commands.specs.Differences.{Change, changes_text}
 use Rattle.hwdb_spec_commands.specs.Differences.Change.{Came, Went, Changed}
 use Rattle.hwdb_spec_commands.specs.Renamed.{changed_pattern, grouped_text}
+use Rattle.hwdb_spec_commands.specs.Tables.{device_table, tables_text}
+use Rattle.hwdb_spec_commands.specs.declared.args.Layout.{Layout}
+use Rattle.hwdb_spec_commands.specs.declared.args.Layout.TheVariants.{Grouped, Lines, Tables}
 use Rattle.hwdb_spec_commands.specs.Json.{array_of, json_line, number_json, object_of, text_json}
 
 -- ---- JSON
@@ -37,17 +40,24 @@ device_changes_json device (change ∷ more) =
 
 -- ---- what is printed
 
--- the changes of assignments as text: by record, or a line for each
-abbrev pub changes_lines : (lines : Bool) → List Change → List ℕ
-changes_lines true changes = changes_text changes
-changes_lines false changes = grouped_text changes
+-- the changes of assignments as text: by record, a line for each, or as tables
+abbrev pub changes_lines : Layout → List Change → List ℕ
+changes_lines Grouped changes = grouped_text changes
+changes_lines Lines changes = changes_text changes
+changes_lines Tables changes = tables_text changes
 
 -- the same, or as JSON
-abbrev pub changes_form : (json lines : Bool) → List Change → List ℕ
-changes_form false lines changes = changes_lines lines changes
-changes_form true lines changes = flat_map change_json changes
+abbrev pub changes_form : (json : Bool) → Layout → List Change → List ℕ
+changes_form false layout changes = changes_lines layout changes
+changes_form true layout changes = flat_map change_json changes
 
--- the changes for a device, as text or JSON
-abbrev pub device_changes_form : (json : Bool) → (device : List ℕ) → List Change → List ℕ
-device_changes_form false = device_changes_text
-device_changes_form true = device_changes_json
+-- the changes for a device as text
+abbrev pub device_changes_lines : Layout → (device : List ℕ) → List Change → List ℕ
+device_changes_lines Grouped = device_changes_text
+device_changes_lines Lines = device_changes_text
+device_changes_lines Tables = device_table
+
+-- the same, or as JSON
+abbrev pub device_changes_form : (json : Bool) → Layout → (device : List ℕ) → List Change → List ℕ
+device_changes_form false layout = device_changes_lines layout
+device_changes_form true layout = device_changes_json

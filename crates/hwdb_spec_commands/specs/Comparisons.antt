@@ -27,8 +27,8 @@ device_changes r old new device = reviewed r (device_differences device old new)
 
 -- what changed from one database to another: of all that they assign, or for these devices, in their order
 abbrev pub comparison_text : Review → Option (List (List ℕ)) → (old new : Tree) → List ℕ
-comparison_text r None old new = changes_form r.json r.lines (assigned_changes r old new)
-comparison_text r (Some devices) old new = flat_map (λ d. device_changes_form r.json d (device_changes r old new d)) devices
+comparison_text r None old new = changes_form r.json r.layout (assigned_changes r old new)
+comparison_text r (Some devices) old new = flat_map (λ d. device_changes_form r.json r.layout d (device_changes r old new d)) devices
 
 -- the same as lines, or with `--stat` how many changes there are
 abbrev pub comparison_lines : Review → Option (List (List ℕ)) → (old new : Tree) → List ℕ
@@ -51,4 +51,4 @@ has_changed r (Some devices) old new = list_any (λ d. are_some (device_changes 
 -- what is printed of all that the databases of an old state of two folders and of a new one assign, without `--stat`
 abbrev pub files_diff_form : Review → (old_etc old_usr new_etc new_usr : List Source) → List ℕ
 files_diff_form r old_etc old_usr new_etc new_usr =
-    changes_form r.json r.lines (reviewed r (differences (map_of_files old_etc old_usr) (map_of_files new_etc new_usr)))
+    changes_form r.json r.layout (reviewed r (differences (map_of_files old_etc old_usr) (map_of_files new_etc new_usr)))

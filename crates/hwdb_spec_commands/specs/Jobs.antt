@@ -9,7 +9,7 @@ use Rattle.clap.specs.Walk.{Row, Rule, Text, all_of, first_of, one_of}
 use Rattle.clap.specs.declared.builder.value_parser.ValueParser.{ValueParser}
 use Rattle.clap.specs.declared.builder.value_parser.ValueParser.TheVariants as vp
 use Rattle.hwdb_spec_commands.specs.CommandLine.{hwdb_app}
-use Rattle.hwdb_spec_commands.specs.Reviews.{Review, asks_lines, review_in}
+use Rattle.hwdb_spec_commands.specs.Reviews.{Review, layout_of, review_in}
 use Rattle.hwdb_spec_commands.specs.declared.job.Task.TheVariants.{Ask, Check, Device, Diff, Dump, Explain, Fresh, Keys, List as ListHits, Near, Query, Record, Scan, Status, Test, Update, Verify}
 use Rattle.hwdb_spec_commands.specs.declared.job.Task.{Task}
 use Rattle.hwdb_spec_commands.specs.declared.job.Job.{Job}
@@ -41,7 +41,7 @@ abbrev pub review_of : List Row → Review
 review_of rows = record {
   json = has_flag (codes "json") rows;
   stat = has_flag (codes "stat") rows;
-  lines = asks_lines (first_of (codes "format") rows);
+  layout = layout_of (first_of (codes "format") rows);
   verbose = has_flag (codes "verbose") rows;
   samples = has_flag (codes "samples") rows;
   only = unwrap_or (all_of (codes "only") rows) [];

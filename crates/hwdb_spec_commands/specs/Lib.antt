@@ -29,6 +29,7 @@ pub mod ManyDevices
 pub mod Reloads
 pub mod Reviews
 pub mod Renamed
+pub mod Tables
 pub mod ChangeForms
 pub mod Unmet
 pub mod ChangeCounts

@@ -11,30 +11,36 @@ use Rattle.hwdb_spec.specs.Assignment.{Assignment}
 use Rattle.hwdb_spec_commands.specs.Differences.{Change}
 use Rattle.hwdb_spec_commands.specs.Differences.Change.{Came, Went, Changed}
 use Rattle.hwdb_spec_commands.specs.Sides.{file_name, given_front}
+use Rattle.hwdb_spec_commands.specs.declared.args.Layout.{Layout}
+use Rattle.hwdb_spec_commands.specs.declared.args.Layout.TheVariants.{Grouped, Lines, Tables}
 use Rattle.hwdb_spec_commands.specs.declared.args.ReviewArgs.{ReviewArgs}
 
--- whether as JSON, as counts, with a line of its own for each change, with the changes that no device meets, and of devices made of patterns;
--- the globs of files that count, and of those that don't; and what patterns that count begin with
+-- whether as JSON and as counts, and how text is laid out; whether with the changes that no device meets, and of devices made of patterns; the
+-- globs of files that count, and of those that don't; and what patterns that count begin with
 pub record Review : Type 0 where
   pub json : Bool
   pub stat : Bool
-  pub lines : Bool
+  pub layout : Layout
   pub verbose : Bool
   pub samples : Bool
   pub only : List (List ℕ)
   pub without : List (List ℕ)
   pub prefixes : List (List ℕ)
 
--- whether the word after `--format` asks for lines
-abbrev pub asks_lines : Option (List ℕ) → Bool
-asks_lines format = option_map_or (λ t. bytes_eq t (codes "lines")) format false
+-- the layout that a word names
+abbrev pub layout_named : List ℕ → Layout
+layout_named name = if bytes_eq name (codes "lines") then Lines else (if bytes_eq name (codes "markdown") then Tables else Grouped)
+
+-- that of the word after `--format`; by record, if there is none
+abbrev pub layout_of : Option (List ℕ) → Layout
+layout_of format = option_map_or layout_named format Grouped
 
 -- what words ask for
 abbrev pub review_in : ReviewArgs → Review
 review_in r = record {
   json = r.json;
   stat = r.stat;
-  lines = asks_lines (option_map string_bytes r.format);
+  layout = layout_of (option_map string_bytes r.format);
   verbose = r.verbose;
   samples = r.samples;
   only = map string_bytes r.only.items;

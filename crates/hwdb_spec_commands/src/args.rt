@@ -158,14 +158,29 @@ pub struct ReviewArgs {
     pub prefixes: Vec<String>,
 }
 
+/// How `diff` lays changes out as text.
+#[derive(Debug, Clone, Copy)]
+pub enum Layout {
+    /// By record, or by device.
+    Grouped,
+    /// A line for each, with its pattern.
+    Lines,
+    /// A table of Markdown for each pattern, or for each device.
+    Tables,
+}
+
 impl ReviewArgs {
-    /// Whether each change has a line of its own: the word after `--format` is `lines`.
-    pub fn asks_lines(&self) -> bool
-        ensures { result ≡ (review_in self.now).lines }
+    /// How text is laid out: the word after `--format`.
+    pub fn layout(&self) -> Layout
+        ensures { result ≡ (review_in self.now).layout }
     {
-        match &self.format {
-            Some(name) => name.as_str() == "lines",
-            None => false,
+        let Some(name) = &self.format else {
+            return Layout::Grouped;
+        };
+        match name.as_str() {
+            "lines" => Layout::Lines,
+            "markdown" => Layout::Tables,
+            _ => Layout::Grouped,
         }
     }
 }

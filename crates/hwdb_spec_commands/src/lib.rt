@@ -35,6 +35,7 @@
 //! | `Reloads` | what `query --reload -` says of a database that came in another one's place |
 //! | `Reviews` | how `diff` is asked to compare: its form, and which changes count, by file and by pattern |
 //! | `Renamed` | changes by record, and a record whose patterns alone changed |
+//! | `Tables` | changes as tables of Markdown |
 //! | `ChangeForms` | how `diff` tells changes: by record, a line for each, or as JSON |
 //! | `Unmet` | what `diff --devices` says of the changes that its devices don't meet |
 //! | `ChangeCounts` | how many changes there are, by file and by key, and what `diff --stat` prints of that |
@@ -123,8 +124,9 @@ mod unread;
 mod vocabulary;
 
 pub use args::{
-    AskArgs, CheckArgs, DeviceArgs, DiffArgs, DumpArgs, ExplainArgs, KeysArgs, ListArgs, NearArgs,
-    QueryArgs, RecordArgs, ReviewArgs, ScanArgs, StatusArgs, TestArgs, UpdateArgs, VerifyArgs,
+    AskArgs, CheckArgs, DeviceArgs, DiffArgs, DumpArgs, ExplainArgs, KeysArgs, Layout, ListArgs,
+    NearArgs, QueryArgs, RecordArgs, ReviewArgs, ScanArgs, StatusArgs, TestArgs, UpdateArgs,
+    VerifyArgs,
 };
 pub use attributes::ATTRIBUTES;
 pub use colours::{LinePart, Style, TextKind};

@@ -15,7 +15,7 @@ use hwdb_io::{Cause, DeviceFailed, Sink, write_text};
 use hwdb_show::{
     colours_are_taken_out, painted, push_visible, shown_has_no_control, write_visible,
 };
-use hwdb_spec_commands::TextKind;
+use hwdb_spec_commands::{Layout, TextKind};
 use std::alloc::Global;
 
 /// A sink that hands on what it takes to another one. For a terminal each text that one call takes is made visible. Then it's
@@ -189,9 +189,9 @@ fn changes_kind(args: &DiffArgs) -> TextKind {
     if args.review.json || args.review.stat {
         return TextKind::Plain;
     }
-    if args.devices.is_empty() && args.review.asks_lines() {
-        TextKind::Changes
-    } else {
-        TextKind::DeviceChanges
+    match args.review.layout() {
+        Layout::Tables => TextKind::Plain,
+        Layout::Lines if args.devices.is_empty() && !args.review.samples => TextKind::Changes,
+        _ => TextKind::DeviceChanges,
     }
 }

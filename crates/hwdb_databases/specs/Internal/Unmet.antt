@@ -48,7 +48,7 @@ left_by set changes = filter (λ c. has_text set (changed_pattern c)) changes
 -- ---- what is printed
 -- the changes of assignments, or how many there are
 abbrev pub assigned_text : Review → List Change → List ℕ
-assigned_text r changes = if r.stat then stat_form r.json None (with_changes no_stat changes) else changes_form r.json r.lines changes
+assigned_text r changes = if r.stat then stat_form r.json None (with_changes no_stat changes) else changes_form r.json r.layout changes
 
 -- what is said of those that are left
 abbrev pub left_end : Review → (all : ℕ) → (left : List Change) → List ℕ

@@ -12,7 +12,7 @@ returns-clause-text c =
     let old = ap (map assignment_of) c.deref.ensures.value ∙ c.in_ok-old_ones.ensures in
     let new = ap (map assignment_of) c.deref-2.ensures.value ∙ c.in_ok-new_ones.ensures in
     let all = counted_gifts (review_in c.args.review.now) device c.args.sides.old.now c.args.sides.new.now _ _ _ _ c.in_ok-changes.ensures c.new.ensures old new in
-    c.in_ok-push_device_form.ensures ∙ ap (λ cs. c.args.text.now.items ++ device_changes_form c.args.review.now.json device cs) (ap (map change_shown) c.deref-3.ensures.value ∙ all)
+    c.in_ok-push_device_form.ensures ∙ ap (λ cs. c.args.text.now.items ++ device_changes_form c.args.review.now.json (review_in c.args.review.now).layout device cs) (ap (map change_shown) c.deref-3.ensures.value ∙ all)
 
 pub returns-clause-differs : goal.returns-clause-differs
 returns-clause-differs c =

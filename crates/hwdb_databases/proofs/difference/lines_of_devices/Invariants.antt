@@ -9,7 +9,7 @@ use Rattle.hwdb_databases.proofs.difference.lines_of_devices.Given as goal
 abbrev pub invariant-loop-device : goal.invariant-loop-device
 invariant-loop-device l = record {
   text : l.text.items
-      ≡ flat_map (λ d. device_changes_form (review_in l.fn.review).json d (device_changes (review_in l.fn.review) l.fn.sides.old.now l.fn.sides.new.now d)) (map (λ d. d.now) (take l.device-index l.devices));
+      ≡ flat_map (λ d. device_changes_form (review_in l.fn.review).json (review_in l.fn.review).layout d (device_changes (review_in l.fn.review) l.fn.sides.old.now l.fn.sides.new.now d)) (map (λ d. d.now) (take l.device-index l.devices));
   differ : l.differ
       ≡ list_any (λ d. are_some (device_changes (review_in l.fn.review) l.fn.sides.old.now l.fn.sides.new.now d)) (map (λ d. d.now) (take l.device-index l.devices));
 }
