@@ -961,6 +961,30 @@ def grouped_differences(old, new):
     return text
 
 
+# What Markdown or HTML takes for more than itself.
+MARKUP = {*range(32), *b"&<>|*_`[]\\~"}
+
+
+def code(text):
+    return b"<code>" + b"".join(b"&#%d;" % byte if byte in MARKUP else bytes([byte]) for byte in text) + b"</code>"
+
+
+def cell(a):
+    return code(a.value) + b"<br>" + code(b"%s:%d" % (a.path, a.line)) if a else b""
+
+
+def table_differences(old, new):
+    """The same as tables of Markdown, one for each pattern."""
+    was, now = ({(a.pattern, a.key): a for a in assignments} for assignments in (old, new))
+    tables = {}
+    for place in sorted({*was, *now}):
+        before, after = was.get(place), now.get(place)
+        if before is None or after is None or before.value != after.value:
+            tables.setdefault(place[0], []).append(b"| %s | %s | %s |\n" % (code(place[1]), cell(before), cell(after)))
+    head = b"\n\n| Property | Before | After |\n|---|---|---|\n"
+    return b"".join(code(pattern) + head + b"".join(rows) + b"\n" for pattern, rows in tables.items())
+
+
 def change_line(before, after):
     sign = b"+" if before is None else b"-" if after is None else b"~"
     return b"\t".join([sign] + [sourced(a) for a in (before, after) if a is not None]) + b"\n"
