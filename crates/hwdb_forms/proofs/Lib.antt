@@ -19,3 +19,6 @@ pub mod WalkLemmas
 pub mod AfterLemmas
 pub mod LongestLemmas
 pub mod WithinLemmas
+pub mod TextLemmas
+pub mod FittingLemmas
+pub mod ComputedTextRows

@@ -110,7 +110,7 @@ of_bytes : (b : ℕ) → b < 256 → IsTrue (is_among (all_bytes_from 256 0) b)
 of_bytes b h = among 256 0 b (omega arith) (omega arith)
 
 -- each byte of a set is among its candidates
-candidate : (set : ByteSet) (b : ℕ) → IsTrue (is_in set b) → IsTrue (is_among (candidates set) b)
+pub candidate : (set : ByteSet) (b : ℕ) → IsTrue (is_in set b) → IsTrue (is_among (candidates set) b)
 candidate (Only own) b h = or_first (nat_eq b own) false (eq-eqb b own (own_span b own h))
 candidate UpperHex b h = of_bytes b (small (set_spans UpperHex) b refl h)
 candidate LowerHex b h = of_bytes b (small (set_spans LowerHex) b refl h)

@@ -14,13 +14,13 @@ abbrev pub Knows : (List ℕ → Type 0) → List Token → List Bool → Type 0
 Knows Told [] row = IsTrue (head row) ↔ IsMet Told []
 Knows Told (t ∷ ts) row = (IsTrue (head row) ↔ IsMet Told (t ∷ ts)) × Knows Told ts (tail row)
 
-takes_single : (t : Token) (b : ℕ) → is_star t ≡ false → IsTrue (takes t b) → IsTrue (admits_byte t b)
+pub takes_single : (t : Token) (b : ℕ) → is_star t ≡ false → IsTrue (takes t b) → IsTrue (admits_byte t b)
 takes_single star b s h = cc
 takes_single one b s h = h
 takes_single (literal own) b s h = h
 takes_single (bracket class) b s h = h
 
-single_takes : (t : Token) (b : ℕ) → is_star t ≡ false → IsTrue (admits_byte t b) → IsTrue (takes t b)
+pub single_takes : (t : Token) (b : ℕ) → is_star t ≡ false → IsTrue (admits_byte t b) → IsTrue (takes t b)
 single_takes star b s h = cc
 single_takes one b s h = h
 single_takes (literal own) b s h = h
@@ -60,7 +60,7 @@ byte_star_take set Told ts h m =
     (found.0 ∷ m.0, (found.1, m.1), star_more ts found.0 m.0 m.2)
 
 -- any number of bytes
-many_none : (set : ByteSet) (Told : List ℕ → Type 0) (text : List ℕ) → Told text → ManyThen set Told text
+pub many_none : (set : ByteSet) (Told : List ℕ → Type 0) (text : List ℕ) → Told text → ManyThen set Told text
 many_none set Told [] h = h
 many_none set Told (b ∷ rest) h = inl h
 

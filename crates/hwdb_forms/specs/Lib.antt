@@ -1,2 +1,4 @@
 pub mod Internal
 pub mod Laws
+pub mod TextViews
+pub mod TextRows

@@ -23,6 +23,8 @@
 //! | `steps` | the steps of a form |
 //! | `walks` | walks through them |
 //! | `bytes` | sets of bytes as numbers |
+//! | `cells` | texts, and the bytes before them |
+//! | `texts` | the shortest text of a form that a pattern matches |
 //! | `judging` | what is said of a pattern |
 //! | `expecting` | what can be written at a place of a pattern |
 //! | `likeness` | which prefix was meant by one that nobody asks |
@@ -31,6 +33,7 @@
 
 mod beginnings;
 mod bytes;
+mod cells;
 mod expecting;
 mod guesses;
 mod judging;
@@ -45,13 +48,17 @@ mod sets;
 mod steps;
 mod table;
 mod templates;
+mod texts;
 mod walks;
 
 pub use beginnings::is_asked;
+pub use cells::USUAL;
 pub use expecting::{expected, expected_likely};
 pub use judging::{Judged, judge, judge_both, judge_likely, prefix_of};
 pub use laws::{
-    examples_fit, forms_are_tested, fronts_are_longest, fronts_are_tested, likely_texts_are_asked,
-    narrow_examples_fit,
+    asked_text_rows, examples_fit, forms_are_tested, fronts_are_longest, fronts_are_tested,
+    likely_texts_are_asked, narrow_examples_fit, text_rows, texts_are_found, texts_are_shortest,
+    texts_fit,
 };
 pub use likeness::likely_prefix;
+pub use texts::asked_text;

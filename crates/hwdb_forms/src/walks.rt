@@ -91,7 +91,7 @@ fn pass_star(step: Step, at: usize, now: &mut Vec<bool>, next: &mut Vec<bool>)
 }
 
 /// The byte that the token that begins the text stands for, if it is a byte that means itself.
-fn own_byte(text: &[u8]) -> Option<u8>
+pub(crate) fn own_byte(text: &[u8]) -> Option<u8>
     ensures { IfSome result (λ own. token_at text.now ≡ literal own) }
 {
     if text.is_empty() {

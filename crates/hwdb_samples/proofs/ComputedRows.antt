@@ -2,11 +2,14 @@
 use Rattle.std.proofs.Common.{◌≡◌, ◌∙◌, ap, refl, sym, ℕ, List, [], Option, Some, None, codes, length, get_or, inl, inr, true, false, arith}
 use Rattle.hwdb_spec.specs.Answers.{effective_of, is_after, is_match, last_assignments, last_matching, last_of_each, last_value}
 use Rattle.hwdb_spec.specs.Assignment.{assignment_cmp, position_cmp, put, put_all}
+use Rattle.hwdb_spec.specs.Forms.{all_bytes_from}
 use Rattle.hwdb_spec.specs.Patterns.{bracket_at, items_from, item_at, classes, tokens_from, token_at, some_ending, byte_then, piece_then, matches}
+use Rattle.hwdb_spec_commands.specs.FormTable.{free_prefixes, known}
+use Rattle.hwdb_spec_commands.specs.FormTexts.{byte_texts, counted_texts, either_texts, end_texts, field_texts, fields_texts, fixed_texts, many_texts, no_texts, pieces_texts, text_among}
 use Rattle.hwdb_spec_commands.specs.SamplesFound.{counted_from, last_from, moved, same_rules}
 use Rattle.hwdb_samples.specs.KeyRows.{KeyRuleRows, PropertyRows, TurnRows, ValueRows}
 use Rattle.hwdb_spec_commands.specs.Overlaps.{apart, some_end, within}
-use Rattle.hwdb_samples.specs.Rows.{AgreeRows, ApartRows, ChangedRows, CoverRows, FoundRows, GivenRows, KeyedRows, LaterRows, NearRows, RuleRows, SameRows, ShownRows, TextRows, new_side, old_side}
+use Rattle.hwdb_samples.specs.Rows.{AgreeRows, ApartRows, AskedRows, ChangedRows, CoverRows, FoundRows, GivenRows, KeyedRows, LaterRows, NearRows, RuleRows, SameRows, ShownRows, TextRows, new_side, old_side}
 use Rattle.hwdb_spec_commands.specs.SampleRules.{after_rules, given, HasRule, IsSame, Shows}
 use Rattle.hwdb_spec_commands.specs.SampleTexts.{usual}
 
@@ -116,11 +119,15 @@ unfolding last_from moved put put_all
 changed_rows_hold = (refl, refl, refl, refl, refl)
 
 pub found_rows_hold : FoundRows
-unfolding last_from moved put put_all apart tokens_from token_at within some_end counted_from same_rules matches piece_then byte_then some_ending after_rules usual
+unfolding last_from moved put put_all apart tokens_from token_at within some_end counted_from same_rules matches piece_then byte_then some_ending after_rules usual byte_texts many_texts counted_texts either_texts end_texts field_texts fields_texts fixed_texts no_texts pieces_texts text_among all_bytes_from known free_prefixes
 found_rows_hold = (refl, refl, refl, refl)
 
+pub asked_rows_hold : AskedRows
+unfolding last_from moved put put_all apart tokens_from token_at within some_end counted_from same_rules matches piece_then byte_then some_ending after_rules usual byte_texts many_texts counted_texts either_texts end_texts field_texts fields_texts fixed_texts no_texts pieces_texts text_among all_bytes_from known free_prefixes
+asked_rows_hold = (refl, refl)
+
 pub keyed_rows_hold : KeyedRows
-unfolding last_from moved put put_all apart tokens_from token_at within some_end counted_from same_rules matches piece_then byte_then some_ending after_rules usual
+unfolding last_from moved put put_all apart tokens_from token_at within some_end counted_from same_rules matches piece_then byte_then some_ending after_rules usual byte_texts many_texts counted_texts either_texts end_texts field_texts fields_texts fixed_texts no_texts pieces_texts text_among all_bytes_from known free_prefixes
 keyed_rows_hold = refl
 
 -- ---- all keys

@@ -1,5 +1,5 @@
 -- What samples say of two sides.
-use Rattle.std.proofs.Common.{◌≡◌, ◌∙◌, ap, sym, refl, subst, ℕ, Bool, true, false, cond, not, ◌&&◌, List, [], ◌∷◌, ◌++◌, codes, filter, flat_map, map, Option, Some, None, ◌⊎◌, inl, inr, ⊎_elim}
+use Rattle.std.proofs.Common.{◌≡◌, ◌∙◌, ap, sym, refl, subst, ℕ, Bool, true, false, cond, not, ◌&&◌, List, [], ◌∷◌, ◌++◌, filter, flat_map, map, Option, Some, None, ◌⊎◌, inl, inr, ⊎_elim}
 use Rattle.std.specs.List.{AllByRecursion}
 use Rattle.hwdb_spec.specs.Answers.{has_key, is_match}
 use Rattle.hwdb_spec.specs.Assignment.{Assignment, in_order, text_cmp}
@@ -7,13 +7,13 @@ use Rattle.hwdb_spec.specs.Folders.{same}
 use Rattle.hwdb_spec.specs.Lemmas.Orders.{same_itself, same_text}
 use Rattle.hwdb_text.specs.Lemmas.Members.{Holds}
 use Rattle.hwdb_pattern.specs.Laws.{MatchesIsTested}
-use Rattle.hwdb_spec_commands.specs.SamplesFound.{Counted, Found, KeyedRule, agree, changed, counted, counted_after, counted_from, first_shown, found_at, is_idle, is_kept, kept, key_in, last_from, listed, lone, moved, near, pattern_of, rules_of, sample_of, samples_by_key, same_rule, same_rules, same_value, samples_of, shown_by, shown_of, shows, undecided_by, undecided_of}
+use Rattle.hwdb_spec_commands.specs.SamplesFound.{Counted, Found, KeyedRule, agree, changed, counted, counted_after, counted_from, found_at, is_idle, is_kept, kept, key_in, last_from, listed, lone, moved, near, pattern_of, rules_of, sample_of, samples_by_key, same_rule, same_rules, same_value, samples_of, shown_by, shown_of, shows, texts_to_try, undecided_by, undecided_of}
 use Rattle.hwdb_samples.specs.Keys.{in_turn, keyed_rules}
 use Rattle.hwdb_spec_commands.specs.SampleDevices.{assigned_texts, keyed_texts}
 use Rattle.hwdb_samples.specs.Laws.{AddedAreSettled, IsNothing, IsSettled, NothingIsSame, NothingIsSameOfAll, RemovedAreSettled, SamplesShow}
 use Rattle.hwdb_spec_commands.specs.Overlaps.{apart, covers}
 use Rattle.hwdb_spec_commands.specs.SampleRules.{AgreeOn, HasRule, HasSample, HasText, IsSame, RuleTexts, Shows, after_rule, after_rules, given}
-use Rattle.hwdb_spec_commands.specs.SampleTexts.{text_of}
+use Rattle.hwdb_samples.proofs.FitLemmas.{found_passes}
 use Rattle.hwdb_samples.proofs.KeyLemmas.{ordered_holds, same_rules_give_all}
 use Rattle.hwdb_samples.proofs.RuleLemmas.{given_from}
 use Rattle.hwdb_samples.proofs.SoundLemmas.{apart_is, covers_is}
@@ -143,15 +143,7 @@ module _ (t : MatchesIsTested) (old new : List RuleTexts) where
       }
 
   sampled : (pattern device : List ℕ) → sample_of (Old pattern) (New pattern) pattern ≡ Some device → Shows old new (pattern, device)
-  sampled pattern device e = showing pattern device (first (text_of [] pattern) (text_of (codes "0") pattern) e)
-    where
-      one_of : (a b : Bool) (one other : List ℕ) → shows (Old pattern) (New pattern) pattern one ≡ a → shows (Old pattern) (New pattern) pattern other ≡ b → cond a (Some one) (cond b (Some other) None) ≡ Some device → shows (Old pattern) (New pattern) pattern device ≡ true
-      one_of true b one other x y i = ap (shows (Old pattern) (New pattern) pattern) (sym (some_is one device i)) ∙ x
-      one_of false true one other x y i = ap (shows (Old pattern) (New pattern) pattern) (sym (some_is other device i)) ∙ y
-      one_of false false one other x y i = absurd (cc)
-
-      first : (one other : List ℕ) → first_shown (Old pattern) (New pattern) pattern one other ≡ Some device → shows (Old pattern) (New pattern) pattern device ≡ true
-      first one other i = one_of (shows (Old pattern) (New pattern) pattern one) (shows (Old pattern) (New pattern) pattern other) one other refl refl i
+  sampled pattern device e = showing pattern device (found_passes (shows (Old pattern) (New pattern) pattern) (texts_to_try pattern) device e)
 
   shown_one : (pattern : List ℕ) (o : Option (List ℕ)) → sample_of (Old pattern) (New pattern) pattern ≡ o → AllByRecursion (Shows old new) (shown_by pattern o)
   shown_one pattern None e = tt

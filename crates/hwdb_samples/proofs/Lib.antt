@@ -7,5 +7,6 @@ pub mod KeyLemmas
 pub mod GroupLemmas
 pub mod AllKeysLemmas
 pub mod SoundLemmas
+pub mod FitLemmas
 pub mod LawLemmas
 pub mod ComputedRows

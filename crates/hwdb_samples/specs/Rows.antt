@@ -88,14 +88,22 @@ ChangedRows =
     × (changed new_side new_side ≡ [])
 
 -- what is found: a device of a new pattern; nothing if a later rule hides the change; a device with a 0 if one without is hidden; and
--- a pattern that is undecided, if both are
+-- a pattern that is undecided, if both are. udev asks no text that these patterns match.
 abbrev pub FoundRows : Type 0
 FoundRows =
     (samples_of old_side new_side ≡ record { shown = (codes "ab", codes "ab") ∷ []; undecided = [] })
     × (samples_of ((codes "ab", codes "1") ∷ (codes "a*", codes "3") ∷ []) ((codes "ab", codes "2") ∷ (codes "a*", codes "3") ∷ []) ≡ record { shown = []; undecided = [] })
-    × (samples_of ((codes "a*", codes "1") ∷ (codes "a", codes "2") ∷ []) ((codes "a*", codes "3") ∷ (codes "a", codes "2") ∷ []) ≡ record { shown = (codes "a*", codes "a0") ∷ []; undecided = [] })
-    × (samples_of ((codes "a*", codes "1") ∷ (codes "a", codes "2") ∷ (codes "a0", codes "2") ∷ []) ((codes "a*", codes "3") ∷ (codes "a", codes "2") ∷ (codes "a0", codes "2") ∷ [])
-    ≡ record { shown = []; undecided = codes "a*" ∷ [] })
+    × (samples_of ((codes "k*", codes "1") ∷ (codes "k", codes "2") ∷ []) ((codes "k*", codes "3") ∷ (codes "k", codes "2") ∷ []) ≡ record { shown = (codes "k*", codes "k0") ∷ []; undecided = [] })
+    × (samples_of ((codes "k*", codes "1") ∷ (codes "k", codes "2") ∷ (codes "k0", codes "2") ∷ []) ((codes "k*", codes "3") ∷ (codes "k", codes "2") ∷ (codes "k0", codes "2") ∷ [])
+    ≡ record { shown = []; undecided = codes "k*" ∷ [] })
+
+-- A device is such as udev asks, if there is one: the shortest of the pattern's form (ACPI ends names by a colon, which the pattern lacks).
+-- If a later rule hides the change there, it is the shortest of which each star takes a byte.
+abbrev pub AskedRows : Type 0
+AskedRows =
+    (samples_of ((codes "acpi:LNX*", codes "1") ∷ []) ((codes "acpi:LNX*", codes "2") ∷ []) ≡ record { shown = (codes "acpi:LNX*", codes "acpi:LNX:") ∷ []; undecided = [] })
+    × (samples_of ((codes "tpm2:*", codes "1") ∷ (codes "tpm2:", codes "3") ∷ []) ((codes "tpm2:*", codes "2") ∷ (codes "tpm2:", codes "3") ∷ [])
+    ≡ record { shown = (codes "tpm2:*", codes "tpm2:0") ∷ []; undecided = [] })
 
 -- what is found of two keys, ascending
 abbrev pub KeyedRows : Type 0

@@ -5,6 +5,7 @@ use Rattle.std.specs.Prelude.{Vec}
 use Rattle.std.specs.declared.alloc.Global.{Global}
 use Rattle.hwdb_spec_commands.specs.SamplesFound.{Counted as Counts, Found, KeyedRule}
 use Rattle.hwdb_spec_commands.specs.SampleRules.{RuleTexts}
+use Rattle.hwdb_forms.specs.TextViews.{text_view}
 use Rattle.hwdb_samples.specs.declared.agreement.Counted.{Counted}
 use Rattle.hwdb_samples.specs.declared.groups.KeySamples.{KeySamples}
 use Rattle.hwdb_samples.specs.declared.groups.Property.{Property}
@@ -46,5 +47,4 @@ key_shown s = (s.key.now, found_shown s.found)
 
 -- a device, if there is one
 abbrev pub device_in : Option (Vec ℕ Global) → Option (List ℕ)
-device_in None = None
-device_in (Some device) = Some device.items
+device_in device = text_view device

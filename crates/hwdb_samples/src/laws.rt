@@ -1,9 +1,10 @@
 //! Laws of the definitions, and worked rows: these functions do nothing, and what each of them ensures is so.
 ghost use Rattle.hwdb_samples.specs.KeyRows.{KeyRuleRows, PropertyRows, TurnRows, ValueRows};
 ghost use Rattle.hwdb_samples.specs.Keys.{RulesGiveValues, SameRulesGiveAll};
-ghost use Rattle.hwdb_samples.specs.Laws.{AddedAreSettled, NothingIsSame, NothingIsSameOfAll, RemovedAreSettled, SamplesShow};
-ghost use Rattle.hwdb_samples.specs.Rows.{AgreeRows, ApartRows, ChangedRows, CoverRows, FoundRows, GivenRows, KeyedRows, LaterRows, NearRows, RuleRows, SameRows, ShownRows, TextRows};
+ghost use Rattle.hwdb_samples.specs.Laws.{AddedAreSettled, NothingIsSame, NothingIsSameOfAll, RemovedAreSettled, SamplesFit, SamplesShow, ShortestIsSample};
+ghost use Rattle.hwdb_samples.specs.Rows.{AgreeRows, ApartRows, AskedRows, ChangedRows, CoverRows, FoundRows, GivenRows, KeyedRows, LaterRows, NearRows, RuleRows, SameRows, ShownRows, TextRows};
 
+use hwdb_forms::texts_fit;
 use hwdb_pattern::matches_is_tested;
 
 /// What samples say of the rules of one key: each shows a change, and if nothing is found nothing changes. The pattern of each rule
@@ -22,6 +23,14 @@ pub fn law_nothing_found()
     ensures { NothingIsSameOfAll }
 {
     matches_is_tested();
+}
+
+/// If a text that udev may ask shows a change, the sample is such a text: the shortest one, if it shows it.
+pub fn law_samples_fit()
+    ensures fit { SamplesFit }
+    ensures shortest { ShortestIsSample }
+{
+    texts_fit();
 }
 
 /// What a device gets of all keys is what the rules of each key give it.
@@ -56,12 +65,13 @@ pub fn pattern_rows()
 {}
 
 /// What is found of two sides.
-#[tactic(auto, using(crate::proofs::ComputedRows::agree_rows_hold, crate::proofs::ComputedRows::changed_rows_hold, crate::proofs::ComputedRows::found_rows_hold, crate::proofs::ComputedRows::keyed_rows_hold))]
+#[tactic(auto, using(crate::proofs::ComputedRows::agree_rows_hold, crate::proofs::ComputedRows::changed_rows_hold, crate::proofs::ComputedRows::found_rows_hold, crate::proofs::ComputedRows::keyed_rows_hold, crate::proofs::ComputedRows::asked_rows_hold))]
 pub fn sample_rows()
     ensures agree { AgreeRows }
     ensures changed { ChangedRows }
     ensures found { FoundRows }
     ensures keyed { KeyedRows }
+    ensures asked { AskedRows }
 {}
 
 /// Which assignments count, and what devices get of all keys.

@@ -25,8 +25,8 @@ mod texts;
 
 pub use groups::{KeySamples, Property, samples_by_key};
 pub use laws::{
-    given_rows, key_rows, law_found, law_nothing_found, law_rules_give, pattern_rows, sample_rows,
-    side_rows,
+    given_rows, key_rows, law_found, law_nothing_found, law_rules_give, law_samples_fit,
+    pattern_rows, sample_rows, side_rows,
 };
 pub use rules::{Rule, given};
 pub use samples::{Sample, Samples, samples_of};

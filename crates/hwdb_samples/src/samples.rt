@@ -1,6 +1,11 @@
 //! The samples of one key of two sides.
-ghost use Rattle.std.specs.Prelude.{◌≡◌, ◌++◌, map, IfOk, OnOk};
+ghost use Rattle.std.specs.Prelude.{◌≡◌, ◌++◌, ◌∷◌, [], codes, find, map, IfOk, OnOk};
+ghost use Rattle.hwdb_spec.specs.Patterns.{token_at};
+ghost use Rattle.hwdb_spec_commands.specs.FormTable.{asked};
+ghost use Rattle.hwdb_spec_commands.specs.FormTexts.{filled, text_among, widened};
+ghost use Rattle.hwdb_spec_commands.specs.SampleTexts.{text_of};
 ghost use Rattle.hwdb_spec_commands.specs.SamplesFound as spec;
+ghost use Rattle.hwdb_forms.specs.Internal.{views};
 ghost use Rattle.hwdb_samples.specs.Levels.{AreLevels};
 ghost use Rattle.hwdb_samples.specs.Views.{device_in, found_shown, own_text, rule_texts, sample_texts};
 
@@ -9,6 +14,8 @@ use crate::changes::changed;
 use crate::levels::{Level, begins_with, deepen};
 use crate::rules::{Rule, given, is_match, same_value};
 use crate::texts::text_of;
+use hwdb_forms::asked_text;
+use hwdb_pattern::{begins_star, token_texts};
 use std::alloc::{AllocError, Global};
 
 /// A device made of a pattern, which two sides give something else.
@@ -44,15 +51,81 @@ fn shows(old: &[Rule<'_>], new: &[Rule<'_>], pattern: &[u8], device: &[u8]) -> b
     is_match(device, pattern) && !same_value(given(device, old), given(device, new))
 }
 
-/// A sample of a pattern, if one is found: a text without its stars, or else with a 0 for each.
-fn sample_of(
+/// The text, if there is one and it shows a change.
+fn if_shown(
+    old: &[Rule<'_>],
+    new: &[Rule<'_>],
+    pattern: &[u8],
+    text: Option<Vec<u8>>,
+) -> Option<Vec<u8>>
+    ensures { device_in result
+        ≡ find (spec.shows (map rule_texts old.now) (map rule_texts new.now) pattern.now)
+        (spec.some_text (device_in text)) }
+{
+    match text {
+        None => None,
+        Some(device) => {
+            if shows(old, new, pattern, &device) {
+                Some(device)
+            } else {
+                None
+            }
+        }
+    }
+}
+
+/// Adds the tokens that stand for a token: a star takes a byte or more.
+#[tactic(auto, unfolding(hwdb_spec::specs::Patterns::token_at))]
+fn push_widened<'p>(wide: &mut Vec<&'p [u8]>, token: &'p [u8]) -> Result<(), AllocError>
+    ensures { OnOk result (views wide.new.items
+        ≡ views wide.old.items ++ widened (token_at token.now)) }
+{
+    if begins_star(token) {
+        wide.push(b"?")?;
+        wide.push(b"*")?;
+    } else {
+        wide.push(token)?;
+    }
+    Ok(())
+}
+
+/// The tokens of which each star takes a byte or more.
+fn filled<'p>(alloc: Global, tokens: &[&'p [u8]]) -> Result<Vec<&'p [u8]>, AllocError>
+    ensures { IfOk result (λ wide. views wide.items ≡ filled (views tokens.now)) }
+{
+    let mut wide = Vec::new(alloc);
+    for token in tokens {
+        push_widened(&mut wide, *token)?;
+    }
+    Ok(wide)
+}
+
+/// The shortest text that udev may ask and that the tokens match, if it shows a change.
+fn asked_sample(
+    alloc: Global,
+    old: &[Rule<'_>],
+    new: &[Rule<'_>],
+    pattern: &[u8],
+    tokens: &[&[u8]],
+) -> Result<Option<Vec<u8>>, AllocError>
+    ensures { IfOk result (λ found. device_in found
+        ≡ find (spec.shows (map rule_texts old.now) (map rule_texts new.now) pattern.now)
+        (spec.some_text (text_among asked (views tokens.now)))) }
+{
+    let text = asked_text(alloc, tokens)?;
+    Ok(if_shown(old, new, pattern, text))
+}
+
+/// A text that shows a change: one without the pattern's stars, or else with a 0 for each.
+fn plain_sample(
     alloc: Global,
     old: &[Rule<'_>],
     new: &[Rule<'_>],
     pattern: &[u8],
 ) -> Result<Option<Vec<u8>>, AllocError>
     ensures { IfOk result (λ found. device_in found
-        ≡ spec.sample_of (map rule_texts old.now) (map rule_texts new.now) pattern.now) }
+        ≡ find (spec.shows (map rule_texts old.now) (map rule_texts new.now) pattern.now)
+        (text_of [] pattern.now ∷ text_of (codes "0") pattern.now ∷ [])) }
 {
     let short = text_of(alloc, pattern, b"")?;
     if shows(old, new, pattern, &short) {
@@ -63,6 +136,28 @@ fn sample_of(
         return Ok(Some(longer));
     }
     Ok(None)
+}
+
+/// A sample of a pattern, if one is found: the first of four texts that shows a change. The first two are such as udev asks, with what
+/// the pattern's stars need or with more.
+fn sample_of(
+    alloc: Global,
+    old: &[Rule<'_>],
+    new: &[Rule<'_>],
+    pattern: &[u8],
+) -> Result<Option<Vec<u8>>, AllocError>
+    ensures { IfOk result (λ found. device_in found
+        ≡ spec.sample_of (map rule_texts old.now) (map rule_texts new.now) pattern.now) }
+{
+    let tokens = token_texts(alloc, pattern)?;
+    if let Some(device) = asked_sample(alloc, old, new, pattern, &tokens)? {
+        return Ok(Some(device));
+    }
+    let wide = filled(alloc, &tokens)?;
+    if let Some(device) = asked_sample(alloc, old, new, pattern, &wide)? {
+        return Ok(Some(device));
+    }
+    plain_sample(alloc, old, new, pattern)
 }
 
 /// Looks for a sample of a pattern, among rules that may match its devices. If none is found, and it isn't seen that there is none,

@@ -3,12 +3,9 @@ ghost use Rattle.std.specs.Prelude.{◌≡◌, ◌<◌, ◌++◌, find, length, 
 ghost use Rattle.hwdb_spec.specs.Patterns.{admits_byte, token_at};
 ghost use Rattle.hwdb_spec_commands.specs.SampleTexts as spec;
 
+use hwdb_forms::USUAL;
 use hwdb_pattern::{begins_star, begins_with, bracket_end, token_texts};
 use std::alloc::{AllocError, Global};
-
-/// Bytes that stand for `?` or a bracket, the first that fits.
-const USUAL: &[u8] =
-    b"0aA_123456789bcdefghijklmnopqrstuvwxyzBCDEFGHIJKLMNOPQRSTUVWXYZ-.:,;/+()&#!=@[]{}<>$%'*?^`|~ ";
 
 /// The byte of a `[` that begins a text, if that begins no bracket.
 fn open_literal(text: &[u8]) -> Option<u8>

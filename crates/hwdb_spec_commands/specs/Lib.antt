@@ -36,6 +36,7 @@ pub mod ChangeCounts
 pub mod Comparisons
 pub mod SampleRules
 pub mod SampleTexts
+pub mod FormTexts
 pub mod Overlaps
 pub mod SamplesFound
 pub mod SampleDevices

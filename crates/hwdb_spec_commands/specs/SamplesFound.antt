@@ -1,9 +1,12 @@
 -- The samples of two sides: devices made of patterns that the two give something else. A rule is a pattern and the value that it gives.
 -- A side has rules in the order in which they count, the last one first of all. Our choice.
-use Rattle.std.specs.Prelude.{◌&&◌, ◌++◌, ◌∷◌, Bool, List, None, Option, Some, [], codes, false, filter, flat_map, if◌then◌else◌, map, not, true, ℕ}
+use Rattle.std.specs.Prelude.{◌&&◌, ◌++◌, ◌∷◌, Bool, List, None, Option, Some, [], codes, false, filter, find, flat_map, if◌then◌else◌, map, not, true, ℕ}
 use Rattle.hwdb_spec.specs.Answers.{is_match}
 use Rattle.hwdb_spec.specs.Assignment.{in_order, text_cmp}
 use Rattle.hwdb_spec.specs.Folders.{same}
+use Rattle.hwdb_spec.specs.Patterns.{tokens}
+use Rattle.hwdb_spec_commands.specs.FormTable.{asked}
+use Rattle.hwdb_spec_commands.specs.FormTexts.{filled, text_among}
 use Rattle.hwdb_spec_commands.specs.Overlaps.{apart, covers}
 use Rattle.hwdb_spec_commands.specs.SampleRules.{RuleTexts, given}
 use Rattle.hwdb_spec_commands.specs.SampleTexts.{text_of}
@@ -70,14 +73,21 @@ agree old new pattern = same_counted (counted pattern old) (counted pattern new)
 abbrev pub shows : (old new : List RuleTexts) → (pattern device : List ℕ) → Bool
 shows old new pattern device = is_match device pattern && not (same_value (given device old) (given device new))
 
--- the first of two texts that shows a change
-abbrev pub first_shown : (old new : List RuleTexts) → (pattern one other : List ℕ) → Option (List ℕ)
-first_shown old new pattern one other =
-    if shows old new pattern one then Some one else (if shows old new pattern other then Some other else None)
+-- a text that there may be, as a list
+abbrev pub some_text : Option (List ℕ) → List (List ℕ)
+some_text None = []
+some_text (Some text) = text ∷ []
 
--- the device: stars are taken out of the pattern, or else a 0 stands for each
+-- The texts to try: the shortest one that udev may ask, and the shortest one of which each star takes a byte or more. Then come those
+-- that udev may not ask: stars are taken out of the pattern, or a 0 stands for each.
+abbrev pub texts_to_try : (pattern : List ℕ) → List (List ℕ)
+texts_to_try pattern =
+    some_text (text_among asked (tokens pattern))
+    ++ (some_text (text_among asked (filled (tokens pattern))) ++ (text_of [] pattern ∷ text_of (codes "0") pattern ∷ []))
+
+-- the device: the first of these texts that shows a change
 abbrev pub sample_of : (old new : List RuleTexts) → (pattern : List ℕ) → Option (List ℕ)
-sample_of old new pattern = first_shown old new pattern (text_of [] pattern) (text_of (codes "0") pattern)
+sample_of old new pattern = find (shows old new pattern) (texts_to_try pattern)
 
 -- ---- the patterns to look at
 

@@ -42,6 +42,7 @@
 //! | `Comparisons` | what `diff` compares, and what it prints, as text or JSON |
 //! | `SampleRules` | what rules of one key give devices, and what shows that two sides differ |
 //! | `SampleTexts` | a short text that a pattern matches |
+//! | `FormTexts` | the shortest text of a form that a pattern matches |
 //! | `Overlaps` | whether patterns are seen to match no text both, or one all that the other does |
 //! | `SamplesFound` | the samples of two sides: devices made of patterns, to which the two give something else |
 //! | `SampleDevices` | the devices that `diff --samples` asks about, and what it says of undecided patterns |

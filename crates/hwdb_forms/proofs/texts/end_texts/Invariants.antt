@@ -1,0 +1,15 @@
+use Rattle.std.proofs.Common.{◌≡◌, ◌≤◌, drop, length, suc}
+use Rattle.hwdb_spec_commands.specs.FormTexts as spec
+use Rattle.hwdb_forms.specs.Internal.{views}
+use Rattle.hwdb_forms.specs.TextViews.{row_view}
+use Rattle.hwdb_forms.proofs.texts.end_texts.Given as goal
+
+abbrev pub invariant-loop-at : goal.invariant-loop-at
+invariant-loop-at l = record {
+  within : l.at ≤ length l.tokens;
+  long : length l.row.items ≡ suc (length l.tokens);
+  done : drop l.at (row_view l.row.items) ≡ spec.end_texts (drop l.at (views l.tokens));
+}
+
+abbrev pub decreases-loop-at : goal.decreases-loop-at
+decreases-loop-at l = l.at
