@@ -1,6 +1,7 @@
 pub mod AnsweredLemmas
 pub mod ExplanationLemmas
 pub mod HitLineLemmas
+pub mod KeptLemmas
 pub mod RefusalLemmas
 pub mod UpdateLemmas
 pub mod JsonLawLemmas

@@ -1,4 +1,5 @@
 pub mod Lookups
+pub mod Asked
 pub mod JsonLaws
 pub mod Streams
 pub mod Internal

@@ -17,7 +17,12 @@ use std::alloc::{AllocError, Global};
 /// Makes a text the line of a hit: with tabs between its parts, or as an object of JSON.
 ///
 /// The only error is want of memory.
-fn set_line(alloc: Global, line: &mut Vec<u8>, hit: &Hit<'_>, json: bool) -> Result<(), AllocError>
+pub fn set_line(
+    alloc: Global,
+    line: &mut Vec<u8>,
+    hit: &Hit<'_>,
+    json: bool,
+) -> Result<(), AllocError>
     ensures { OnOk result (line.new.items ≡ line_of json (assignment_of_hit hit.now)) }
 {
     if json {

@@ -9,7 +9,7 @@
 //! | `json_explanations` | the lines of JSON of `explain` |
 //! | `json_laws` | what is read of JSON is what was written |
 //! | `device_texts` | what is printed of devices, one after another |
-//! | `kept_texts` | what `query` and `explain` print of a database of which the strings alone are held |
+//! | `kept_texts` | what `query`, `explain` and `list` print of a database of which the strings alone are held |
 //! | `queries` | `query` and `explain`: what a database gives devices |
 //! | `hit_lines` | the hits of a cursor, one line after another |
 //! | `listing` | `list`: the hits that a database has for a device |
@@ -45,8 +45,8 @@ pub use hwdb_spec_commands::Form;
 pub use json_explanations::explanation_lines_json;
 pub use json_laws::json_is_read_back;
 pub use json_lines::{put_named, put_raw, raw_of};
-pub use kept_texts::texts_of_kept;
-pub use listing::{print_list, run_list};
+pub use kept_texts::{Wanted, text_kept};
+pub use listing::{ListAsked, print_list, run_list};
 pub use queries::{answer, answers, run_query};
 pub use renewal::{Kept, Renewal};
 pub use single_file::{AskTexts, ask, ask_texts};

@@ -18,7 +18,7 @@
 //! | `nodes` | a node's record, its children and its values |
 //! | `arrivals` | a node whose path is live, and its children |
 //! | `descent` | the nodes whose paths are live, one after another |
-//! | `lookups` | the properties of a device, and where they come from |
+//! | `lookups` | the properties of a device, where they come from, and its hits |
 //! | `files` | a file whose parts can be read: its check, of which the strings are kept, and lookups that read windows |
 #![tactic(auto)]
 
@@ -37,6 +37,6 @@ mod windows;
 
 pub use files::{KeptFile, ReadWindows, accepted};
 pub use known::{BLOCK, Known};
-pub use lookups::{explain_windows, lookup, lookup_windows};
+pub use lookups::{explain_windows, hits_windows, lookup, lookup_windows};
 pub use stop::Stop;
 pub use windows::{WINDOW, Windows};

@@ -1,10 +1,10 @@
-//! The properties of a device, and where they come from.
-ghost use Rattle.std.specs.Prelude.{◌≡◌, List, ℕ, [], filter, map, IfOk, IfErr};
-ghost use Rattle.hwdb_spec.specs.Tree.{Tree, answers, members_under};
+//! The properties of a device, where they come from, and its hits.
+ghost use Rattle.std.specs.Prelude.{◌≡◌, List, ℕ, [], filter, map, take, IfOk, IfErr};
+ghost use Rattle.hwdb_spec.specs.Tree.{Tree, answers, answers_after, members_under};
 ghost use Rattle.hwdb_spec.specs.Answers.{effective_of, is_wanted};
 ghost use Rattle.hwdb_spec.specs.Explanations.{explained};
 ghost use Rattle.hwdb_spec.specs.Format.{IsDatabase};
-ghost use Rattle.hwdb_query.specs.Views.{assignment_of_answer, explained_values, pairs_bytes};
+ghost use Rattle.hwdb_query.specs.Views.{assignment_of_answer, assignments_of_hits, explained_values, given_position, pairs_bytes};
 ghost use Rattle.hwdb_lookup.specs.Views.{IsOf, Stops};
 ghost use Rattle.hwdb_lookup.specs.Sound.{AreSound};
 ghost use Rattle.hwdb_lookup.specs.Windows.{IsOfWindows, StopsOf};
@@ -15,7 +15,9 @@ use crate::opening::frame_of;
 use crate::parts::Parts;
 use crate::stop::Stop;
 use crate::windows::{Windows, seen_of};
-use hwdb_query::{Explained, StoredAssignment, effective_among, explained_among};
+use hwdb_query::{
+    Explained, Hit, Position, StoredAssignment, effective_among, explained_among, page_among,
+};
 use hwdb_reader::law_ascending;
 use std::alloc::Global;
 
@@ -107,4 +109,23 @@ pub fn explain_windows<'a>(
     let found = found_in(alloc, windows, device)?;
     let explained = explained_among(alloc, &found)?;
     Ok(explained)
+}
+
+/// The first `most` of the answers for the device after a position, in order. Else the same as [`lookup_windows`].
+pub fn hits_windows<'a>(
+    alloc: Global,
+    windows: Windows<'a>,
+    device: &[u8],
+    after: Option<&Position>,
+    most: usize,
+) -> Result<Vec<Hit<'a>>, Stop>
+    ensures answer { IfOk result (λ hits. (file : List ℕ) (t : Tree)
+        → IsOfWindows windows.entry file → IsDatabase file t → assignments_of_hits hits.items
+        ≡ take most (answers_after device.now (given_position after.entry) t)) }
+    ensures stop { IfErr result
+        (λ s. StopsOf windows.entry (λ file. (t : Tree) × IsDatabase file t) s) }
+{
+    let found = found_in(alloc, windows, device)?;
+    let hits = page_among(alloc, &found, after, most)?;
+    Ok(hits)
 }

@@ -1,16 +1,20 @@
-//! The effective list and the explanation of answers that were collected elsewhere.
-ghost use Rattle.std.specs.Prelude.{◌≡◌, List, ℕ, [], filter, map, IfOk, OnOk};
+//! The effective list, the explanation and a page of answers that were collected elsewhere.
+ghost use Rattle.std.specs.Prelude.{◌≡◌, List, ℕ, [], filter, map, take, IfOk, OnOk};
 ghost use Rattle.hwdb_spec.specs.Assignment.{assignment_cmp, in_order};
 ghost use Rattle.hwdb_spec.specs.Answers.{effective_of, is_wanted};
 ghost use Rattle.hwdb_spec.specs.Explanations.{explained};
-ghost use Rattle.hwdb_spec.specs.Tree.{IsTree, Tree, answers, members_under};
-ghost use Rattle.hwdb_query.specs.Internal.Collected.{LastCollects};
+ghost use Rattle.hwdb_spec.specs.Tree.{IsTree, Tree, answers, answers_after, members_under};
+ghost use Rattle.hwdb_query.specs.Internal.Collected.{LastCollects, PageCollects};
 ghost use Rattle.hwdb_query.specs.Internal.Explaining.{AllCollects};
-ghost use Rattle.hwdb_query.specs.Views.{assignment_of_answer, explained_values, pairs_bytes};
+ghost use Rattle.hwdb_query.specs.Views.{assignment_of_answer, assignments_of_hits, explained_values, given_position, pairs_bytes};
 
 use crate::all_hits::AllHits;
 use crate::answer::{Explained, StoredAssignment};
+use crate::hit::Hit;
+use crate::hit_page::HitPage;
 use crate::last_hits::LastHits;
+use crate::next_page::NextPage;
+use crate::position::Position;
 use std::alloc::{AllocError, Global};
 
 /// Takes some answers, one after another.
@@ -66,4 +70,46 @@ pub fn explained_among<'a>(
     let mut all = AllHits::new(alloc);
     take_each(&mut all, found)?;
     all.by_key(alloc)?.explained(alloc)
+}
+
+/// The same as [`take_all`], of a page.
+fn take_page<'a>(
+    alloc: Global,
+    page: &mut NextPage<'a, '_>,
+    found: &[StoredAssignment<'a>],
+) -> Result<(), AllocError>
+    ensures { OnOk result
+        (PageCollects page.old (map assignment_of_answer found.now) page.new) }
+{
+    for i in 0..found.len() {
+        page.take(alloc, &found[i])?;
+    }
+    Ok(())
+}
+
+/// The first `most` of the answers for a device after a position, in order: what a cursor yields first. The answers are all those of a
+/// database, in any order.
+///
+/// Holds at most `most` hits. The only error is `AllocError`.
+pub fn page_among<'a>(
+    alloc: Global,
+    found: &[StoredAssignment<'a>],
+    after: Option<&Position>,
+    most: usize,
+) -> Result<Vec<Hit<'a>>, AllocError>
+    ensures { IfOk result (λ hits. (device : List ℕ) (t : Tree)
+        → map assignment_of_answer found.now ≡ filter (is_wanted device) (members_under [] t)
+        → assignments_of_hits hits.items
+        ≡ take most (answers_after device (given_position after.entry) t)) }
+{
+    let after = match after {
+        None => None,
+        Some(position) => Some(position.parts()),
+    };
+    let mut page = NextPage {
+        after,
+        held: HitPage::new(alloc, most),
+    };
+    take_page(alloc, &mut page, found)?;
+    Ok(page.held.into_hits())
 }

@@ -5,12 +5,12 @@
 ghost use Rattle.std.specs.Prelude.{◌≡◌, ◌≢◌, ◌<◌, ◌≤◌, ◌+◌, ◌++◌, ℕ, List, [], ◌∷◌, length, take, drop, reverse, map, IfSome, IfOk, IsOk, OnOk, OnErr, Option, Some, None, true, false};
 ghost use Rattle.hwdb_spec.specs.Assignment.{Position, Assignment, position_cmp, assignment_cmp, put};
 ghost use Rattle.std.specs.List.Sorted.{IsStrictlySortedBy};
-ghost use Rattle.hwdb_query.specs.Internal.Hits.{parts_position, shown_at, placed, PlaceOf, IsLastOfFull, IsOf, IsFirst};
+ghost use Rattle.hwdb_query.specs.Internal.Hits.{parts_position, new_assignment, placed, PlaceOf, IsLastOfFull, IsOf, IsFirst};
 ghost use Rattle.hwdb_query.specs.Views.{assignment_of_hit, assignments_of_hits, Page, Gives};
 
 use crate::hit::{Hit, Parts, is_earlier, order};
 use crate::position::Position;
-use hwdb_reader::{Entry, Origin};
+use hwdb_reader::Origin;
 use std::alloc::{AllocError, Global};
 use std::cmp::Ordering;
 use std::marker::Model;
@@ -55,6 +55,17 @@ fn last_of_full<'h, 'a>(hits: &'h [Hit<'a>], most: usize) -> Option<&'h Hit<'a>>
         return None;
     }
     Some(&hits[count - 1])
+}
+
+/// A hit whose pattern isn't copied yet.
+#[derive(Clone, Copy)]
+pub(crate) struct NewHit<'a, 'p> {
+    pub priority: u16,
+    pub line: u32,
+    pub pattern: &'p [u8],
+    pub key: &'a [u8],
+    pub value: &'a [u8],
+    pub path: &'a [u8],
 }
 
 /// The hits that are held, never more than `most`.
@@ -137,38 +148,31 @@ impl<'a> HitPage<'a> {
     }
 
     /// Puts a hit in its place, and keeps the least of them. If it isn't kept, it takes no memory.
-    pub(crate) fn keep(
-        &mut self,
-        alloc: Global,
-        pattern: &[u8],
-        key: &'a [u8],
-        entry: Entry<'a>,
-    ) -> Result<(), AllocError>
+    pub(crate) fn keep(&mut self, alloc: Global, hit: NewHit<'a, '_>) -> Result<(), AllocError>
         ensures most { self.new.most ≡ self.old.most }
         ensures kept { OnOk result (IsStrictlySortedBy assignment_cmp self.old.hits → self.new.hits
-            ≡ take self.old.most
-            (put assignment_cmp (shown_at pattern.now key.now entry.entry) self.old.hits)) }
+            ≡ take self.old.most (put assignment_cmp (new_assignment hit.entry) self.old.hits)) }
         ensures free { IsStrictlySortedBy assignment_cmp self.old.hits → take self.old.most
-            (put assignment_cmp (shown_at pattern.now key.now entry.entry) self.old.hits)
+            (put assignment_cmp (new_assignment hit.entry) self.old.hits)
             ≡ self.old.hits → IsOk result }
     {
         let parts = Parts {
-            priority: entry.priority,
-            line: entry.line,
-            pattern,
-            key,
+            priority: hit.priority,
+            line: hit.line,
+            pattern: hit.pattern,
+            key: hit.key,
         };
         let Some(index) = self.place_for(parts) else {
             return Ok(());
         };
-        let pattern = pattern.to_vec(alloc)?;
+        let pattern = hit.pattern.to_vec(alloc)?;
         let hit = Hit {
-            priority: entry.priority,
-            line: entry.line,
+            priority: hit.priority,
+            line: hit.line,
             pattern,
-            key,
-            value: entry.value,
-            path: entry.path,
+            key: hit.key,
+            value: hit.value,
+            path: hit.path,
         };
         self.hits.truncate(self.most - 1);
         self.hits.insert(index, hit)?;
@@ -201,6 +205,14 @@ impl<'a> HitPage<'a> {
         let HitPage { hits, most } = other;
         self.hits = hits;
         self.most = most;
+    }
+
+    /// All hits that are held.
+    pub(crate) fn into_hits(self) -> Vec<Hit<'a>>
+        ensures { assignments_of_hits result.items ≡ self.entry.hits }
+    {
+        let HitPage { hits, .. } = self;
+        hits
     }
 
     /// Takes the last hit of the list.

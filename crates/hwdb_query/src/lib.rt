@@ -15,7 +15,7 @@
 //! | `hit_page` | the one list of hits of a cursor, never longer than its page |
 //! | `descent` | one descent of the tree along the live paths |
 //! | `long_path` | the path of a node, whose end isn't copied before something needs it |
-//! | `among` | the effective list of answers that were collected elsewhere |
+//! | `among` | the effective list, the explanation and a page of answers that were collected elsewhere |
 //! | `collector` | what takes the assignments of a descent: a page, the last hits, or all hits |
 //! | `next_page` | a page that is filled |
 //! | `refill` | one filling of a page: the least hits after a position |
@@ -52,7 +52,7 @@ mod refill;
 mod spelling;
 mod start;
 
-pub use among::{effective_among, explained_among};
+pub use among::{effective_among, explained_among, page_among};
 pub use answer::{Explained, StoredAssignment};
 pub use cursors::Cursor;
 pub use explanations::explain;

@@ -8,11 +8,13 @@ ghost use Rattle.hwdb_reader.specs.Views.{entered_tree, entry_shows};
 ghost use Rattle.hwdb_spec.specs.Assignment.{Assignment};
 ghost use Rattle.hwdb_spec.specs.Answers.{is_after};
 ghost use Rattle.hwdb_query.specs.Internal.Members.{own_members};
-ghost use Rattle.hwdb_query.specs.Internal.Hits.{parts_position, after_position, IsOf};
+ghost use Rattle.hwdb_query.specs.Internal.Hits.{parts_position, after_position, new_assignment, IsOf};
+ghost use Rattle.hwdb_query.specs.Views.{assignment_of_answer};
 
+use crate::answer::StoredAssignment;
 use crate::collector::Collector;
 use crate::hit::{Parts, is_earlier, order};
-use crate::hit_page::HitPage;
+use crate::hit_page::{HitPage, NewHit};
 use hwdb_reader::{Entry, Inside, Origin};
 use std::alloc::{AllocError, Global};
 use std::cmp::Ordering;
@@ -59,6 +61,22 @@ pub(crate) struct NextPage<'a, 'p> {
 impl<'a, 'p> NextPage<'a, 'p> {
     ghost use Rattle.hwdb_query.specs.Internal.Collected.{PageCollects};
 
+    /// Offers a hit.
+    fn offer_hit(&mut self, alloc: Global, hit: NewHit<'a, '_>) -> Result<(), AllocError>
+        ensures { OnOk result (PageCollects self.old (new_assignment hit.entry ∷ []) self.new) }
+    {
+        let parts = Parts {
+            priority: hit.priority,
+            line: hit.line,
+            pattern: hit.pattern,
+            key: hit.key,
+        };
+        if is_past(self.after, parts) {
+            self.held.keep(alloc, hit)?;
+        }
+        Ok(())
+    }
+
     /// Offers what one value assigns at a pattern.
     fn offer(&mut self, alloc: Global, pattern: &[u8], entry: Entry<'a>) -> Result<(), AllocError>
         ensures { OnOk result
@@ -68,16 +86,35 @@ impl<'a, 'p> NextPage<'a, 'p> {
         let Some(key) = entry.key else {
             return Ok(());
         };
-        let parts = Parts {
+        let hit = NewHit {
             priority: entry.priority,
             line: entry.line,
             pattern,
             key,
+            value: entry.value,
+            path: entry.path,
         };
-        if is_past(self.after, parts) {
-            self.held.keep(alloc, pattern, key, entry)?;
-        }
-        Ok(())
+        self.offer_hit(alloc, hit)
+    }
+
+    /// Offers an answer that was found elsewhere.
+    pub(crate) fn take(
+        &mut self,
+        alloc: Global,
+        found: &StoredAssignment<'a>,
+    ) -> Result<(), AllocError>
+        ensures { OnOk result
+            (PageCollects self.old (assignment_of_answer found.now ∷ []) self.new) }
+    {
+        let hit = NewHit {
+            priority: found.priority,
+            line: found.line,
+            pattern: &found.pattern,
+            key: found.key,
+            value: found.value,
+            path: found.path,
+        };
+        self.offer_hit(alloc, hit)
     }
 
     /// Whether no hit of an origin is kept: it comes before the position's, or after a full page.

@@ -46,6 +46,7 @@ use Rattle.hwdb_plan.specs.List.{hit_lines, listed}
 use Rattle.hwdb_plan.specs.Plans.{End, Ends, Follows, Next, Plan}
 use Rattle.hwdb_plan.specs.Plans.End.{Answers, Lines, Stops}
 use Rattle.hwdb_plan.specs.Plans.Plan.{Decode, Done, Input}
+use Rattle.hwdb_tool.specs.Listing.{EndsInLines}
 use Rattle.hwdb_tool.proofs.NamedInputLemmas.{name}
 
 -- ---- lines
@@ -104,6 +105,14 @@ module _ (w : Reads) (p : Next → Plan) (path bytes : List ℕ) (step : (next :
     lines_end : (after : Option (List ℕ)) (q : Option Position) (t : Tree) → IsFrom after q → IsDatabase bytes t → Ends w (p (Listing after)) (Lines (hit_lines json device limit q t))
     unfolding Ends
     lines_end after q t spelled is = from_it after q (Lines (hit_lines json device limit q t)) spelled (inl (t, is, refl))
+
+    -- the lines are a text
+    pub list_ends : (after : Option (List ℕ)) (text : List ℕ) → IsListFrom json device after limit bytes text → EndsInLines w (p (Listing after)) text
+    list_ends after text is = (
+      hit_lines json device limit is.from is.is.tree,
+      lines_end after is.from is.is.tree is.spelled is.is.database,
+      is.is.is ∙ sym (form_is device limit json is.from is.is.tree),
+    )
 
     module _ (input err before now : Told) where
       abbrev Shown : Option (List ℕ) → Result ℕ Refusal → Type 0
@@ -175,6 +184,17 @@ module _ (w : Reads) (p : Next → Plan) (path bytes : List ℕ) (step : (next :
       listed_stops (Some text) TooManyLines r refused is stops same cut lines = absurd refused
       listed_stops (Some text) TooLarge r refused is stops same cut lines = absurd refused
       listed_stops (Some text) (Replace u) r refused is stops same cut lines = absurd refused
+
+-- lines are printed as one text
+module _ (w : Reads) (p : Plan) (text : List ℕ) (ends : EndsInLines w p text) (input err before now : Told) where
+  pub text_shows : HasTaken text before now → ShowsEnd w p input input (outs err before) (outs err now) (Ok 0)
+  text_shows took = inl (Lines ends.0, ends.1, ((refl, subst (λ (x : List ℕ). HasTaken x before now) ends.2 took), refl))
+
+  -- standard output failed
+  pub text_stops : (r : Refusal) (result : Result ℕ Refusal) → IsErrAnd result (λ x. x ≡ r) → (r ≡ refusal.Plain Write) × WasCut text before now
+      → ShowsEnd w p input input (outs err before) (outs err now) result
+  text_stops r (Ok n) bad cut = absurd bad
+  text_stops r (Err x) same cut = inl (Lines ends.0, ends.1, (inl (same ∙ cut.0, subst (λ (t : List ℕ). WasCut t before now) ends.2 cut.1), refl))
 
 -- what is before the bytes isn't read
 pub unread_shows : (w : Reads) (p : Next → Plan) (next : Next) (input before : Told) (now : Outs) (r : Refusal) (result : Result ℕ Refusal)

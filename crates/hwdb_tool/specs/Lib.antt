@@ -4,6 +4,7 @@ pub mod Verbs
 pub mod Laws
 pub mod Internal
 pub mod Looking
+pub mod Listing
 pub mod CheckAsked
 pub mod Statuses
 pub mod TextPlans

@@ -1,41 +1,65 @@
 //! `list` and `ask`: the hits of the database, and what one text file gives.
-ghost use Rattle.std.specs.Prelude.{◌≡◌, false, option_map, IfOk, OnOk};
+ghost use Rattle.std.specs.Prelude.{◌≡◌, false, IfOk, OnOk};
 ghost use Rattle.hwdb_spec.specs.Flushing.{HandsOn};
 ghost use Rattle.hwdb_spec_commands.specs.Given.{is_dash};
 ghost use Rattle.hwdb_spec_commands.specs.Runs.{Told, told_by};
 ghost use Rattle.hwdb_plan.specs.Ask.{ask_plan};
 ghost use Rattle.hwdb_plan.specs.Ended.{ShowsEnd, outs};
 ghost use Rattle.hwdb_plan.specs.Input.{OverGiven};
-ghost use Rattle.hwdb_plan.specs.List.{list_plan};
 ghost use Rattle.hwdb_plan.specs.Plans.{Follows};
+ghost use Rattle.hwdb_tool.specs.Listing.{asked_list_plan};
 ghost use Rattle.hwdb_tool.specs.Views.{end_of};
 ghost use Rattle.hwdb_spec_commands.specs.declared.job.Task.TheVariants.{Ask, List as ListHits};
 
 use crate::answer::Answer;
 use crate::databases::{asked, refused_database};
 use crate::given::{is_dash, read};
+use crate::in_parts::list_in_parts;
+use crate::printing::say;
 use crate::verb::{StreamVerb, Verb, root_of, text_of};
-use hwdb_answers::{ask_texts, print_list};
+use hwdb_answers::{ListAsked, ask_texts, print_list};
 use hwdb_cli::{AskArgs, Job, ListArgs};
 use hwdb_io::{Sink, Source};
 use hwdb_system::{Machine, Refusal, System};
 use hwdb_writer::law_one_written_form;
 use std::alloc::Global;
 
-/// Prints the hits that the database below the root has for the device, each as it is found.
+/// Prints the hits that are asked for of the database below the root. If that can be read in parts, the lines are made before one is
+/// printed: those of at most 256 hits, and some 1 MiB. Else each is printed as it is found.
 pub fn list<D: System, O: Sink>(
     alloc: Global,
     root: &str,
-    device: &[u8],
-    after: Option<&str>,
-    limit: Option<u64>,
-    json: bool,
+    asked: ListAsked<'_>,
     system: &D,
     out: &mut O,
 ) -> Result<u8, Refusal>
     ensures status { IfOk result (λ status. status ≡ 0) }
     ensures follows { D.Store.tells → (input err : Told) → ShowsEnd (D.System.reads system.now)
-        (list_plan root.now json device.now (option_map (λ t. t.now) after.entry) limit)
+        (asked_list_plan root.now asked.entry)
+        input input (outs err (told_by O.taken O.failures out.old))
+        (outs err (told_by O.taken O.failures out.new)) result }
+    ensures unfailed { OnOk result (O.failures out.new ≡ O.failures out.old) }
+    ensures hands_on { HandsOn (O.is_flushed out.old) (O.is_flushed out.new)
+        (O.failures out.old) (O.failures out.new) }
+{
+    let Some(text) = list_in_parts(alloc, root, asked, system) else {
+        return list_whole(alloc, root, asked, system, out);
+    };
+    say(&text, out)?;
+    Ok(0)
+}
+
+/// The same of a database that is read as a whole.
+fn list_whole<D: System, O: Sink>(
+    alloc: Global,
+    root: &str,
+    listed: ListAsked<'_>,
+    system: &D,
+    out: &mut O,
+) -> Result<u8, Refusal>
+    ensures status { IfOk result (λ status. status ≡ 0) }
+    ensures follows { D.Store.tells → (input err : Told) → ShowsEnd (D.System.reads system.now)
+        (asked_list_plan root.now listed.entry)
         input input (outs err (told_by O.taken O.failures out.old))
         (outs err (told_by O.taken O.failures out.new)) result }
     ensures unfailed { OnOk result (O.failures out.new ≡ O.failures out.old) }
@@ -43,7 +67,7 @@ pub fn list<D: System, O: Sink>(
         (O.failures out.old) (O.failures out.new) }
 {
     let found = asked(alloc, root, system)?;
-    match print_list(alloc, &found.bytes, device, after, limit, json, out) {
+    match print_list(alloc, &found.bytes, listed, out) {
         Ok(()) => Ok(0),
         Err(error) => Err(refused_database(alloc, error, found.path.as_bytes())),
     }
@@ -101,8 +125,12 @@ impl<D: Machine, I: Source, O: Sink, E: Sink> StreamVerb<D, I, O, E> for ListArg
         out: &mut O,
         _err: &mut E,
     ) -> Result<u8, Refusal> {
-        let (device, after) = (self.device.as_bytes(), text_of(&self.after));
-        let (root, limit) = (root_of(job), self.limit);
-        list(alloc, root, device, after, limit, self.json, system, out)
+        let asked = ListAsked {
+            device: self.device.as_bytes(),
+            after: text_of(&self.after),
+            limit: self.limit,
+            json: self.json,
+        };
+        list(alloc, root_of(job), asked, system, out)
     }
 }

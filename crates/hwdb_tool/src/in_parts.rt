@@ -1,21 +1,21 @@
-//! `query` and `explain` of a database of which the strings alone are held. The file is checked while it is read. After that the few records
-//! are read that the devices need.
+//! `query`, `explain` and `list` of a database of which the strings alone are held. The file is checked while it is read. After that the few
+//! records are read that the devices need.
 //!
 //! The file is opened once, so that another one that takes its path meanwhile isn't read. None says nothing: the file isn't
 //! accepted, a call failed, there was no memory, or the file itself was changed meanwhile. Then the whole file is read, which
 //! tells the error if there is one.
 ghost use Rattle.std.specs.Prelude.{◌≡◌, ◌≤◌, ℕ, List, Some, Ok, length, map, string_bytes, IfSome};
-ghost use Rattle.hwdb_spec_commands.specs.Databases.{IsTextOf};
-ghost use Rattle.hwdb_spec_commands.specs.Streams.{texts_of};
+ghost use Rattle.hwdb_answers.specs.Asked.{IsWantedText};
 ghost use Rattle.hwdb_spec.specs.Texts.{max_file};
 ghost use Rattle.hwdb_plan.specs.Answers.{answer_plan};
 ghost use Rattle.hwdb_plan.specs.Plans.{Ends};
 ghost use Rattle.hwdb_tool.specs.Internal.{IsAskedAt};
+ghost use Rattle.hwdb_tool.specs.Listing.{EndsInLines, asked_list_plan};
 ghost use Rattle.hwdb_tool.specs.Views.{end_of};
 
 use crate::answer::Answer;
 use crate::hiding::database_path;
-use hwdb_answers::{Form, texts_of_kept};
+use hwdb_answers::{Form, ListAsked, Wanted, text_kept};
 use hwdb_io::MAX_BYTES;
 use hwdb_lookup::accepted;
 use hwdb_system::{OpenedFile, System};
@@ -46,39 +46,32 @@ fn asked_path<D: System>(alloc: Global, root: &str, system: &D) -> Option<String
     }
 }
 
-/// What is printed of the devices, if the file is accepted, and isn't changed until then.
-fn text_of_opened<F: OpenedFile>(
-    alloc: Global,
-    file: &F,
-    devices: &[String],
-    form: Form,
-) -> Option<Vec<u8>>
+/// What is printed, if the file is accepted, and isn't changed until then.
+fn text_of_opened<F: OpenedFile>(alloc: Global, file: &F, wanted: Wanted<'_>) -> Option<Vec<u8>>
     ensures { IfSome result (λ text. (bytes : List ℕ) → F.is_of file.now bytes
-        → (length bytes ≤ max_file)
-        × IsTextOf (texts_of form (map string_bytes devices.now)) bytes text.items) }
+        → (length bytes ≤ max_file) × IsWantedText wanted.entry bytes text.items) }
 {
     let kept = accepted(alloc, file, MAX_BYTES as usize)?;
-    let text = texts_of_kept(alloc, file, &kept, devices, form)?;
+    let text = text_kept(alloc, file, &kept, wanted)?;
     if !file.is_unchanged() {
         return None;
     }
     Some(text)
 }
 
-/// What is printed of the devices, if the file at the path can be opened, and is accepted.
+/// What is printed, if the file at the path can be opened, and is accepted.
 fn text_in_parts<D: System>(
     alloc: Global,
     path: &str,
-    devices: &[String],
-    form: Form,
+    wanted: Wanted<'_>,
     system: &D,
 ) -> Option<Vec<u8>>
     ensures { D.Store.tells → IfSome result (λ text. (bytes : List ℕ)
         × ((D.System.reads system.now).database path.now ≡ Ok (Some bytes))
-        × IsTextOf (texts_of form (map string_bytes devices.now)) bytes text.items) }
+        × IsWantedText wanted.entry bytes text.items) }
 {
     let file = system.open_database(alloc, path)?;
-    text_of_opened(alloc, &file, devices, form)
+    text_of_opened(alloc, &file, wanted)
 }
 
 /// What is printed of the devices, if it can be told without all of the database in memory.
@@ -97,6 +90,21 @@ pub fn answer_in_parts<D: System>(
         return None;
     }
     let path = asked_path(alloc, root, system)?;
-    let text = text_in_parts(alloc, path.as_str(), devices, form, system)?;
+    let wanted = Wanted::Devices { devices, form };
+    let text = text_in_parts(alloc, path.as_str(), wanted, system)?;
     Some(Answer::new(alloc, text, 0))
+}
+
+/// The lines of hits, if they can be told so.
+pub fn list_in_parts<D: System>(
+    alloc: Global,
+    root: &str,
+    asked: ListAsked<'_>,
+    system: &D,
+) -> Option<Vec<u8>>
+    ensures { D.Store.tells → IfSome result (λ text. EndsInLines (D.System.reads system.now)
+        (asked_list_plan root.now asked.entry) text.items) }
+{
+    let path = asked_path(alloc, root, system)?;
+    text_in_parts(alloc, path.as_str(), Wanted::Hits(asked), system)
 }

@@ -2,7 +2,7 @@
 use Rattle.std.specs.Prelude.{List, ℕ, Bool, drop, false, take, true, ◌++◌, ◌∷◌, ◌≡◌, get_or, length, suc, ◌≤◌, Option, option_map, None, Some, []}
 use Rattle.hwdb_query.specs.declared.hit.Parts.{Parts}
 use Rattle.hwdb_spec.specs.Assignment.{Position, Assignment, assignment_cmp, put}
-use Rattle.hwdb_reader.specs.declared.view.Entry.{Entry}
+use Rattle.hwdb_query.specs.declared.hit_page.NewHit.{NewHit}
 use Rattle.hwdb_query.specs.declared.hit_page.Slot.{Slot}
 use Rattle.hwdb_query.specs.declared.hit.Hit.{Hit}
 use Rattle.hwdb_reader.specs.declared.view.Origin.{Origin}
@@ -12,12 +12,12 @@ use Rattle.hwdb_query.specs.Views.{position_value}
 abbrev pub parts_position : Parts → Position
 parts_position p = record { priority = p.priority; line = p.line; pattern = p.pattern.now; key = p.key.now }
 
--- the hit that an entry gives at a pattern
-abbrev pub shown_at : List ℕ → List ℕ → Entry → Assignment
-shown_at pattern key e = record {
-  position = record { priority = e.priority; line = e.line; pattern = pattern; key = key };
-  value = e.value.now;
-  path = e.path.now;
+-- a hit whose pattern isn't copied yet
+abbrev pub new_assignment : NewHit → Assignment
+new_assignment h = record {
+  position = record { priority = h.priority; line = h.line; pattern = h.pattern.now; key = h.key.now };
+  value = h.value.now;
+  path = h.path.now;
 }
 
 -- the place of a member in an ascending list

@@ -2,17 +2,17 @@ use Rattle.std.proofs.Common.{ap, sym, subst, ◌∙◌, ◌≡◌, take, length
 use Rattle.hwdb_spec.specs.Assignment.{assignment_cmp, put}
 use Rattle.std.specs.List.Sorted.{IsStrictlySortedBy}
 use Rattle.hwdb_query.specs.Views.{Page, assignments_of_hits}
-use Rattle.hwdb_query.specs.Internal.Hits.{shown_at, placed}
+use Rattle.hwdb_query.specs.Internal.Hits.{new_assignment, placed}
 use Rattle.hwdb_query.proofs.NewHitLemmas.{not_kept}
 use Rattle.hwdb_query.proofs.PlaceLemmas.{kept_here, founds_length}
 use Rattle.hwdb_query.proofs.hit_page.HitPage.keep.Goals as goal
 
 pub returns-in_default-clause-kept : goal.returns-in_default-clause-kept
-returns-in_default-clause-kept c = λ up. sym (c.place_for.ensures.none c.in_default.is up (shown_at c.args.pattern.now c.args.key.now c.args.entry) refl)
+returns-in_default-clause-kept c = λ up. sym (c.place_for.ensures.none c.in_default.is up (new_assignment c.args.hit) refl)
 
 pub returns-clause-kept : goal.returns-clause-kept
 returns-clause-kept c = λ up.
-    let x = shown_at c.args.pattern.now c.args.key.now c.args.entry in
+    let x = new_assignment c.args.hit in
     let o = c.args.self.now.hits in
     let i = c.in-Some.index in
     let old : assignments_of_hits c.self.inside.hits.items ≡ o = ap (λ (p : Page). p.hits) c.self.view_is in
@@ -27,7 +27,7 @@ returns-clause-kept c = λ up.
 -- what isn't kept takes no memory
 pub returns-in_err-pattern-clause-free : goal.returns-in_err-pattern-clause-free
 returns-in_err-pattern-clause-free c = λ up stays.
-    let x = shown_at c.args.pattern.now c.args.key.now c.args.entry in
+    let x = new_assignment c.args.hit in
     let hits = c.self.inside.hits.items in
     let old : assignments_of_hits hits ≡ c.args.self.now.hits = ap (λ (p : Page). p.hits) c.self.view_is in
     let within = c.in-Some.ensures.within in
@@ -38,7 +38,7 @@ returns-in_err-pattern-clause-free c = λ up stays.
 
 pub returns-in_err-insert-clause-free : goal.returns-in_err-insert-clause-free
 returns-in_err-insert-clause-free c = λ up stays.
-    let x = shown_at c.args.pattern.now c.args.key.now c.args.entry in
+    let x = new_assignment c.args.hit in
     let hits = c.self.inside.hits.items in
     let old : assignments_of_hits hits ≡ c.args.self.now.hits = ap (λ (p : Page). p.hits) c.self.view_is in
     let within = c.in-Some.ensures.within in

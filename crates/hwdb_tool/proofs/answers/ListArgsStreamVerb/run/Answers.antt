@@ -24,9 +24,9 @@ returns-clause-follows g c = λ tells words asked.
     let args = c.args.self.now in
     let root = root_of c.args.job.now in
     let result = c.list.result in
-    let after = option_map (λ t. t.now) c.text_of-after.result in
+    let after = option_map (λ t. t.now) c.text_of.result in
     of_words sight input left (λ p. ShowsEnd w p input left before now result) words c.args.job.now asked
     (λ word rows is. list_planned w sight input left before now result root c.args.job.now.strict word rows args (subst (λ t. IsTask word rows t) c.requires is)
-    (subst (λ (f : Option (List ℕ)). ShowsEnd w (list_plan root args.json (string_bytes args.device) f args.limit) input input before now result) c.text_of-after.ensures
-    (subst (λ (d : List ℕ). ShowsEnd w (list_plan root args.json d after args.limit) input input before now result) c.as_bytes-device.ensures.value
-    (subst (λ (r : List ℕ). ShowsEnd w (list_plan r args.json c.as_bytes-device.result.now after args.limit) input input before now result) c.root_of-root.ensures (c.list.ensures.follows tells input (E c.args._err.now))))))
+    (subst (λ (f : Option (List ℕ)). ShowsEnd w (list_plan root args.json (string_bytes args.device) f args.limit) input input before now result) c.text_of.ensures
+    (subst (λ (d : List ℕ). ShowsEnd w (list_plan root args.json d after args.limit) input input before now result) c.as_bytes.ensures.value
+    (subst (λ (r : List ℕ). ShowsEnd w (list_plan r args.json c.as_bytes.result.now after args.limit) input input before now result) c.root_of.ensures (c.list.ensures.follows tells input (E c.args._err.now))))))
