@@ -15,6 +15,7 @@ use crate::baselines::new_findings;
 use crate::findings::{Found, push_found};
 use crate::kinds::Telling;
 use crate::left::left_of;
+use crate::line_faults::FileLine;
 use crate::line_texts::{find_line, first_start};
 use crate::logs::log_of;
 use crate::reports::push_fault;
@@ -101,7 +102,12 @@ pub fn reports_of(
     for fault in faults {
         let (found, line) = find_line(bytes, start, fault.line);
         start = found;
-        push_fault(alloc, format, &mut text, path, line, *fault)?;
+        let line = FileLine {
+            path,
+            number: fault.line as u64,
+            text: line,
+        };
+        push_fault(alloc, format, &mut text, &line, *fault)?;
     }
     Ok(text)
 }

@@ -14,14 +14,14 @@ ghost use Rattle.hwdb_check.specs.Leaving.{file_line, names_of};
 use crate::allowed::{after_line, allowed_text, any_allowed, is_kind, record_kinds, stripped};
 use crate::findings::{Finding, Found, put_found};
 use crate::kinds::{Manner, Telling};
-use crate::known::{Known, known_of};
+use crate::known::known_of;
 use crate::line_faults::{FileLine, first_next, put_line_faults};
-use crate::warnings::{Warned, warnings_of};
+use crate::warnings::{Basis, Warned, warnings_of};
 use hwdb_properties::{Likeness, first_row};
 use hwdb_show::push_shown;
 use hwdb_spec::Fault;
 use hwdb_spec_commands::{Format, KINDS};
-use hwdb_text::{Given, Lines, Pieces, Scanned, end_of};
+use hwdb_text::{Lines, Pieces, Scanned, end_of};
 use std::alloc::{AllocError, Global};
 
 /// Adds what is told of a name that is no kind of warning. The only error, here and below, is `AllocError`.
@@ -145,19 +145,18 @@ fn put_names(alloc: Global, found: &mut Vec<Found>, line: &FileLine<'_>) -> Resu
 fn put_left(
     alloc: Global,
     warned: &mut Warned,
-    manner: &Manner<'_>,
-    known: &Known<'_>,
+    basis: Basis<'_, '_, '_>,
     line: &FileLine<'_>,
 ) -> Result<(), AllocError>
-    requires { IsKnown known.now }
+    requires { IsKnown basis.known.now }
     ensures { OnOk result (finds warned.new.found.items ≡ finds warned.old.found.items
         ++ (flat_map (one_unknown line.now.path.now (file_line line.now))
         (unknown_names line.now.text.now)
-        ++ found_warnings manner.now.format (names_of manner.now) line.now.path.now
-        known.now.bytes.now (file_line line.now))) }
+        ++ found_warnings basis.entry.manner.now.format (names_of basis.entry.manner.now)
+        line.now.path.now basis.entry.known.now.bytes.now (file_line line.now))) }
 {
     put_names(alloc, &mut warned.found, line)?;
-    warned.put_line(alloc, manner, line.path, known, line.number, line.text)
+    warned.put_line(alloc, basis, line)
 }
 
 /// As `left_of`, of a file in which comments let kinds pass. The findings of a line begin with its faults.
@@ -166,15 +165,16 @@ fn left_by_line(
     manner: &Manner<'_>,
     path: &[u8],
     bytes: &[u8],
-    assignments: &[Given<'_>],
-    faults: &[Fault],
+    scanned: &Scanned<'_>,
 ) -> Result<Warned, AllocError>
-    requires assignments { map (given_in own) assignments.now ≡ Records.assignments own bytes.now }
-    requires faults { faults.now ≡ Records.faults bytes.now }
+    requires assignments { map (given_in own) scanned.now.assignments.items
+        ≡ Records.assignments own bytes.now }
+    requires faults { scanned.now.faults.items ≡ Records.faults bytes.now }
     ensures { IfOk result (λ w. finds w.found.items
         ≡ file_findings manner.now.format (texts manner.now.allowed.now) path.now bytes.now) }
 {
-    let known = known_of(alloc, bytes, assignments)?;
+    let faults: &[Fault] = &scanned.faults;
+    let known = known_of(alloc, bytes, &scanned.assignments)?;
     let mut left = Warned {
         found: Vec::new(alloc),
     };
@@ -188,8 +188,12 @@ fn left_by_line(
             format: manner.format,
             allowed: &kinds,
         };
+        let basis = Basis {
+            manner: &here,
+            known: &known,
+        };
         next = put_line_faults(alloc, &mut left.found, &line, faults, next)?;
-        put_left(alloc, &mut left, &here, &known, &line)?;
+        put_left(alloc, &mut left, basis, &line)?;
         kinds = after_line(alloc, manner.allowed, kinds, text, lines)?;
         number += 1;
     }
@@ -222,23 +226,9 @@ fn left_if(
         ≡ file_findings manner.now.format (texts manner.now.allowed.now) path.now bytes.now) }
 {
     if any_allowed(bytes) {
-        return left_by_line(
-            alloc,
-            manner,
-            path,
-            bytes,
-            &scanned.assignments,
-            &scanned.faults,
-        );
+        return left_by_line(alloc, manner, path, bytes, scanned);
     }
-    warnings_of(
-        alloc,
-        manner,
-        path,
-        bytes,
-        &scanned.assignments,
-        &scanned.faults,
-    )
+    warnings_of(alloc, manner, path, bytes, scanned)
 }
 
 /// The findings of a file of which this was scanned.

@@ -53,7 +53,7 @@ pub fn put_line_faults(
         if fault.line as u64 != line.number {
             return Ok(next);
         }
-        put_fault(alloc, found, line.path, line.text, fault)?;
+        put_fault(alloc, found, line, fault)?;
         next += 1;
     }
     Ok(next)

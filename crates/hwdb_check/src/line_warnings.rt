@@ -21,6 +21,8 @@ use hwdb_text::{LONGEST_MATCH, end_of, indent_of};
 /// A line that is read.
 #[derive(Clone, Copy)]
 pub struct Read<'a> {
+    /// The path that is printed for its file.
+    pub path: &'a [u8],
     /// What its file holds.
     pub bytes: &'a [u8],
     /// Its number, from 1.

@@ -6,6 +6,7 @@ ghost use Rattle.hwdb_spec_commands.specs.Reports.{fault_hint};
 
 use crate::findings::{Finding, Found, push_finding, put_found};
 use crate::kinds::fault_name;
+use crate::line_faults::FileLine;
 use crate::places::fault_place;
 use hwdb_spec::{Fault, FaultKind};
 use hwdb_spec_commands::Format;
@@ -31,56 +32,54 @@ fn hint_of(kind: FaultKind) -> &'static str
     }
 }
 
-/// Adds a fault of a line with this text to what is found. The only error, here and below, is `AllocError`.
+/// Adds a fault of a line to what is found. The only error, here and below, is `AllocError`.
 #[tactic(auto, unfolding(hwdb_spec_commands::specs::Findings::one_fault))]
-pub fn put_fault<'a>(
+pub fn put_fault(
     alloc: Global,
     found: &mut Vec<Found>,
-    path: &'a [u8],
-    line: &'a [u8],
+    line: &FileLine<'_>,
     fault: Fault,
 ) -> Result<(), AllocError>
-    ensures { OnOk result
-        (finds found.new.items ≡ finds found.old.items ++ one_fault path.now line.now fault) }
+    ensures { OnOk result (finds found.new.items
+        ≡ finds found.old.items ++ one_fault line.now.path.now line.now.text.now fault) }
 {
     let fix = None;
     let told = Finding {
-        path,
+        path: line.path,
         line: fault.line as u64,
-        place: fault_place(fault.kind, line),
+        place: fault_place(fault.kind, line.text),
         fault: true,
         kind: fault_name(fault.kind),
         text: fault.kind.text().as_bytes(),
         hint: hint_of(fault.kind).as_bytes(),
-        source: line,
+        source: line.text,
         fix: &fix,
     };
     put_found(alloc, found, &told)
 }
 
-/// Adds what is printed of a fault of a line with this text.
+/// Adds what is printed of a fault of a line.
 #[tactic(auto, unfolding(hwdb_spec_commands::specs::Findings::told_fault))]
-pub fn push_fault<'a>(
+pub fn push_fault(
     alloc: Global,
     format: Format,
     text: &mut Vec<u8>,
-    path: &'a [u8],
-    line: &'a [u8],
+    line: &FileLine<'_>,
     fault: Fault,
 ) -> Result<(), AllocError>
-    ensures { OnOk result
-        (text.new.items ≡ text.old.items ++ told_fault format path.now line.now fault) }
+    ensures { OnOk result (text.new.items
+        ≡ text.old.items ++ told_fault format line.now.path.now line.now.text.now fault) }
 {
     let fix = None;
     let found = Finding {
-        path,
+        path: line.path,
         line: fault.line as u64,
-        place: fault_place(fault.kind, line),
+        place: fault_place(fault.kind, line.text),
         fault: true,
         kind: fault_name(fault.kind),
         text: fault.kind.text().as_bytes(),
         hint: hint_of(fault.kind).as_bytes(),
-        source: line,
+        source: line.text,
         fix: &fix,
     };
     push_finding(alloc, format, text, &found)

@@ -8,7 +8,7 @@ ghost use Rattle.hwdb_spec_commands.specs.Kinds.{warning_name};
 ghost use Rattle.hwdb_spec_commands.specs.Warnings.{all_warnings, gets, line_kinds, warning_text, warning_place, warning_hint, warning_line};
 ghost use Rattle.hwdb_text.specs.Views.{given_in};
 ghost use Rattle.hwdb_check.specs.Internal.{IsKnown, IsPlain, IsRead, clean_of, line_of, number_text, own, read_line, texts};
-ghost use Rattle.hwdb_check.specs.Leaving.{names_of};
+ghost use Rattle.hwdb_check.specs.Leaving.{file_line, names_of};
 ghost use Rattle.hwdb_spec_commands.specs.AllowedKinds.{names_in};
 ghost use Rattle.hwdb_check.specs.Plain.{IsPlainFile, IsQuiet, IsTame, plain_findings};
 ghost use Rattle.hwdb_check.specs.Found.{finds};
@@ -35,7 +35,7 @@ use hwdb_properties::misuse_text;
 use hwdb_show::push_name;
 use hwdb_spec::Fault;
 use hwdb_spec_commands::{Format, Misuse, WarningKind};
-use hwdb_text::{Content, Given, Lines, content_of, end_of, indent_of};
+use hwdb_text::{Content, Lines, Scanned, content_of, end_of, indent_of};
 use itoa::Buffer;
 use std::alloc::{AllocError, Global};
 
@@ -204,13 +204,12 @@ fn put_told<'a>(
     alloc: Global,
     format: Format,
     found: &mut Vec<Found>,
-    path: &'a [u8],
     line: &Read<'a>,
     kind: WarningKind,
 ) -> Result<(), AllocError>
     requires { IsRead line.now }
-    ensures { OnOk result (finds found.new.items
-        ≡ finds found.old.items ++ one_warning format path.now (read_line line.now) kind) }
+    ensures { OnOk result (finds found.new.items ≡ finds found.old.items
+        ++ one_warning format line.now.path.now (read_line line.now) kind) }
 {
     let words = words_of(alloc, kind)?;
     let mut hint = Vec::new(alloc);
@@ -218,7 +217,7 @@ fn put_told<'a>(
     push_hint(alloc, &mut hint, kind, line.clean, &mend)?;
     let fix = fix_for(alloc, format, kind, line, mend)?;
     let warning = Finding {
-        path,
+        path: line.path,
         line: line.number,
         place: warning_place(kind, line.text, line.clean),
         fault: false,
@@ -240,6 +239,15 @@ fn gets(allowed: &[&[u8]], line: &Read<'_>, kind: WarningKind) -> bool
     is_told(allowed, kind) && is_warned(kind, line)
 }
 
+/// What the warnings of a file depend on besides the line that they are of.
+#[derive(Clone, Copy)]
+pub struct Basis<'b, 'a, 'k> {
+    /// How they are told.
+    pub manner: &'b Manner<'a>,
+    /// What is known of the file.
+    pub known: &'b Known<'k>,
+}
+
 /// What was found in the lines so far.
 #[derive(Drop)]
 pub struct Warned {
@@ -253,18 +261,17 @@ impl Warned {
         &mut self,
         alloc: Global,
         telling: &Manner<'_>,
-        path: &[u8],
         line: &Read<'_>,
         kind: WarningKind,
     ) -> Result<(), AllocError>
         requires { IsRead line.now }
         ensures { OnOk result (finds self.new.found.items ≡ finds self.old.found.items
-            ++ flat_map (one_warning telling.now.format path.now (read_line line.now))
+            ++ flat_map (one_warning telling.now.format line.now.path.now (read_line line.now))
             (filter (gets (names_of telling.now) line.now.bytes.now
             (read_line line.now) (clean_of line.now)) (kind ∷ []))) }
     {
         if gets(telling.allowed, line, kind) {
-            put_told(alloc, telling.format, &mut self.found, path, line, kind)?;
+            put_told(alloc, telling.format, &mut self.found, line, kind)?;
         }
         Ok(())
     }
@@ -274,12 +281,11 @@ impl Warned {
         &mut self,
         alloc: Global,
         telling: &Manner<'_>,
-        path: &[u8],
         line: &Read<'_>,
     ) -> Result<(), AllocError>
         requires { IsRead line.now }
         ensures { OnOk result (finds self.new.found.items ≡ finds self.old.found.items
-            ++ flat_map (one_warning telling.now.format path.now (read_line line.now))
+            ++ flat_map (one_warning telling.now.format line.now.path.now (read_line line.now))
             (all_warnings (names_of telling.now) line.now.bytes.now
             (read_line line.now) (clean_of line.now))) }
     {
@@ -288,7 +294,7 @@ impl Warned {
         }
         let kinds = kinds_of(line);
         for kind in &kinds {
-            self.put_if(alloc, telling, path, line, *kind)?;
+            self.put_if(alloc, telling, line, *kind)?;
         }
         Ok(())
     }
@@ -297,25 +303,26 @@ impl Warned {
     fn put_kept(
         &mut self,
         alloc: Global,
-        telling: &Manner<'_>,
-        path: &[u8],
-        known: &Known<'_>,
-        number: u64,
-        text: &[u8],
+        basis: Basis<'_, '_, '_>,
+        line: &FileLine<'_>,
         clean: &[u8],
     ) -> Result<(), AllocError>
-        requires known { IsKnown known.now }
-        requires clean { clean.now ≡ (clean_line (line_of number text.now)).text }
+        requires known { IsKnown basis.known.now }
+        requires clean { clean.now ≡ (clean_line (file_line line.now)).text }
         ensures { OnOk result (finds self.new.found.items ≡ finds self.old.found.items
-            ++ flat_map (one_warning telling.now.format path.now (line_of number text.now))
-            (all_warnings (names_of telling.now) known.now.bytes.now
-            (line_of number text.now) (clean_line (line_of number text.now)))) }
+            ++ flat_map
+            (one_warning basis.entry.manner.now.format line.now.path.now (file_line line.now))
+            (all_warnings (names_of basis.entry.manner.now) basis.entry.known.now.bytes.now
+            (file_line line.now) (clean_line (file_line line.now)))) }
     {
         let said = said_of(alloc, clean)?;
-        let line = Read {
+        let known = basis.known;
+        let number = line.number;
+        let read = Read {
+            path: line.path,
             bytes: known.bytes,
             number,
-            text,
+            text: line.text,
             clean,
             repeated: known.repeated.contains(&number),
             replaced_by: known.replaced.get(&number).copied().unwrap_or(0),
@@ -325,7 +332,7 @@ impl Warned {
             judgement: said.judgement,
             likelihood: said.likelihood,
         };
-        self.put_all(alloc, telling, path, &line)
+        self.put_all(alloc, basis.manner, &read)
     }
 
     /// Adds the warnings of a line of a file.
@@ -333,23 +340,20 @@ impl Warned {
     pub fn put_line(
         &mut self,
         alloc: Global,
-        telling: &Manner<'_>,
-        path: &[u8],
-        known: &Known<'_>,
-        number: u64,
-        text: &[u8],
+        basis: Basis<'_, '_, '_>,
+        line: &FileLine<'_>,
     ) -> Result<(), AllocError>
-        requires { IsKnown known.now }
+        requires { IsKnown basis.known.now }
         ensures { OnOk result (finds self.new.found.items ≡ finds self.old.found.items
-            ++ found_warnings telling.now.format (names_of telling.now) path.now
-            known.now.bytes.now (line_of number text.now)) }
+            ++ found_warnings basis.entry.manner.now.format (names_of basis.entry.manner.now)
+            line.now.path.now basis.entry.known.now.bytes.now (file_line line.now)) }
     {
-        match content_of(text) {
+        match content_of(line.text) {
             Content::Comment => Ok(()),
             Content::ZeroByte => Ok(()),
-            Content::Empty => self.put_kept(alloc, telling, path, known, number, text, &[]),
+            Content::Empty => self.put_kept(alloc, basis, line, &[]),
             Content::Property(clean) | Content::Match(clean) => {
-                self.put_kept(alloc, telling, path, known, number, text, clean)
+                self.put_kept(alloc, basis, line, clean)
             }
         }
     }
@@ -358,24 +362,21 @@ impl Warned {
     fn put_tame(
         &mut self,
         alloc: Global,
-        telling: &Manner<'_>,
-        path: &[u8],
-        known: &Known<'_>,
-        number: u64,
-        text: &[u8],
+        basis: Basis<'_, '_, '_>,
+        line: &FileLine<'_>,
         tame: usize,
     ) -> Result<(), AllocError>
-        requires known { IsKnown known.now }
-        requires quiet { IsQuiet known.now.bytes.now (line_of number text.now) }
-        requires tame { IsTame 10 (take tame text.now) }
+        requires known { IsKnown basis.known.now }
+        requires quiet { IsQuiet basis.known.now.bytes.now (file_line line.now) }
+        requires tame { IsTame 10 (take tame line.now.text.now) }
         ensures { OnOk result (finds self.new.found.items ≡ finds self.old.found.items
-            ++ found_warnings telling.now.format (names_of telling.now) path.now
-            known.now.bytes.now (line_of number text.now)) }
+            ++ found_warnings basis.entry.manner.now.format (names_of basis.entry.manner.now)
+            line.now.path.now basis.entry.known.now.bytes.now (file_line line.now)) }
     {
-        if text.len() <= tame {
+        if line.text.len() <= tame {
             return Ok(());
         }
-        self.put_line(alloc, telling, path, known, number, text)
+        self.put_line(alloc, basis, line)
     }
 }
 
@@ -386,16 +387,21 @@ fn warnings_by_line(
     telling: &Manner<'_>,
     path: &[u8],
     bytes: &[u8],
-    assignments: &[Given<'_>],
-    faults: &[Fault],
+    scanned: &Scanned<'_>,
 ) -> Result<Warned, AllocError>
-    requires assignments { map (given_in own) assignments.now ≡ Records.assignments own bytes.now }
-    requires faults { faults.now ≡ Records.faults bytes.now }
+    requires assignments { map (given_in own) scanned.now.assignments.items
+        ≡ Records.assignments own bytes.now }
+    requires faults { scanned.now.faults.items ≡ Records.faults bytes.now }
     ensures { IfOk result (λ w. finds w.found.items
         ≡ bare_findings telling.now.format (names_of telling.now)
         path.now bytes.now) }
 {
-    let known = known_of(alloc, bytes, assignments)?;
+    let faults: &[Fault] = &scanned.faults;
+    let known = known_of(alloc, bytes, &scanned.assignments)?;
+    let basis = Basis {
+        manner: telling,
+        known: &known,
+    };
     let mut warned = Warned {
         found: Vec::new(alloc),
     };
@@ -404,7 +410,7 @@ fn warnings_by_line(
     for text in Lines::new(bytes) {
         let line = FileLine { path, number, text };
         next = put_line_faults(alloc, &mut warned.found, &line, faults, next)?;
-        warned.put_line(alloc, telling, path, &known, number, text)?;
+        warned.put_line(alloc, basis, &line)?;
         number += 1;
     }
     Ok(warned)
@@ -424,6 +430,10 @@ fn cut_warnings(
         path.now bytes.now) }
 {
     let known = nothing_known(alloc, bytes);
+    let basis = Basis {
+        manner: telling,
+        known: &known,
+    };
     let mut warned = Warned {
         found: Vec::new(alloc),
     };
@@ -436,7 +446,9 @@ fn cut_warnings(
             return Ok(warned);
         }
         let end = end_of(b'\n', rest);
-        warned.put_tame(alloc, telling, path, &known, number, &rest[..end], tame)?;
+        let text = &rest[..end];
+        let line = FileLine { path, number, text };
+        warned.put_tame(alloc, basis, &line, tame)?;
         tame = tame_after(rest, end, tame);
         at = at + end + 1;
         number += 1;
@@ -444,23 +456,23 @@ fn cut_warnings(
     Ok(warned)
 }
 
-/// The findings of a file with these assignments and these faults, line by line.
+/// The findings of a file of which this was scanned, line by line.
 pub fn warnings_of(
     alloc: Global,
     telling: &Manner<'_>,
     path: &[u8],
     bytes: &[u8],
-    assignments: &[Given<'_>],
-    faults: &[Fault],
+    scanned: &Scanned<'_>,
 ) -> Result<Warned, AllocError>
-    requires assignments { map (given_in own) assignments.now ≡ Records.assignments own bytes.now }
-    requires faults { faults.now ≡ Records.faults bytes.now }
+    requires assignments { map (given_in own) scanned.now.assignments.items
+        ≡ Records.assignments own bytes.now }
+    requires faults { scanned.now.faults.items ≡ Records.faults bytes.now }
     ensures { IfOk result (λ w. finds w.found.items
         ≡ bare_findings telling.now.format (names_of telling.now)
         path.now bytes.now) }
 {
-    if is_plain(alloc, bytes, assignments, faults)? {
+    if is_plain(alloc, bytes, &scanned.assignments, &scanned.faults)? {
         return cut_warnings(alloc, telling, path, bytes);
     }
-    warnings_by_line(alloc, telling, path, bytes, assignments, faults)
+    warnings_by_line(alloc, telling, path, bytes, scanned)
 }

@@ -32,7 +32,7 @@ use crate::reviewing::counting_changes;
 use crate::sampling::sampled_between;
 use crate::tables::{push_device_table, push_tables};
 use crate::undecided::{undecided_json, undecided_text};
-use crate::unmet::{left_json, left_text, push_lines, unmet_changes};
+use crate::unmet::{Unmet, left_json, left_text, push_lines, unmet_changes};
 use hwdb_reader::{Db, check, law_ascending, law_one_tree};
 use hwdb_spec::DiffError;
 use hwdb_spec_commands::{Layout, ReviewArgs};
@@ -240,22 +240,21 @@ fn with_unmet(
     alloc: Global,
     review: &ReviewArgs,
     told: Told,
-    all: usize,
-    devices: usize,
-    left: &[Pair<'_, '_>],
+    unmet: Unmet<'_, '_, '_>,
 ) -> Result<Changes, AllocError>
     ensures text { IfOk result (λ changes. changes.text.items ≡ told.text.items
-        ++ left_end (review_in review.now) all (map change_shown left.now)) }
-    ensures said { IfOk result (λ changes. changes.said.items
-        ≡ left_said (review_in review.now) all devices (map change_shown left.now)) }
+        ++ left_end (review_in review.now) unmet.entry.all
+        (map change_shown unmet.entry.left.now)) }
+    ensures said { IfOk result (λ changes. changes.said.items ≡ left_said (review_in review.now)
+        unmet.entry.all unmet.entry.devices (map change_shown unmet.entry.left.now)) }
     ensures differ { IfOk result (λ changes. changes.differ ≡ told.differ) }
 {
     let Told { mut text, differ } = told;
     let mut said = Vec::new(alloc);
     if review.json {
-        text.extend_from_slice(&left_json(alloc, review.verbose, all, left)?)?;
+        text.extend_from_slice(&left_json(alloc, review.verbose, unmet.all, unmet.left)?)?;
     } else {
-        said = left_text(alloc, review.verbose, all, devices, left)?;
+        said = left_text(alloc, review.verbose, unmet)?;
     }
     Ok(Changes { text, said, differ })
 }
@@ -279,7 +278,12 @@ fn compared_for(
 {
     let told = told_of_devices(alloc, review, sides, devices)?;
     let left = unmet_changes(alloc, changes, sides, devices)?;
-    with_unmet(alloc, review, told, changes.len(), devices.len(), &left)
+    let unmet = Unmet {
+        all: changes.len(),
+        devices: devices.len(),
+        left: &left,
+    };
+    with_unmet(alloc, review, told, unmet)
 }
 
 /// What changed of assignments.

@@ -20,7 +20,7 @@ use crate::abreast::Abreast;
 use crate::alike::are_alike;
 use crate::amounts::{Amount, amount_of};
 use crate::inventory::Inventory;
-use crate::meeting::{Side, is_change, least, pass_over, tell};
+use crate::meeting::{Side, Walks, is_change, least, pass_over, tell};
 use crate::members::Members;
 use crate::texts::is_same;
 use hwdb_reader::{Db, Node, Twins, check, law_ascending, reopen};
@@ -67,24 +67,22 @@ impl ChangeCount {
     fn count<'a, 'b>(
         &mut self,
         alloc: Global,
-        twins: &Twins<'_, '_>,
-        old: &Members<'a>,
-        new: &Members<'b>,
+        walks: Walks<'_, 'a, 'b>,
         side: Side<'a, 'b>,
     ) -> Result<(), AllocError>
         requires few { self.old.changes + 1 < 2 ^ 64 }
-        requires files { AreFrom (old_file twins.now) (new_file twins.now) side }
-        ensures changes { OnOk result
-            (self.new.changes ≡ self.old.changes + length (changes_at old.now new.now side.entry)) }
-        ensures first { OnOk result (self.new.first.items
-            ≡ first_kept self.old.first.items (changes_at old.now new.now side.entry)) }
+        requires files { AreFrom (old_file walks.twins.now) (new_file walks.twins.now) side }
+        ensures changes { OnOk result (self.new.changes ≡ self.old.changes
+            + length (changes_at walks.entry.old.now walks.entry.new.now side.entry)) }
+        ensures first { OnOk result (self.new.first.items ≡ first_kept self.old.first.items
+            (changes_at walks.entry.old.now walks.entry.new.now side.entry)) }
     {
-        if !is_change(twins, side) {
+        if !is_change(walks.twins, side) {
             return Ok(());
         }
         self.changes += 1;
         if self.first.is_empty() {
-            tell(alloc, twins, &mut self.first, old, new, side)?;
+            tell(alloc, walks, &mut self.first, side)?;
         }
         Ok(())
     }
@@ -131,7 +129,12 @@ fn walked(alloc: Global, size: usize, old: Node<'_>, new: Node<'_>) -> Result<St
         first: Vec::new(alloc),
     };
     'pairs: while let Some(side) = least(&twins, abreast.order, &before, &after) {
-        tally.count(alloc, &twins, &before, &after, side)?;
+        let walks = Walks {
+            twins: &twins,
+            old: &before,
+            new: &after,
+        };
+        tally.count(alloc, walks, side)?;
         count_old(&mut held, side)?;
         pass_over(side, &mut before, &mut after)?;
         abreast.meet(&twins, &before.walk.trail, &after.walk.trail)?;

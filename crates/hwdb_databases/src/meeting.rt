@@ -35,6 +35,17 @@ pub(crate) enum Side<'a, 'b> {
     Both(UnreadEntry<'a>, UnreadEntry<'b>),
 }
 
+/// Two databases that are walked side by side.
+#[derive(Clone, Copy)]
+pub(crate) struct Walks<'w, 'a, 'b> {
+    /// Where they are known to have the same strings.
+    pub twins: &'w Twins<'a, 'b>,
+    /// What the old one has still to give.
+    pub old: &'w Members<'a>,
+    /// What the new one has still to give.
+    pub new: &'w Members<'b>,
+}
+
 /// Compares two texts. Most are one.
 pub(crate) fn compare_texts(one: &[u8], other: &[u8]) -> Ordering
     ensures { result ≡ text_cmp one.now other.now }
@@ -79,48 +90,44 @@ fn compare(
 /// `AllocError`.
 fn both_here<'a>(
     alloc: Global,
-    twins: &Twins<'_, '_>,
-    old: &Members<'a>,
+    walks: Walks<'_, 'a, 'a>,
     x: UnreadEntry<'a>,
-    new: &Members<'a>,
     y: UnreadEntry<'a>,
 ) -> Result<Option<Held<'a>>, AllocError>
-    requires old { IsFrom (old_file twins.now) x }
-    requires new { IsFrom (new_file twins.now) y }
+    requires old { IsFrom (old_file walks.twins.now) x }
+    requires new { IsFrom (new_file walks.twins.now) y }
     ensures { IfOk result (λ held. map given_change
-        (change_between (unread_of (path_of old.now.walk.trail) x.entry)
-        (unread_of (path_of new.now.walk.trail) y.entry)) ≡ held_of held) }
+        (change_between (unread_of (path_of walks.entry.old.now.walk.trail) x.entry)
+        (unread_of (path_of walks.entry.new.now.walk.trail) y.entry)) ≡ held_of held) }
 {
-    if twins.are_same(x.value, y.value) {
+    if walks.twins.are_same(x.value, y.value) {
         return Ok(None);
     }
-    let went = as_given(old.copied(alloc, &x)?);
-    let came = as_given(new.copied(alloc, &y)?);
+    let went = as_given(walks.old.copied(alloc, &x)?);
+    let came = as_given(walks.new.copied(alloc, &y)?);
     Ok(Some(Held::Both(went, came)))
 }
 
 /// What happened at the least pattern and key that are left, with the paths that were given, if something did.
 fn change_here<'a>(
     alloc: Global,
-    twins: &Twins<'_, '_>,
-    old: &Members<'a>,
-    new: &Members<'a>,
+    walks: Walks<'_, 'a, 'a>,
     side: Side<'a, 'a>,
 ) -> Result<Option<Held<'a>>, AllocError>
-    requires { AreFrom (old_file twins.now) (new_file twins.now) side }
-    ensures { IfOk result
-        (λ held. map given_change (changes_at old.now new.now side.entry) ≡ held_of held) }
+    requires { AreFrom (old_file walks.twins.now) (new_file walks.twins.now) side }
+    ensures { IfOk result (λ held. map given_change
+        (changes_at walks.entry.old.now walks.entry.new.now side.entry) ≡ held_of held) }
 {
     match side {
         Side::Old(x) => {
-            let went = old.copied(alloc, &x)?;
+            let went = walks.old.copied(alloc, &x)?;
             Ok(Some(Held::Old(as_given(went))))
         }
         Side::New(y) => {
-            let came = new.copied(alloc, &y)?;
+            let came = walks.new.copied(alloc, &y)?;
             Ok(Some(Held::New(as_given(came))))
         }
-        Side::Both(x, y) => both_here(alloc, twins, old, x, new, y),
+        Side::Both(x, y) => both_here(alloc, walks, x, y),
     }
 }
 
@@ -177,27 +184,25 @@ fn tell_new(
 /// Adds the line of two next assignments with one pattern and key, if their values differ, and answers whether they do.
 fn tell_both(
     alloc: Global,
-    twins: &Twins<'_, '_>,
+    walks: Walks<'_, '_, '_>,
     text: &mut Vec<u8>,
-    old: &Members<'_>,
     x: UnreadEntry<'_>,
-    new: &Members<'_>,
     y: UnreadEntry<'_>,
 ) -> Result<bool, AllocError>
-    requires old { IsFrom (old_file twins.now) x }
-    requires new { IsFrom (new_file twins.now) y }
+    requires old { IsFrom (old_file walks.twins.now) x }
+    requires new { IsFrom (new_file walks.twins.now) y }
     ensures text { OnOk result (text.new.items ≡ text.old.items ++ changes_text
-        (change_between (unread_of (path_of old.now.walk.trail) x.entry)
-        (unread_of (path_of new.now.walk.trail) y.entry))) }
+        (change_between (unread_of (path_of walks.entry.old.now.walk.trail) x.entry)
+        (unread_of (path_of walks.entry.new.now.walk.trail) y.entry))) }
     ensures some { IfOk result (λ differs. differs
-        ≡ are_some (change_between (unread_of (path_of old.now.walk.trail) x.entry)
-        (unread_of (path_of new.now.walk.trail) y.entry))) }
+        ≡ are_some (change_between (unread_of (path_of walks.entry.old.now.walk.trail) x.entry)
+        (unread_of (path_of walks.entry.new.now.walk.trail) y.entry))) }
 {
-    if twins.are_same(x.value, y.value) {
+    if walks.twins.are_same(x.value, y.value) {
         return Ok(false);
     }
-    let went = old.copied(alloc, &x)?;
-    let came = new.copied(alloc, &y)?;
+    let went = walks.old.copied(alloc, &x)?;
+    let came = walks.new.copied(alloc, &y)?;
     push_pair(text, Pair::Both(&went, &came))
 }
 
@@ -229,45 +234,42 @@ pub(crate) fn is_change(twins: &Twins<'_, '_>, side: Side<'_, '_>) -> bool
 /// Adds the line of what happened at the least pattern and key that are left, and answers whether something did.
 pub(crate) fn tell<'a, 'b>(
     alloc: Global,
-    twins: &Twins<'_, '_>,
+    walks: Walks<'_, 'a, 'b>,
     text: &mut Vec<u8>,
-    old: &Members<'a>,
-    new: &Members<'b>,
     side: Side<'a, 'b>,
 ) -> Result<bool, AllocError>
-    requires { AreFrom (old_file twins.now) (new_file twins.now) side }
+    requires { AreFrom (old_file walks.twins.now) (new_file walks.twins.now) side }
     ensures text { OnOk result (text.new.items ≡ text.old.items
-        ++ changes_text (changes_at old.now new.now side.entry)) }
-    ensures some { IfOk result
-        (λ differs. differs ≡ are_some (changes_at old.now new.now side.entry)) }
+        ++ changes_text (changes_at walks.entry.old.now walks.entry.new.now side.entry)) }
+    ensures some { IfOk result (λ differs. differs
+        ≡ are_some (changes_at walks.entry.old.now walks.entry.new.now side.entry)) }
 {
     match side {
-        Side::Old(x) => tell_old(alloc, text, old, x),
-        Side::New(y) => tell_new(alloc, text, new, y),
-        Side::Both(x, y) => tell_both(alloc, twins, text, old, x, new, y),
+        Side::Old(x) => tell_old(alloc, text, walks.old, x),
+        Side::New(y) => tell_new(alloc, text, walks.new, y),
+        Side::Both(x, y) => tell_both(alloc, walks, text, x, y),
     }
 }
 
 /// The side of the lesser of two next assignments, or both if they have one pattern and key.
 fn lesser<'a, 'b>(
-    twins: &Twins<'_, '_>,
+    walks: Walks<'_, 'a, 'b>,
     patterns: Ordering,
-    old: &Members<'a>,
     x: UnreadEntry<'a>,
-    new: &Members<'b>,
     y: UnreadEntry<'b>,
 ) -> Side<'a, 'b>
-    requires old { old.now.next ≡ Some x }
-    requires new { new.now.next ≡ Some y }
+    requires old { walks.old.now.next ≡ Some x }
+    requires new { walks.new.now.next ≡ Some y }
     requires patterns { patterns
-        ≡ text_cmp (path_of old.now.walk.trail) (path_of new.now.walk.trail) }
-    requires old_file { IsFrom (old_file twins.now) x }
-    requires new_file { IsFrom (new_file twins.now) y }
-    ensures met { IsMet old.now new.now result }
-    ensures next { IsNext old.now new.now result }
-    ensures files { AreFrom (old_file twins.now) (new_file twins.now) result }
+        ≡ text_cmp (path_of walks.old.now.walk.trail) (path_of walks.new.now.walk.trail) }
+    requires old_file { IsFrom (old_file walks.twins.now) x }
+    requires new_file { IsFrom (new_file walks.twins.now) y }
+    ensures met { IsMet walks.entry.old.now walks.entry.new.now result }
+    ensures next { IsNext walks.entry.old.now walks.entry.new.now result }
+    ensures files { AreFrom (old_file walks.entry.twins.now) (new_file walks.entry.twins.now)
+        result }
 {
-    match compare(twins, patterns, &x, &y) {
+    match compare(walks.twins, patterns, &x, &y) {
         Ordering::Less => Side::Old(x),
         Ordering::Equal => Side::Both(x, y),
         Ordering::Greater => Side::New(y),
@@ -275,11 +277,11 @@ fn lesser<'a, 'b>(
 }
 
 /// The side of the least pattern and key that are left, if some are.
-pub(crate) fn least<'a, 'b>(
-    twins: &Twins<'_, '_>,
+pub(crate) fn least<'w, 'a, 'b>(
+    twins: &'w Twins<'a, 'b>,
     patterns: Ordering,
-    old: &Members<'a>,
-    new: &Members<'b>,
+    old: &'w Members<'a>,
+    new: &'w Members<'b>,
 ) -> Option<Side<'a, 'b>>
     requires patterns { patterns
         ≡ text_cmp (path_of old.now.walk.trail) (path_of new.now.walk.trail) }
@@ -300,7 +302,7 @@ pub(crate) fn least<'a, 'b>(
         (None, None) => None,
         (Some(x), None) => Some(Side::Old(x)),
         (None, Some(y)) => Some(Side::New(y)),
-        (Some(x), Some(y)) => Some(lesser(twins, patterns, old, x, new, y)),
+        (Some(x), Some(y)) => Some(lesser(Walks { twins, old, new }, patterns, x, y)),
     }
 }
 
@@ -366,7 +368,12 @@ pub(crate) fn changes_met<'a>(
     abreast.meet(&twins, &before.walk.trail, &after.walk.trail)?;
     let mut all = Vec::new(alloc);
     'pairs: while let Some(side) = least(&twins, abreast.order, &before, &after) {
-        let change = change_here(alloc, &twins, &before, &after, side)?;
+        let walks = Walks {
+            twins: &twins,
+            old: &before,
+            new: &after,
+        };
+        let change = change_here(alloc, walks, side)?;
         push_held(review, &mut all, change)?;
         pass_over(side, &mut before, &mut after)?;
         abreast.meet(&twins, &before.walk.trail, &after.walk.trail)?;

@@ -25,6 +25,17 @@ use json::Writer;
 use std::alloc::{AllocError, Global};
 use std::collections::BTreeSet;
 
+/// The changes of assignments that none of some devices meets.
+#[derive(Clone, Copy)]
+pub(crate) struct Unmet<'l, 'r, 'a> {
+    /// How many changes there are.
+    pub all: usize,
+    /// How many devices there are.
+    pub devices: usize,
+    /// The changes that none of these meets.
+    pub left: &'l [Pair<'r, 'a>],
+}
+
 /// The patterns of some changes. The only error, here and below, is `AllocError`.
 fn patterns_of<'r>(
     alloc: Global,
@@ -218,24 +229,22 @@ pub(crate) fn push_lines(text: &mut Vec<u8>, changes: &[Pair<'_, '_>]) -> Result
     Ok(())
 }
 
-/// What is said of the changes that are left of so many, with lines of them if `verbose`. Nothing of none.
+/// What is said of the changes that no device meets, with lines of them if `verbose`. Nothing of none.
 pub(crate) fn left_text(
     alloc: Global,
     verbose: bool,
-    all: usize,
-    devices: usize,
-    left: &[Pair<'_, '_>],
+    unmet: Unmet<'_, '_, '_>,
 ) -> Result<Vec<u8>, AllocError>
-    ensures { IfOk result (λ text.
-        text.items ≡ spec.left_text verbose all devices (map change_shown left.now)) }
+    ensures { IfOk result (λ text. text.items ≡ spec.left_text verbose unmet.entry.all
+        unmet.entry.devices (map change_shown unmet.entry.left.now)) }
 {
     let mut text = Vec::new(alloc);
-    if left.is_empty() {
+    if unmet.left.is_empty() {
         return Ok(text);
     }
-    push_unmet(&mut text, left.len(), all, devices)?;
+    push_unmet(&mut text, unmet.left.len(), unmet.all, unmet.devices)?;
     if verbose {
-        push_lines(&mut text, left)?;
+        push_lines(&mut text, unmet.left)?;
     }
     Ok(text)
 }

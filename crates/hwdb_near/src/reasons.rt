@@ -262,18 +262,28 @@ fn push_head(
     push_byte(text, wanted, left)
 }
 
+/// How far a pattern and a device go together, and what is left of both.
+#[derive(Clone, Copy)]
+pub(crate) struct Rest<'a> {
+    /// How many bytes of the device the pattern meets.
+    pub(crate) met: usize,
+    /// What is left of the pattern.
+    pub(crate) wanted: &'a [u8],
+    /// What is left of the device.
+    pub(crate) left: &'a [u8],
+}
+
 /// Adds why a pattern stops after so many bytes of a device, by what is left of both.
 pub(crate) fn push_why(
     text: &mut Vec<u8>,
     pattern: &[u8],
     device: &[u8],
-    met: usize,
-    wanted: &[u8],
-    left: &[u8],
+    rest: Rest<'_>,
 ) -> Result<(), AllocError>
-    ensures { OnOk result (text.new.items
-        ≡ text.old.items ++ why_text pattern.now device.now met wanted.now left.now) }
+    ensures { OnOk result (text.new.items ≡ text.old.items ++ why_text pattern.now device.now
+        rest.entry.met rest.entry.wanted.now rest.entry.left.now) }
 {
+    let Rest { met, wanted, left } = rest;
     if is_none(left) {
         let words = "the device ends here, the pattern goes on: end the pattern here";
         return push_words(text, words);

@@ -6,7 +6,7 @@ ghost use Rattle.hwdb_near.specs.Internal.Ratings.{rated_of};
 
 use crate::found::{PatternAt, Rated};
 use crate::fronts::stops;
-use crate::reasons::{after, push_why};
+use crate::reasons::{Rest, after, push_why};
 use hwdb_show::{push_mark_line, push_name, push_shown_line};
 use itoa::Buffer;
 use std::alloc::{AllocError, Global};
@@ -56,14 +56,12 @@ pub(crate) fn push_near(
     let pattern = near.at.pattern;
     let stop = stops(alloc, pattern, device)?;
     let mut why = Vec::new(alloc);
-    push_why(
-        &mut why,
-        pattern,
-        device,
-        stop.device,
-        after(pattern, stop.pattern),
-        after(device, stop.device),
-    )?;
+    let rest = Rest {
+        met: stop.device,
+        wanted: after(pattern, stop.pattern),
+        left: after(device, stop.device),
+    };
+    push_why(&mut why, pattern, device, rest)?;
     push_said_line(text, &near.at, &why)?;
     push_marked(alloc, text, pattern, stop.pattern)?;
     push_marked(alloc, text, device, stop.device)

@@ -12,7 +12,7 @@ use crate::ancestors::{
 use crate::plans::{Plan, Question, add_one, add_plan, ask};
 use crate::scene::{Scene, itself, push_attr, push_ids_and_name, push_with_attr};
 use crate::values::{push_value, same};
-use crate::walks::add_walk;
+use crate::walks::{Modaliases, add_walk};
 use hwdb_sysfs::Ancestor;
 use std::alloc::{AllocError, Global};
 
@@ -24,7 +24,11 @@ fn hidraw_rule(alloc: Global, plans: &mut Vec<Plan>, scene: &Scene<'_>) -> Resul
     if !is_in(scene.own, b"hidraw") {
         return Ok(());
     }
-    add_walk(alloc, plans, "50-udev-default", scene, b"", b"")
+    let of = Modaliases {
+        subsystem: b"",
+        prefix: b"",
+    };
+    add_walk(alloc, plans, "50-udev-default", scene, of)
 }
 
 /// Devices on USB.
@@ -35,7 +39,11 @@ fn usb_rule(alloc: Global, plans: &mut Vec<Plan>, scene: &Scene<'_>) -> Result<(
     if !is_usb_device(scene.own) {
         return Ok(());
     }
-    add_walk(alloc, plans, "50-udev-default", scene, b"usb", b"")
+    let of = Modaliases {
+        subsystem: b"usb",
+        prefix: b"",
+    };
+    add_walk(alloc, plans, "50-udev-default", scene, of)
 }
 
 /// What has MODALIAS, by the parents in its own subsystem.
@@ -47,7 +55,11 @@ fn modalias_rule(alloc: Global, plans: &mut Vec<Plan>, scene: &Scene<'_>) -> Res
     if uevent_text(scene.own, b"MODALIAS=").is_empty() || subsystem.is_empty() {
         return Ok(());
     }
-    add_walk(alloc, plans, "50-udev-default", scene, subsystem, b"")
+    let of = Modaliases {
+        subsystem,
+        prefix: b"",
+    };
+    add_walk(alloc, plans, "50-udev-default", scene, of)
 }
 
 /// Adds the model of a node on FireWire, if it has one.
@@ -247,7 +259,11 @@ fn evdev_rules(alloc: Global, plans: &mut Vec<Plan>, scene: &Scene<'_>) -> Resul
     if !is_named(scene.own, b"event") {
         return Ok(());
     }
-    add_walk(alloc, plans, "60-evdev", scene, b"input", b"evdev:")?;
+    let of = Modaliases {
+        subsystem: b"input",
+        prefix: b"evdev:",
+    };
+    add_walk(alloc, plans, "60-evdev", scene, of)?;
     atkbd_rule(alloc, plans, scene)?;
     named_rules(alloc, plans, scene)
 }
@@ -302,14 +318,11 @@ fn input_walk(alloc: Global, plans: &mut Vec<Plan>, scene: &Scene<'_>) -> Result
     if !is_in(scene.own, b"input") {
         return Ok(());
     }
-    add_walk(
-        alloc,
-        plans,
-        "60-input-id",
-        scene,
-        b"input",
-        b"id-input:modalias:",
-    )
+    let of = Modaliases {
+        subsystem: b"input",
+        prefix: b"id-input:modalias:",
+    };
+    add_walk(alloc, plans, "60-input-id", scene, of)
 }
 
 /// The rules of 60-input-id.

@@ -12,7 +12,7 @@ use crate::middle::add_along_bus;
 use crate::plans::{Plan, Question, add_one, add_plan, ask};
 use crate::scene::{Scene, bus_of, itself, other_bus_of, push_ids_and_name, push_with_attr};
 use crate::values::same;
-use crate::walks::{add_walk, push_upper};
+use crate::walks::{Modaliases, add_walk, push_upper};
 use hwdb_properties::before;
 use std::alloc::{AllocError, Global};
 
@@ -107,43 +107,50 @@ fn is_event_of(scene: &Scene<'_>, kind: bool) -> bool
     is_named(scene.own, b"event") && kind
 }
 
+/// A rule of one kind of devices.
+#[derive(Clone, Copy)]
+struct KindRule<'a> {
+    /// The rules file.
+    rule: &'static str,
+    /// How the kind's strings begin.
+    kind: &'a [u8],
+}
+
 /// Adds what is asked by a kind on a bus, if there is a bus.
 fn add_kind_lookup(
     alloc: Global,
     plans: &mut Vec<Plan>,
-    rule: &'static str,
-    kind: &[u8],
+    of: KindRule<'_>,
     bus: &[u8],
     scene: &Scene<'_>,
 ) -> Result<(), AllocError>
     ensures { OnOk result (plans_of plans.new.items ≡ plans_of plans.old.items
-        ++ Lookups.kind_lookup rule.now kind.now bus.now (scene_of scene.now)) }
+        ++ Lookups.kind_lookup of.entry.rule.now of.entry.kind.now bus.now (scene_of scene.now)) }
 {
     if bus.is_empty() {
         return Ok(());
     }
     let mut questions = Vec::new(alloc);
-    add_kind(alloc, &mut questions, kind, bus, scene)?;
-    add_plan(plans, rule, questions)
+    add_kind(alloc, &mut questions, of.kind, bus, scene)?;
+    add_plan(plans, of.rule, questions)
 }
 
 /// Adds the strings of an input device that has a kind and a bus.
 fn add_kind_rule(
     alloc: Global,
     plans: &mut Vec<Plan>,
-    rule: &'static str,
-    kind: &[u8],
+    of: KindRule<'_>,
     has_kind: bool,
     scene: &Scene<'_>,
 ) -> Result<(), AllocError>
     ensures { OnOk result (plans_of plans.new.items ≡ plans_of plans.old.items
-        ++ Lookups.kind_rules rule.now kind.now has_kind (scene_of scene.now)) }
+        ++ Lookups.kind_rules of.entry.rule.now of.entry.kind.now has_kind (scene_of scene.now)) }
 {
     if !is_event_of(scene, has_kind) {
         return Ok(());
     }
-    add_kind_lookup(alloc, plans, rule, kind, bus_of(scene), scene)?;
-    add_kind_lookup(alloc, plans, rule, kind, other_bus_of(scene), scene)
+    add_kind_lookup(alloc, plans, of, bus_of(scene), scene)?;
+    add_kind_lookup(alloc, plans, of, other_bus_of(scene), scene)
 }
 
 /// The string of a mouse of the machine.
@@ -374,7 +381,11 @@ fn sound_rules(alloc: Global, plans: &mut Vec<Plan>, scene: &Scene<'_>) -> Resul
     if !(is_in(scene.own, b"sound") && is_named(scene.own, b"card")) {
         return Ok(());
     }
-    add_walk(alloc, plans, "78-sound-card", scene, b"", b"")
+    let of = Modaliases {
+        subsystem: b"",
+        prefix: b"",
+    };
+    add_walk(alloc, plans, "78-sound-card", scene, of)
 }
 
 /// The rules that go by kinds: 70-joystick, 70-mouse and 70-touchpad.
@@ -387,23 +398,17 @@ fn kinds_rules(
     ensures { OnOk result (plans_of plans.new.items ≡ plans_of plans.old.items
         ++ Lookups.kinds_rules (kinds_of kinds) (scene_of scene.now)) }
 {
-    add_kind_rule(
-        alloc,
-        plans,
-        "70-joystick",
-        b"joystick:",
-        kinds.joystick,
-        scene,
-    )?;
+    let joysticks = KindRule {
+        rule: "70-joystick",
+        kind: b"joystick:",
+    };
+    let touchpads = KindRule {
+        rule: "70-touchpad",
+        kind: b"touchpad:",
+    };
+    add_kind_rule(alloc, plans, joysticks, kinds.joystick, scene)?;
     mouse_rules(alloc, plans, scene, kinds.mouse)?;
-    add_kind_rule(
-        alloc,
-        plans,
-        "70-touchpad",
-        b"touchpad:",
-        kinds.touchpad,
-        scene,
-    )
+    add_kind_rule(alloc, plans, touchpads, kinds.touchpad, scene)
 }
 
 /// The rules from 70-camera on, for a device of some kinds.

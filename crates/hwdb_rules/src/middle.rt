@@ -11,7 +11,7 @@ use crate::ancestors::{
 use crate::inputs::Kinds;
 use crate::plans::{Plan, Question, add_one, add_plan, ask};
 use crate::scene::{Scene, itself, push_attr, push_with_attr};
-use crate::walks::add_walk;
+use crate::walks::{Modaliases, add_walk};
 use hwdb_sysfs::Ancestor;
 use std::alloc::{AllocError, Global};
 
@@ -243,10 +243,18 @@ pub(crate) fn add_along_bus(
         ≡ plans_of plans.old.items ++ Lookups.along_bus rule.now (scene_of scene.now)) }
 {
     if some(Wanted::In(b"usb"), scene.chain) {
-        return add_walk(alloc, plans, rule, scene, b"usb", b"");
+        let of = Modaliases {
+            subsystem: b"usb",
+            prefix: b"",
+        };
+        return add_walk(alloc, plans, rule, scene, of);
     }
     if some(Wanted::In(b"pci"), scene.chain) {
-        return add_walk(alloc, plans, rule, scene, b"pci", b"");
+        let of = Modaliases {
+            subsystem: b"pci",
+            prefix: b"",
+        };
+        return add_walk(alloc, plans, rule, scene, of);
     }
     Ok(())
 }
@@ -334,7 +342,11 @@ fn tablet_rules(alloc: Global, plans: &mut Vec<Plan>, scene: &Scene<'_>) -> Resu
         return Ok(());
     };
     let prefix = tablet_prefix(alloc, scene, at)?;
-    add_walk(alloc, plans, "65-libwacom", scene, b"input", &prefix)
+    let of = Modaliases {
+        subsystem: b"input",
+        prefix: &prefix,
+    };
+    add_walk(alloc, plans, "65-libwacom", scene, of)
 }
 
 /// The rules from 60-sensor to 65-libwacom, for a device of some kinds.

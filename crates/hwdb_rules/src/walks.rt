@@ -180,21 +180,26 @@ fn strings_of(
     Ok(questions)
 }
 
+/// Whose MODALIAS a walk asks, and after which prefix.
+#[derive(Clone, Copy)]
+pub(crate) struct Modaliases<'a> {
+    /// The subsystem of the devices; none if each device counts.
+    pub(crate) subsystem: &'a [u8],
+    /// What is before a MODALIAS.
+    pub(crate) prefix: &'a [u8],
+}
+
 /// Adds a walk.
 pub(crate) fn add_walk(
     alloc: Global,
     plans: &mut Vec<Plan>,
     rule: &'static str,
     scene: &Scene<'_>,
-    subsystem: &[u8],
-    prefix: &[u8],
+    of: Modaliases<'_>,
 ) -> Result<(), AllocError>
     ensures { OnOk result (plans_of plans.new.items ≡ plans_of plans.old.items
-        ++ walk rule.now subsystem.now prefix.now (scene_of scene.now)) }
+        ++ walk rule.now of.entry.subsystem.now of.entry.prefix.now (scene_of scene.now)) }
 {
-    add_plan(
-        plans,
-        rule,
-        strings_of(alloc, scene.chain, subsystem, prefix)?,
-    )
+    let strings = strings_of(alloc, scene.chain, of.subsystem, of.prefix)?;
+    add_plan(plans, rule, strings)
 }

@@ -213,41 +213,47 @@ fn unreadable_of<D: System>(
     find_unreadable(alloc, root, &chosen, system)
 }
 
+/// The names of the text files in both folders, and of those that are left out.
+#[derive(Clone, Copy)]
+struct ListedBut<'a> {
+    etc: &'a [String],
+    usr: &'a [String],
+    but: &'a [String],
+}
+
 /// Chooses among the text files with these names but for some, and reads the chosen ones.
 fn selected_but<D: System>(
     alloc: Global,
     root: &str,
-    etc: &[String],
-    usr: &[String],
-    names: &[String],
+    listed: ListedBut<'_>,
     system: &D,
 ) -> Result<Selection, Refusal>
-    ensures follows { AreNamed root.now (D.Store.seen system.now) (D.Store.seen system.now)
-        (map string_bytes etc.now) (map string_bytes usr.now) → D.Store.tells
-        → (left : LeftOut) → map (λ c. c.name) left.files ≡ map string_bytes names.now
-        → ReachesOf (IsSelectionBut left) (D.System.reads system.now)
-        (read_names root.now (others left.files (map string_bytes etc.now))
-        (others left.files (map string_bytes usr.now)) left) result }
+    ensures follows { let l = listed.entry in AreNamed root.now (D.Store.seen system.now)
+        (D.Store.seen system.now) (map string_bytes l.etc.now) (map string_bytes l.usr.now)
+        → D.Store.tells → (left : LeftOut) → map (λ c. c.name) left.files ≡ map string_bytes
+        l.but.now → ReachesOf (IsSelectionBut left) (D.System.reads system.now) (read_names
+        root.now (others left.files (map string_bytes l.etc.now)) (others left.files
+        (map string_bytes l.usr.now)) left) result }
     ensures count { IfOk result (λ s. length s.texts.items ≡ length s.chosen.items) }
     ensures storable { IfOk result (λ s. All IsStorableChoice (map choice_of s.chosen.items)) }
-    ensures selected { AreNamed root.now (D.Store.seen system.now) (D.Store.seen system.now)
-        (map string_bytes etc.now) (map string_bytes usr.now) → D.Store.tells → IfOk result
-        (λ s. AreSelected root.now
-        (less (map string_bytes names.now) root.now (D.Store.seen system.now))
+    ensures selected { let l = listed.entry in AreNamed root.now (D.Store.seen system.now)
+        (D.Store.seen system.now) (map string_bytes l.etc.now) (map string_bytes l.usr.now)
+        → D.Store.tells → IfOk result (λ s. AreSelected root.now
+        (less (map string_bytes l.but.now) root.now (D.Store.seen system.now))
         (map string_bytes s.listed.items) (map choice_of s.chosen.items)
         (map (λ t. t.items) s.texts.items)) }
-    ensures refused { AreNamed root.now (D.Store.seen system.now) (D.Store.seen system.now)
-        (map string_bytes etc.now) (map string_bytes usr.now)
+    ensures refused { let l = listed.entry in AreNamed root.now (D.Store.seen system.now)
+        (D.Store.seen system.now) (map string_bytes l.etc.now) (map string_bytes l.usr.now)
         → D.Store.tells → IfErr result (AreUnread root.now
-        (less (map string_bytes names.now) root.now (D.Store.seen system.now))) }
-    ensures reason { AreNamed root.now (D.Store.seen system.now) (D.Store.seen system.now)
-        (map string_bytes etc.now) (map string_bytes usr.now)
+        (less (map string_bytes l.but.now) root.now (D.Store.seen system.now))) }
+    ensures reason { let l = listed.entry in AreNamed root.now (D.Store.seen system.now)
+        (D.Store.seen system.now) (map string_bytes l.etc.now) (map string_bytes l.usr.now)
         → IfErr result (HasReason (D.System.may_fail system.now) ⊥ (D.Store.seen system.now)) }
     ensures unread { IfErr result (λ r. r ≢ Plain ToolError.Write) }
 {
-    let left_out = name_set(alloc, names)?;
-    let etc = others(alloc, etc, &left_out)?;
-    let usr = others(alloc, usr, &left_out)?;
+    let left_out = name_set(alloc, listed.but)?;
+    let etc = others(alloc, listed.etc, &left_out)?;
+    let usr = others(alloc, listed.usr, &left_out)?;
     selected_of(alloc, root, &etc, usr, system)
 }
 
@@ -278,7 +284,12 @@ fn selected_less<D: System>(
     let etc = listed(alloc, root, ETC_FILES, system)?;
     let usr = listed(alloc, root, USR_FILES, system)?;
     let found = unreadable_of(alloc, root, &etc, &usr, system)?;
-    let selection = selected_but(alloc, root, &etc, &usr, &found.names, system)?;
+    let listed = ListedBut {
+        etc: &etc,
+        usr: &usr,
+        but: &found.names,
+    };
+    let selection = selected_but(alloc, root, listed, system)?;
     Ok(ReadableSelection {
         selection,
         said: found.said,

@@ -153,7 +153,14 @@ fn refuse_database_at<E: Sink>(alloc: Global, path: &[u8], fault: DbFault, err: 
 {
     match fault.offset() {
         None => refuse_name_at(alloc, path, fault.name(), remedy(path), err),
-        Some(offset) => refuse_offset_at(alloc, path, fault.name(), offset, remedy(path), err),
+        Some(offset) => {
+            let line = FaultLine {
+                path,
+                name: fault.name(),
+                remedy: remedy(path),
+            };
+            refuse_offset_at(alloc, line, offset, err)
+        }
     }
 }
 
@@ -174,42 +181,41 @@ fn refuse_name_at<E: Sink>(alloc: Global, path: &[u8], name: &str, remedy: &str,
     )
 }
 
+/// What is said of a fault of a database.
+#[derive(Clone, Copy)]
+struct FaultLine<'a> {
+    /// The database's path.
+    path: &'a [u8],
+    /// The fault's name.
+    name: &'a str,
+    /// What to do.
+    remedy: &'a str,
+}
+
 /// The same of a fault that has an offset.
-fn refuse_offset_at<E: Sink>(
-    alloc: Global,
-    path: &[u8],
-    name: &str,
-    offset: u64,
-    remedy: &str,
-    err: &mut E,
-)
-    ensures line { Refused (refusal_line (line_at path.now name.now (Some offset) remedy.now))
+fn refuse_offset_at<E: Sink>(alloc: Global, line: FaultLine<'_>, offset: u64, err: &mut E)
+    ensures line { let l = line.entry in
+        Refused (refusal_line (line_at l.path.now l.name.now (Some offset) l.remedy.now))
         (E.taken err.old) (E.taken err.new) (E.failures err.old) (E.failures err.new) }
     ensures hands_on { HandsOn (E.is_flushed err.old) (E.is_flushed err.new)
         (E.failures err.old) (E.failures err.new) }
 {
     let mut digits = itoa::Buffer::new();
-    refuse_digits_at(alloc, path, name, digits.format(offset), remedy, err)
+    refuse_digits_at(alloc, line, digits.format(offset), err)
 }
 
 /// The same, if these are its digits.
-fn refuse_digits_at<E: Sink>(
-    alloc: Global,
-    path: &[u8],
-    name: &str,
-    digits: &str,
-    remedy: &str,
-    err: &mut E,
-)
-    ensures line { (offset : ℕ) → digits.now ≡ decimal offset
-        → Refused (refusal_line (line_at path.now name.now (Some offset) remedy.now))
+fn refuse_digits_at<E: Sink>(alloc: Global, line: FaultLine<'_>, digits: &str, err: &mut E)
+    ensures line { let l = line.entry in (offset : ℕ) → digits.now ≡ decimal offset
+        → Refused (refusal_line (line_at l.path.now l.name.now (Some offset) l.remedy.now))
         (E.taken err.old) (E.taken err.new) (E.failures err.old) (E.failures err.new) }
     ensures hands_on { HandsOn (E.is_flushed err.old) (E.is_flushed err.new)
         (E.failures err.old) (E.failures err.new) }
 {
-    let name = name.as_bytes();
+    let name = line.name.as_bytes();
     let digits = digits.as_bytes();
-    let remedy = remedy.as_bytes();
+    let remedy = line.remedy.as_bytes();
+    let path = line.path;
     refuse(
         alloc,
         err,

@@ -20,13 +20,33 @@ use hwdb_text::{ScanError, scan};
 use itoa::Buffer;
 use std::alloc::{AllocError, Global};
 
-/// What a database is asked, and what is said.
+/// How it is said which lines of a file don't hold.
 #[derive(Clone, Copy)]
 struct FileForm<'a> {
     /// Whether lines of JSON are printed.
     json: bool,
     /// The path that is printed for the file.
     path: &'a [u8],
+}
+
+/// The trial of a file.
+#[derive(Clone, Copy)]
+struct FileTrial<'d, 'a> {
+    /// The database that is asked.
+    db: &'d Db<'a>,
+    /// How the answers are told.
+    form: FileForm<'d>,
+}
+
+/// A device that the lines of a record are tried for.
+#[derive(Clone, Copy)]
+struct Device<'f, 'a> {
+    /// Its string.
+    text: &'f [u8],
+    /// Its properties, which ascend by key.
+    found: &'f [GivenValue<'a>],
+    /// Those that no line of the record names.
+    others: &'f [GivenValue<'a>],
 }
 
 /// What is said of lines that were tried.
@@ -47,27 +67,27 @@ pub struct Tested {
     pub status: u8,
 }
 
-/// Tries a line of a record among the properties of a device, of which `others` are those that no line of the record names. The only
-/// error, here and below, is `AllocError`.
+/// Tries a line of a record among the properties of a device. The only error, here and below, is `AllocError`.
 fn try_line(
     alloc: Global,
     form: FileForm<'_>,
     told: &mut Told,
-    device: &[u8],
-    found: &[GivenValue<'_>],
-    others: &[GivenValue<'_>],
+    device: Device<'_, '_>,
     line: &WantedLine<'_>,
 ) -> Result<(), AllocError>
-    requires { AscendByKey found.now }
-    ensures text { OnOk result ((all : List Line) → IsApart all found.now others.now
+    requires { AscendByKey device.found.now }
+    ensures text { OnOk result ((all : List Line)
+        → IsApart all device.entry.found.now device.entry.others.now
         → told.new.text.items ≡ told.old.text.items
-        ++ tried_text form.entry.json form.entry.path.now device.now all
-        (map given_at found.now) (map pair_at found.now) (line_at line.now)) }
-    ensures held { OnOk result ((all : List Line) → IsApart all found.now others.now
+        ++ tried_text form.entry.json form.entry.path.now device.entry.text.now all
+        (map given_at device.entry.found.now) (map pair_at device.entry.found.now)
+        (line_at line.now)) }
+    ensures held { OnOk result ((all : List Line)
+        → IsApart all device.entry.found.now device.entry.others.now
         → told.new.held.items ≡ told.old.held.items
-        ++ Wanted.holds all (map pair_at found.now) (line_at line.now) ∷ []) }
+        ++ Wanted.holds all (map pair_at device.entry.found.now) (line_at line.now) ∷ []) }
 {
-    let about = about(found, others, line);
+    let about = about(device.found, device.others, line);
     let fits = holds(line, about);
     told.held.push(fits)?;
     if fits {
@@ -75,7 +95,7 @@ fn try_line(
     }
     let failure = Failure {
         path: form.path,
-        device,
+        device: device.text,
         line,
         instead: about,
     };
@@ -87,59 +107,63 @@ fn try_lines(
     alloc: Global,
     form: FileForm<'_>,
     told: &mut Told,
-    device: &[u8],
+    device: Device<'_, '_>,
     all: &[WantedLine<'_>],
-    found: &[GivenValue<'_>],
-    others: &[GivenValue<'_>],
 ) -> Result<(), AllocError>
-    requires { IsApart (map line_at all.now) found.now others.now }
+    requires { IsApart (map line_at all.now) device.found.now device.others.now }
     ensures text { OnOk result (told.new.text.items ≡ told.old.text.items ++ flat_map
-        (tried_text form.entry.json form.entry.path.now device.now (map line_at all.now)
-        (map given_at found.now) (map pair_at found.now)) (map line_at all.now)) }
+        (tried_text form.entry.json form.entry.path.now device.entry.text.now
+        (map line_at all.now) (map given_at device.entry.found.now)
+        (map pair_at device.entry.found.now)) (map line_at all.now)) }
     ensures held { OnOk result (told.new.held.items ≡ told.old.held.items ++ map
-        (Wanted.holds (map line_at all.now) (map pair_at found.now)) (map line_at all.now)) }
+        (Wanted.holds (map line_at all.now) (map pair_at device.entry.found.now))
+        (map line_at all.now)) }
 {
     for line in all {
-        try_line(alloc, form, told, device, found, others, line)?;
+        try_line(alloc, form, told, device, line)?;
     }
     Ok(())
 }
 
 /// Tries the lines of a record for a device.
-fn try_device(
+fn try_device<'a>(
     alloc: Global,
-    db: &Db<'_>,
-    form: FileForm<'_>,
+    trial: FileTrial<'_, 'a>,
     told: &mut Told,
-    all: &[WantedLine<'_>],
+    all: &[WantedLine<'a>],
     device: &[u8],
 ) -> Result<(), AllocError>
     ensures text { OnOk result (told.new.text.items ≡ told.old.text.items
-        ++ Wanted.device_text form.entry.json form.entry.path.now (map line_at all.now)
-        db.now device.now) }
+        ++ Wanted.device_text trial.entry.form.json trial.entry.form.path.now
+        (map line_at all.now) trial.entry.db.now device.now) }
     ensures held { OnOk result (told.new.held.items ≡ told.old.held.items
-        ++ Wanted.device_held (map line_at all.now) db.now device.now) }
+        ++ Wanted.device_held (map line_at all.now) trial.entry.db.now device.now) }
 {
-    let found = found(alloc, db, device)?;
+    let found = found(alloc, trial.db, device)?;
     let others = others(alloc, all, &found)?;
-    try_lines(alloc, form, told, device, all, &found, &others)
+    let device = Device {
+        text: device,
+        found: &found,
+        others: &others,
+    };
+    try_lines(alloc, trial.form, told, device, all)
 }
 
 /// Tries a record for each of its devices.
 fn try_record(
     alloc: Global,
-    db: &Db<'_>,
-    form: FileForm<'_>,
+    trial: FileTrial<'_, '_>,
     told: &mut Told,
     record: &Record<'_>,
 ) -> Result<(), AllocError>
     ensures text { OnOk result (told.new.text.items ≡ told.old.text.items
-        ++ Wanted.record_text form.entry.json form.entry.path.now db.now (record_at record.now)) }
+        ++ Wanted.record_text trial.entry.form.json trial.entry.form.path.now
+        trial.entry.db.now (record_at record.now)) }
     ensures held { OnOk result (told.new.held.items ≡ told.old.held.items
-        ++ Wanted.record_held db.now (record_at record.now)) }
+        ++ Wanted.record_held trial.entry.db.now (record_at record.now)) }
 {
     for device in &record.devices {
-        try_device(alloc, db, form, told, &record.lines, *device)?;
+        try_device(alloc, trial, told, &record.lines, *device)?;
     }
     Ok(())
 }
@@ -147,19 +171,18 @@ fn try_record(
 /// Tries some records.
 fn try_records(
     alloc: Global,
-    db: &Db<'_>,
-    form: FileForm<'_>,
+    trial: FileTrial<'_, '_>,
     told: &mut Told,
     records: &[Record<'_>],
 ) -> Result<(), AllocError>
     ensures text { OnOk result (told.new.text.items ≡ told.old.text.items ++ flat_map
-        (Wanted.record_text form.entry.json form.entry.path.now db.now)
+        (Wanted.record_text trial.entry.form.json trial.entry.form.path.now trial.entry.db.now)
         (map record_at records.now)) }
     ensures held { OnOk result (told.new.held.items ≡ told.old.held.items
-        ++ flat_map (Wanted.record_held db.now) (map record_at records.now)) }
+        ++ flat_map (Wanted.record_held trial.entry.db.now) (map record_at records.now)) }
 {
     for record in records {
-        try_record(alloc, db, form, told, record)?;
+        try_record(alloc, trial, told, record)?;
     }
     Ok(())
 }
@@ -208,12 +231,12 @@ fn tell_malformed(
 }
 
 /// Tries the records of a file that has no malformed lines.
-fn try_well_formed(
+fn try_well_formed<'f>(
     alloc: Global,
-    db: &Db<'_>,
+    db: &'f Db<'_>,
     json: bool,
     told: &mut Told,
-    file: TextFile<'_>,
+    file: TextFile<'f>,
 ) -> Result<(), AllocError>
     ensures text { OnOk result (told.new.text.items ≡ told.old.text.items ++ flat_map
         (Wanted.record_text json file.entry.path.now db.now)
@@ -223,7 +246,8 @@ fn try_well_formed(
 {
     let path = file.path.as_bytes();
     let records = records_of(alloc, file.bytes)?;
-    try_records(alloc, db, FileForm { json, path }, told, &records)
+    let form = FileForm { json, path };
+    try_records(alloc, FileTrial { db, form }, told, &records)
 }
 
 /// The malformed lines of a test file.

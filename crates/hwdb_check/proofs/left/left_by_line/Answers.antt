@@ -43,7 +43,7 @@ lines-preserved c =
     let line = line_of n text in
     let left = lines_left c.lines.lines in
     let rest = lines_left c.next.new.self in
-    let here = λ (kind : WarningKind). ap (λ (o : List (List ℕ)). is_told o kind) (ap all_names c.deref.ensures.value) ∙ c.lines.invariant.are kind in
+    let here = λ (kind : WarningKind). ap (λ (o : List (List ℕ)). is_told o kind) (ap all_names c.deref-in-Some.ensures.value) ∙ c.lines.invariant.are kind in
     let all : List (List ℕ) = flat_map names_in allowed ++ names in
     record {
       near = omega (arith, ap length c.in-Some.ensures.steps, c.lines.invariant.near);
@@ -52,7 +52,7 @@ lines-preserved c =
       are = c.in_ok-kinds-2.ensures names c.lines.invariant.are;
       found = marked_step (found_in_line format allowed path bytes) _ _ _ names n left text rest c.in-Some.ensures.steps
           (two_pieces _ _ _ (found_faults path bytes line) _
-          (c.in_ok-next.ensures.found ∙ ap (λ (fs : List Fault). finds c.lines.left.found.items ++ flat_map (one_fault path text) (filter (λ f. is n f.line) fs)) c.requires.faults)
+          (c.in_ok-next.ensures.found ∙ ap (λ (fs : List Fault). finds c.lines.left.found.items ++ flat_map (one_fault path text) (filter (λ f. is n f.line) fs)) (c.deref-faults.ensures.value ∙ c.requires.faults))
           (grown_alike (λ ws. flat_map (one_unknown path line) (unknown_names text) ++ flat_map (one_warning format path line) ws) _ _ _ all _ bytes line here c.in_ok-known.ensures.1 c.in_ok-put_left.ensures))
           c.lines.invariant.found;
     }

@@ -26,7 +26,7 @@ loop-text-preserved c =
       next = c.in_ok-next.ensures.next;
       found = line_step (line_findings format allowed path bytes) _ _ _ n left text rest c.in-Some.ensures.steps
           (two_pieces _ _ _ (found_faults path bytes line) (found_warnings format allowed path bytes line)
-          (c.in_ok-next.ensures.found ∙ ap (λ (fs : List Fault). finds c.loop-text.warned.found.items ++ flat_map (one_fault path text) (filter (λ f. is n f.line) fs)) c.requires.faults)
+          (c.in_ok-next.ensures.found ∙ ap (λ (fs : List Fault). finds c.loop-text.warned.found.items ++ flat_map (one_fault path text) (filter (λ f. is n f.line) fs)) (c.deref-faults.ensures.value ∙ c.requires.faults))
           (c.in_ok-put_line.ensures ∙ ap (λ (b : List ℕ). finds c.put_line_faults.new.found.items ++ found_warnings format allowed path b line) c.in_ok-known.ensures.1))
           c.loop-text.invariant.found;
     }

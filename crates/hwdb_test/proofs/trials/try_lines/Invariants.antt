@@ -8,6 +8,6 @@ use Rattle.hwdb_test.proofs.trials.try_lines.Given as goal
 abbrev pub invariant-loop-line : goal.invariant-loop-line
 invariant-loop-line l = record {
   text : l.told.text.items ≡ l.fn.told.text.items
-      ++ flat_map (tried_text l.form.json l.form.path.now l.device (map line_at l.all) (map given_at l.found) (map pair_at l.found)) (map line_at (take l.line-index l.all));
-  held : l.told.held.items ≡ l.fn.told.held.items ++ map (holds (map line_at l.all) (map pair_at l.found)) (map line_at (take l.line-index l.all));
+      ++ flat_map (tried_text l.form.json l.form.path.now l.device.text.now (map line_at l.all) (map given_at l.device.found.now) (map pair_at l.device.found.now)) (map line_at (take l.line-index l.all));
+  held : l.told.held.items ≡ l.fn.told.held.items ++ map (holds (map line_at l.all) (map pair_at l.device.found.now)) (map line_at (take l.line-index l.all));
 }

@@ -7,6 +7,6 @@ use Rattle.hwdb_test.proofs.trials.try_record.Given as goal
 abbrev pub invariant-loop-device : goal.invariant-loop-device
 invariant-loop-device l = record {
   text : l.told.text.items ≡ l.fn.told.text.items
-      ++ flat_map (device_text l.form.json l.form.path.now (map line_at l.record.lines.items) l.db) (map device_at (take l.device-index l.record.devices.items));
-  held : l.told.held.items ≡ l.fn.told.held.items ++ flat_map (device_held (map line_at l.record.lines.items) l.db) (map device_at (take l.device-index l.record.devices.items));
+      ++ flat_map (device_text l.trial.form.json l.trial.form.path.now (map line_at l.record.lines.items) l.trial.db.now) (map device_at (take l.device-index l.record.devices.items));
+  held : l.told.held.items ≡ l.fn.told.held.items ++ flat_map (device_held (map line_at l.record.lines.items) l.trial.db.now) (map device_at (take l.device-index l.record.devices.items));
 }

@@ -6,6 +6,6 @@ use Rattle.hwdb_test.proofs.trials.try_records.Given as goal
 
 abbrev pub invariant-loop-record : goal.invariant-loop-record
 invariant-loop-record l = record {
-  text : l.told.text.items ≡ l.fn.told.text.items ++ flat_map (record_text l.form.json l.form.path.now l.db) (map record_at (take l.record-index l.records));
-  held : l.told.held.items ≡ l.fn.told.held.items ++ flat_map (record_held l.db) (map record_at (take l.record-index l.records));
+  text : l.told.text.items ≡ l.fn.told.text.items ++ flat_map (record_text l.trial.form.json l.trial.form.path.now l.trial.db.now) (map record_at (take l.record-index l.records));
+  held : l.told.held.items ≡ l.fn.told.held.items ++ flat_map (record_held l.trial.db.now) (map record_at (take l.record-index l.records));
 }

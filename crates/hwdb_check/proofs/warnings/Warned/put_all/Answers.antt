@@ -14,5 +14,5 @@ returns c =
     let test = gets (names_of c.args.telling.now) line.bytes.now (read_line line) (clean_of line) in
     let count : length c.kinds_of-kinds.result ≡ 17 = ap length c.kinds_of-kinds.ensures in
     c.loop-kind.invariant
-    ∙ ap (λ ks. finds c.args.self.now.found.items ++ flat_map (one_warning c.args.telling.now.format c.args.path.now (read_line line)) (filter test ks))
+    ∙ ap (λ ks. finds c.args.self.now.found.items ++ flat_map (one_warning c.args.telling.now.format line.path.now (read_line line)) (filter test ks))
     (take_all c.loop-kind.kind-index c.kinds_of-kinds.result (omega (arith, count, c.loop-kind-test.false)) ∙ c.kinds_of-kinds.ensures)
