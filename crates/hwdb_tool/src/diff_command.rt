@@ -41,6 +41,19 @@ use std::alloc::{AllocError, Global};
 /// What is said if standard input would be read twice.
 const TWICE: &str = "only one of OLD, NEW and --devices FILE may be -: standard input is read once";
 
+/// What `diff` is asked.
+#[derive(Clone, Copy)]
+pub struct DiffAsked<'a> {
+    /// The path of the old side.
+    pub old: &'a str,
+    /// The path of the new one.
+    pub new: &'a str,
+    /// The paths of files that name devices; none if assignments are compared.
+    pub devices: &'a [String],
+    /// How they are compared, and what is printed.
+    pub review: &'a ReviewArgs,
+}
+
 /// What changed from the side at one path to that at another, as `review` asks for it. For the devices of the given files, a line each, it is what changed in what each of them gets; without a file it is each pattern and key for which the two differ. `-` is
 /// what `input` has left, of a file or of one side. The status is 1 if something changed, else 0.
 ///
@@ -48,27 +61,26 @@ const TWICE: &str = "only one of OLD, NEW and --devices FILE may be -: standard 
 /// Before them it is an error if both sides are `-`, or one of them and a file.
 pub fn diff<D: TextsBelow, I: Source>(
     alloc: Global,
-    old_path: &str,
-    new_path: &str,
-    given: &[String],
-    review: &ReviewArgs,
+    asked: DiffAsked<'_>,
     system: &D,
     input: &mut I,
 ) -> Result<Answer, Refusal>
     ensures follows { D.Store.tells → OfInput (I.left input.old) (I.failures input.old)
         (I.failures input.new) (λ told. Follows end_of (D.System.reads system.now)
-        (if_fit (text_if (names_twice (map string_bytes given.now) old_path.now new_path.now)
-        twice_text) (diff_plan told (map string_bytes given.now) old_path.now new_path.now
-        (change_of (review_in review.now)))) result) }
-    ensures unread { any_dash (old_path.now ∷ new_path.now ∷ map string_bytes given.now) ≡ false
-        → input.new ≡ input.old }
+        (if_fit (text_if (names_twice (map string_bytes asked.entry.devices.now)
+        asked.entry.old.now asked.entry.new.now) twice_text)
+        (diff_plan told (map string_bytes asked.entry.devices.now) asked.entry.old.now
+        asked.entry.new.now (change_of (review_in asked.entry.review.now)))) result) }
+    ensures unread { any_dash (asked.entry.old.now ∷ asked.entry.new.now
+        ∷ map string_bytes asked.entry.devices.now) ≡ false → input.new ≡ input.old }
 {
-    if names_twice(given, old_path, new_path) {
+    let given = asked.devices;
+    if names_twice(given, asked.old, asked.new) {
         return Err(refused_twice(alloc));
     }
     let texts = given_texts(alloc, given, given, system, input)?;
     let files = with_paths(alloc, given, &texts)?;
-    compared(alloc, old_path, new_path, review, &files, system, input)
+    compared(alloc, asked, &files, system, input)
 }
 
 /// Whether standard input would be read twice: as both sides, or as one of them and a file of devices.
@@ -94,27 +106,25 @@ fn refused_twice(alloc: Global) -> Refusal
 /// The same of files that were read.
 fn compared<D: TextsBelow, I: Source>(
     alloc: Global,
-    old_path: &str,
-    new_path: &str,
-    review: &ReviewArgs,
+    asked: DiffAsked<'_>,
     files: &[TextFile<'_>],
     system: &D,
     input: &mut I,
 ) -> Result<Answer, Refusal>
-    ensures follows { D.Store.tells → IsOneDash old_path.now new_path.now
+    ensures follows { D.Store.tells → IsOneDash asked.entry.old.now asked.entry.new.now
         → OfInput (I.left input.old) (I.failures input.old) (I.failures input.new)
         (λ told. Follows end_of (D.System.reads system.now)
-        (sides_compared told old_path.now new_path.now
-        (change_of (review_in review.now) (map source_of files.now))) result) }
-    ensures unread { is_dash old_path.now ≡ false → is_dash new_path.now ≡ false
+        (sides_compared told asked.entry.old.now asked.entry.new.now
+        (change_of (review_in asked.entry.review.now) (map source_of files.now))) result) }
+    ensures unread { is_dash asked.entry.old.now ≡ false → is_dash asked.entry.new.now ≡ false
         → input.new ≡ input.old }
 {
     law_one_tree();
-    let old = side(alloc, old_path, system, input)?;
-    let new = side(alloc, new_path, system, input)?;
-    match changes_of(alloc, review, files, &old, &new) {
+    let old = side(alloc, asked.old, system, input)?;
+    let new = side(alloc, asked.new, system, input)?;
+    match changes_of(alloc, asked.review, files, &old, &new) {
         Ok(changes) => Ok(answer_of(changes)),
-        Err(error) => Err(refusal_of(alloc, error, old_path, new_path)),
+        Err(error) => Err(refusal_of(alloc, error, asked.old, asked.new)),
     }
 }
 
@@ -261,6 +271,13 @@ impl<D: Machine, I: Source> Verb<D, I> for DiffArgs {
         input: &mut I,
     ) -> Result<Answer, Refusal> {
         let (old, new) = (self.old.as_str(), self.new.as_str());
-        diff(alloc, old, new, &self.devices, &self.review, system, input)
+        let (devices, review) = (&self.devices, &self.review);
+        let asked = DiffAsked {
+            old,
+            new,
+            devices,
+            review,
+        };
+        diff(alloc, asked, system, input)
     }
 }

@@ -16,6 +16,7 @@ use crate::databases::{asked, refused_database};
 use crate::device_command::{device, devices_are_told};
 use crate::missing::{for_rules, sysfs_of};
 use crate::over_text::misused;
+use crate::reported::DeviceQuestion;
 use hwdb_answers::ToolError;
 use hwdb_device::{DeviceForm, all_strings_text, unread_lines};
 use hwdb_reader::check;
@@ -41,17 +42,21 @@ pub(crate) fn all_misuse(form: DeviceForm, given: Option<&str>) -> Option<&'stat
 /// is 0, also if a device can't be read: then a line on standard error says so.
 pub fn devices<D: Machine>(
     alloc: Global,
-    root: &str,
-    given: Option<&str>,
-    form: DeviceForm,
-    all: bool,
+    question: DeviceQuestion<'_>,
     system: &D,
 ) -> Result<Answer, Refusal>
     ensures status { IfOk result (λ a. a.status ≡ 0) }
     ensures follows { D.Store.tells → OfCause (λ cause. Follows end_of
         (D.System.reads system.now) (plan.device_asked (sight_by D.answers system.now) cause
-        asked_names root.now form all (option_map (λ t. t.now) given.entry)) result) }
+        asked_names question.entry.root.now question.entry.form question.entry.all
+        (option_map (λ t. t.now) question.entry.given)) result) }
 {
+    let DeviceQuestion {
+        root,
+        given,
+        form,
+        all,
+    } = question;
     if all {
         every(alloc, root, given, form, system)
     } else {

@@ -88,7 +88,7 @@ pub use check_command::check;
 pub use coloured::{Coloured, kind_of, terminals_get_no_control, write_shown};
 pub use crash::{crash_then_query, kill_then_query};
 pub use device_command::{device, device_form};
-pub use diff_command::diff;
+pub use diff_command::{DiffAsked, diff};
 pub use dispatch::program;
 pub use dump_command::dump;
 pub use every_device::devices;

@@ -221,7 +221,8 @@ fn unmeant<F: DeviceFiles>(
         Unfound::Untold(path, cause) => unread(alloc, &path, cause),
         Unfound::Unread(cause) => {
             let message = cause.message();
-            no_device(alloc, sys, given, true, message.as_bytes(), files)
+            let sysfs = for_rules(files, sys);
+            no_device(alloc, &sysfs, given, true, message.as_bytes())
         }
         Unfound::NoDevice => not_there(alloc, sys, given, files),
         Unfound::Memory | Unfound::NoSysfs(..) => Refusal::from(AllocError),
@@ -266,24 +267,23 @@ fn not_there<F: DeviceFiles>(alloc: Global, sys: &[u8], given: &[u8], files: &F)
         → IsNoDevice root sys.now given.now (sight_by F.answers files.now) result }
     ensures worded { IsWorded result }
 {
-    no_device(alloc, sys, given, false, b"", files)
+    no_device(alloc, &for_rules(files, sys), given, false, b"")
 }
 
 /// What is said of what was given: whether it leads nowhere, why, and what is near.
 pub(crate) fn no_device<F: DeviceFiles>(
     alloc: Global,
-    sys: &[u8],
+    sysfs: &Sysfs<'_, F>,
     given: &[u8],
     nowhere: bool,
     words: &[u8],
-    files: &F,
 ) -> Refusal
     ensures said { F.tells → IsInWords (spec.no_device_text nowhere given.now words.now
-        (found.near_given (sight_by F.answers files.now) asked_names sys.now given.now))
-        result }
+        (found.near_given (sight_by F.answers sysfs.now.files.now)
+        (pieces (is 10) sysfs.now.names.now) sysfs.now.folder.now given.now)) result }
     ensures worded { IsWorded result }
 {
-    match near_text(alloc, sys, given, nowhere, words, files) {
+    match near_text(alloc, sysfs, given, nowhere, words) {
         Ok(text) => Refusal::InWords(text),
         Err(refused) => Refusal::from(refused),
     }
@@ -292,17 +292,17 @@ pub(crate) fn no_device<F: DeviceFiles>(
 /// The words of it.
 fn near_text<F: DeviceFiles>(
     alloc: Global,
-    sys: &[u8],
+    sysfs: &Sysfs<'_, F>,
     given: &[u8],
     nowhere: bool,
     words: &[u8],
-    files: &F,
 ) -> Result<Vec<u8>, AllocError>
     ensures { F.tells → IfOk result (λ text. text.items
         ≡ spec.no_device_text nowhere given.now words.now
-        (found.near_given (sight_by F.answers files.now) asked_names sys.now given.now)) }
+        (found.near_given (sight_by F.answers sysfs.now.files.now)
+        (pieces (is 10) sysfs.now.names.now) sysfs.now.folder.now given.now)) }
 {
-    let near = near_given(alloc, &for_rules(files, sys), given)?;
+    let near = near_given(alloc, sysfs, given)?;
     no_device_text(alloc, given, nowhere, words, &near)
 }
 

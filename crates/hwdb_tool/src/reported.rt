@@ -27,7 +27,7 @@ use crate::databases::{asked, refused_database};
 use crate::device_command::{device_form, list_text, text_over};
 use crate::every_device::{all_misuse, devices, strings_over};
 use crate::given::{INPUT, is_dash, read};
-use crate::missing::{no_device, only_meant};
+use crate::missing::{for_rules, no_device, only_meant};
 use crate::over_text::misused;
 use crate::verb::{Verb, root_of, text_of};
 use hwdb_cli::{DeviceArgs, Job};
@@ -81,14 +81,7 @@ pub fn devices_from<D: Machine, I: Source>(
 {
     match from {
         Some(from) => over_file(alloc, from, question, system, input),
-        None => devices(
-            alloc,
-            question.root,
-            question.given,
-            question.form,
-            question.all,
-            system,
-        ),
+        None => devices(alloc, question, system),
     }
 }
 
@@ -248,7 +241,10 @@ fn place_else(
 {
     match only_meant(alloc, sys, given, &why, export)? {
         Some(place) => Ok(place),
-        None => Err(no_device(alloc, sys, given, false, b"", export)),
+        None => {
+            let sysfs = for_rules(export, sys);
+            Err(no_device(alloc, &sysfs, given, false, b""))
+        }
     }
 }
 

@@ -17,19 +17,28 @@ use hwdb_scan::{run_scan, scanned_path, unscanned_text};
 use hwdb_system::{Machine, Refusal};
 use std::alloc::{AllocError, Global};
 
+/// What `scan` is asked.
+#[derive(Clone, Copy)]
+pub struct ScanAsked<'a> {
+    /// What is in front of the device's path.
+    pub root: &'a str,
+    /// The device; `-` is standard input.
+    pub device: &'a str,
+    /// How many keys are told; none if all of them are.
+    pub count: Option<u64>,
+}
+
 /// Prints a line for each key that the events of `input` tell, as soon as they are read: of all keys, or of as many as are asked for. Errors
 /// name what the events are of: the device below the root, or with `-` standard input.
 pub fn scan<I: Source, O: Sink>(
     alloc: Global,
-    root: &str,
-    device: &str,
-    count: Option<u64>,
+    asked: ScanAsked<'_>,
     input: &mut I,
     out: &mut O,
 ) -> Result<u8, Refusal>
     ensures small { IfOk result (λ status. status ≤ 1) }
     ensures follows { (reads : Reads) (err : Told) → ShowsEnd reads
-        (scan_plan root.now device.now count)
+        (scan_plan asked.entry.root.now asked.entry.device.now asked.entry.count)
         (told_by I.left I.failures input.old) (told_by I.left I.failures input.new)
         (outs err (told_by O.taken O.failures out.old))
         (outs err (told_by O.taken O.failures out.new)) result }
@@ -37,9 +46,12 @@ pub fn scan<I: Source, O: Sink>(
     ensures hands_on { HandsOn (O.is_flushed out.old) (O.is_flushed out.new)
         (O.failures out.old) (O.failures out.new) }
 {
-    match run_scan(alloc, count, input, out) {
+    match run_scan(alloc, asked.count, input, out) {
         Ok(()) => Ok(0),
-        Err(error) => Err(refusal_of(alloc, error, root, device, input.cause())),
+        Err(error) => {
+            let cause = input.cause();
+            Err(refusal_of(alloc, error, asked.root, asked.device, cause))
+        }
     }
 }
 
@@ -107,6 +119,11 @@ impl<D: Machine, I: Source, O: Sink, E: Sink> StreamVerb<D, I, O, E> for ScanArg
         _err: &mut E,
     ) -> Result<u8, Refusal> {
         let (root, device) = (root_of(job), self.device.as_str());
-        scan(alloc, root, device, self.count, input, out)
+        let asked = ScanAsked {
+            root,
+            device,
+            count: self.count,
+        };
+        scan(alloc, asked, input, out)
     }
 }

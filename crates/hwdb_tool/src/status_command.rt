@@ -410,24 +410,30 @@ fn renewing_if(
     }
 }
 
+/// What is seen of the asked database, and how much is in the one that it hides.
+#[derive(Drop)]
+struct Seen {
+    standing: Standing,
+    hidden: Option<Amount>,
+}
+
 /// The command that is told, if there is one.
 fn remedy_of(
     alloc: Global,
     root: &str,
-    etc: bool,
-    usr: bool,
+    asked: &AskedDatabase,
     bare: bool,
-    state: &State,
-    hidden: Option<Amount>,
+    seen: &Seen,
 ) -> Result<Option<Vec<u8>>, AllocError>
     ensures { IfOk result (λ words. option_map (λ w. w.items) words
-        ≡ Status.remedy_of root.now etc usr bare
-        (state_shown state.now) (option_map amount_shown hidden)) }
+        ≡ Status.remedy_of root.now asked.now.etc asked.now.usr bare
+        (state_shown seen.now.standing.state) (option_map amount_shown seen.now.hidden)) }
 {
+    let state = &seen.standing.state;
     if bare {
-        unhiding_words(alloc, root, state, hidden)
+        unhiding_words(alloc, root, state, seen.hidden)
     } else {
-        renewing_if(alloc, root, etc, usr, state)
+        renewing_if(alloc, root, asked.etc, asked.usr, state)
     }
 }
 
@@ -436,26 +442,19 @@ fn report_of(
     alloc: Global,
     root: &str,
     asked: &AskedDatabase,
-    standing: Standing,
-    hidden: Option<Amount>,
-    bare: bool,
-    unread: UnreadFiles,
+    seen: Seen,
+    made: MadeNow,
 ) -> Result<Report, AllocError>
     ensures { IfOk result (λ report. report_shown report ≡ Status.report_of root.now
         asked.now.etc asked.now.usr
-        (option_map amount_shown standing.holds) (option_map amount_shown hidden)
-        (map (λ p. p.items) unread.masked.items) (map (λ p. p.items) unread.ignored.items)
-        bare (state_shown standing.state)) }
+        (option_map amount_shown seen.standing.holds) (option_map amount_shown seen.hidden)
+        (map (λ p. p.items) made.unread.masked.items)
+        (map (λ p. p.items) made.unread.ignored.items)
+        made.bare (state_shown seen.standing.state)) }
 {
-    let remedy = remedy_of(
-        alloc,
-        root,
-        asked.etc,
-        asked.usr,
-        bare,
-        &standing.state,
-        hidden,
-    )?;
+    let remedy = remedy_of(alloc, root, asked, made.bare, &seen)?;
+    let Seen { standing, hidden } = seen;
+    let MadeNow { bare, unread, .. } = made;
     Ok(Report {
         database: path_asked(alloc, root, asked.etc, asked.usr)?,
         holds: standing.holds,
@@ -490,29 +489,37 @@ fn amount_if(alloc: Global, bytes: &Option<Vec<u8>>) -> Result<Option<Amount>, A
     }
 }
 
-/// What is reported of the asked database, beside bytes that the text files make.
+/// How a report is told.
+#[derive(Clone, Copy)]
+struct Telling {
+    /// Whether as JSON.
+    json: bool,
+    /// Whether by the status alone.
+    quiet: bool,
+}
+
+/// What is reported of the asked database, beside what the text files make.
 fn reported<D: System>(
     alloc: Global,
     root: &str,
-    json: bool,
-    quiet: bool,
-    made: &[u8],
-    bare: bool,
-    unread: UnreadFiles,
+    telling: Telling,
+    made: MadeNow,
     system: &D,
 ) -> Result<Answer, Refusal>
-    requires { (t : Tree) × IsDatabase made.now t }
-    ensures follows { D.Store.tells → (m : Map) → IsDatabaseOf m made.now
-        → Follows end_of (D.System.reads system.now) (report_plan root.now json quiet
-        (now_with m made.now bare (map (λ p. p.items) unread.masked.items)
-        (map (λ p. p.items) unread.ignored.items))) result }
+    requires { (t : Tree) × IsDatabase made.database.items t }
+    ensures follows { D.Store.tells → (m : Map) → IsDatabaseOf m made.database.items
+        → Follows end_of (D.System.reads system.now)
+        (report_plan root.now telling.json telling.quiet
+        (now_with m made.database.items made.bare (map (λ p. p.items) made.unread.masked.items)
+        (map (λ p. p.items) made.unread.ignored.items))) result }
 {
     law_one_tree();
     let asked = asked_database(alloc, root, system)?;
-    let standing = standing_of(alloc, bytes_of(&asked.bytes), made)?;
+    let standing = standing_of(alloc, bytes_of(&asked.bytes), &made.database)?;
     let hidden = amount_if(alloc, &asked.hidden)?;
-    let report = report_of(alloc, root, &asked, standing, hidden, bare, unread)?;
-    let text = report_in(alloc, &report, json, quiet)?;
+    let seen = Seen { standing, hidden };
+    let report = report_of(alloc, root, &asked, seen, made)?;
+    let text = report_in(alloc, &report, telling.json, telling.quiet)?;
     Ok(Answer::new(alloc, text, report.status()))
 }
 
@@ -552,12 +559,8 @@ pub fn status<D: TextFolders>(
     ensures follows { D.Store.tells → Follows end_of (D.System.reads system.now)
         (status_plan root.now json quiet) result }
 {
-    let MadeNow {
-        database,
-        bare,
-        unread,
-    } = made_now(alloc, root, system)?;
-    reported(alloc, root, json, quiet, &database, bare, unread, system)
+    let made = made_now(alloc, root, system)?;
+    reported(alloc, root, Telling { json, quiet }, made, system)
 }
 
 impl<D: Machine, I: Source> Verb<D, I> for StatusArgs {

@@ -26,12 +26,12 @@ after_old told old_path new_path say old = side told new_path (λ new. compared 
 pub returns-in_err-old-clause-follows : goal.returns-in_err-old-clause-follows
 returns-in_err-old-clause-follows g c = λ tells one.
     let w = g.D.System.reads c.args.system.now in
-    let old_path = c.args.old_path.now in
-    let say = change_of (review_in c.args.review.now) (map source_of c.args.files.now) in
+    let old_path = c.args.asked.old.now in
+    let say = change_of (review_in c.args.asked.review.now) (map source_of c.args.files.now) in
     let told = c.in_err-old.ensures.told tells in (
       told.0,
       told.1,
-      value_ends_in w items end_of (side told.0 old_path) (after_old told.0 old_path c.args.new_path.now say) c.in_err-old.field-0.0 c.from_residual.result told.2 c.from_residual.ensures.1,
+      value_ends_in w items end_of (side told.0 old_path) (after_old told.0 old_path c.args.asked.new.now say) c.in_err-old.field-0.0 c.from_residual.result told.2 c.from_residual.ensures.1,
     )
 
 pub returns-in_err-new-clause-follows : goal.returns-in_err-new-clause-follows
@@ -39,9 +39,9 @@ returns-in_err-new-clause-follows g c = λ tells one.
     let w = g.D.System.reads c.args.system.now in
     let left = g.I.Source.left in
     let failures = g.I.Source.failures in
-    let old_path = c.args.old_path.now in
-    let new_path = c.args.new_path.now in
-    let say = change_of (review_in c.args.review.now) (map source_of c.args.files.now) in
+    let old_path = c.args.asked.old.now in
+    let new_path = c.args.asked.new.now in
+    let say = change_of (review_in c.args.asked.review.now) (map source_of c.args.files.now) in
     let r = c.in_err-new.field-0.0 in
     let told = pair_told w items items old_path new_path (left c.args.input.now) (left c.side.new.input) (failures c.args.input.now) (failures c.side.new.input) (failures c.side-2.new.input)
     (Ok c.in_ok-old.old) (Err r) one (λ plain. (ap left (c.in_ok-old.ensures.unread plain), ap failures (c.in_ok-old.ensures.unread plain))) (λ plain. ap failures (c.in_err-new.ensures.unread plain))
@@ -57,10 +57,10 @@ returns-clause-follows g c = λ tells one.
     let w = g.D.System.reads c.args.system.now in
     let left = g.I.Source.left in
     let failures = g.I.Source.failures in
-    let old_path = c.args.old_path.now in
-    let new_path = c.args.new_path.now in
+    let old_path = c.args.asked.old.now in
+    let new_path = c.args.asked.new.now in
     let sources = map source_of c.args.files.now in
-    let say = change_of (review_in c.args.review.now) sources in
+    let say = change_of (review_in c.args.asked.review.now) sources in
     let told = pair_told w items items old_path new_path (left c.args.input.now) (left c.side.new.input) (failures c.args.input.now) (failures c.side.new.input) (failures c.side-2.new.input)
     (Ok c.in_ok-old.old) (Ok c.in_ok-new.new) one (λ plain. (ap left (c.in_ok-old.ensures.unread plain), ap failures (c.in_ok-old.ensures.unread plain))) (λ plain. ap failures (c.in_ok-new.ensures.unread plain))
     (c.in_ok-old.ensures.told tells) (c.in_ok-new.ensures.told tells) in (
@@ -68,7 +68,7 @@ returns-clause-follows g c = λ tells one.
       told.1,
       value_ends w items end_of (side told.0 old_path) (after_old told.0 old_path new_path say) c.in_ok-old.old (Err c.refusal_of.result) told.2.0
           (value_ends w items end_of (side told.0 new_path) (λ new. compared old_path new_path c.in_ok-old.old.items new say) c.in_ok-new.new (Err c.refusal_of.result) told.2.1
-          (uncompared_end w c.law_one_tree.ensures (review_in c.args.review.now) sources old_path new_path c.in_ok-old.old.items c.in_ok-new.new.items c.in-Err.error c.refusal_of.result
+          (uncompared_end w c.law_one_tree.ensures (review_in c.args.asked.review.now) sources old_path new_path c.in_ok-old.old.items c.in_ok-new.new.items c.in-Err.error c.refusal_of.result
           (subst (λ (o : List ℕ). IsDiffRefusal o c.in_ok-new.new.items c.in-Err.error) c.deref.ensures.value
           (subst (λ (n : List ℕ). IsDiffRefusal c.deref.result.now n c.in-Err.error) c.deref-2.ensures.value c.in-Err.ensures.errors)) c.refusal_of.ensures.stops)),
     )
@@ -78,10 +78,10 @@ returns-in-Ok-clause-follows g c = λ tells one.
     let w = g.D.System.reads c.args.system.now in
     let left = g.I.Source.left in
     let failures = g.I.Source.failures in
-    let old_path = c.args.old_path.now in
-    let new_path = c.args.new_path.now in
+    let old_path = c.args.asked.old.now in
+    let new_path = c.args.asked.new.now in
     let sources = map source_of c.args.files.now in
-    let r = review_in c.args.review.now in
+    let r = review_in c.args.asked.review.now in
     let say = change_of r sources in
     let olds = c.in_ok-old.old.items in
     let news = c.in_ok-new.new.items in

@@ -19,14 +19,14 @@ use Rattle.hwdb_spec_program.specs.GivenDatabases.{names_twice, twice_text}
 
 pub returns-clause-unread : goal.returns-clause-unread
 returns-clause-unread g c = λ none.
-    let plain = none_named (map string_bytes c.args.given.now) c.args.old_path.now c.args.new_path.now none in
+    let plain = none_named (map string_bytes c.args.asked.devices.now) c.args.asked.old.now c.args.asked.new.now none in
     c.compared.ensures.unread plain.0 plain.1 ∙ c.in_ok-texts.ensures.unread plain.2
 
 pub returns-in_err-texts-clause-unread : goal.returns-in_err-texts-clause-unread
-returns-in_err-texts-clause-unread g c = λ none. c.in_err-texts.ensures.unread (none_named (map string_bytes c.args.given.now) c.args.old_path.now c.args.new_path.now none).2
+returns-in_err-texts-clause-unread g c = λ none. c.in_err-texts.ensures.unread (none_named (map string_bytes c.args.asked.devices.now) c.args.asked.old.now c.args.asked.new.now none).2
 
 pub returns-in_err-files-clause-unread : goal.returns-in_err-files-clause-unread
-returns-in_err-files-clause-unread g c = λ none. c.in_ok-texts.ensures.unread (none_named (map string_bytes c.args.given.now) c.args.old_path.now c.args.new_path.now none).2
+returns-in_err-files-clause-unread g c = λ none. c.in_ok-texts.ensures.unread (none_named (map string_bytes c.args.asked.devices.now) c.args.asked.old.now c.args.asked.new.now none).2
 
 -- ---- its plan
 abbrev texts_of : Vec (Vec ℕ Global) Global → List (List ℕ)
@@ -39,39 +39,39 @@ after_files told old_path new_path r sources = sides_compared told old_path new_
 pub returns-then-names_twice-clause-follows : goal.returns-then-names_twice-clause-follows
 returns-then-names_twice-clause-follows g c = λ tells.
     let w = g.D.System.reads c.args.system.now in
-    let given = map string_bytes c.args.given.now in
-    let old_path = c.args.old_path.now in
-    let new_path = c.args.new_path.now in
+    let given = map string_bytes c.args.asked.devices.now in
+    let old_path = c.args.asked.old.now in
+    let new_path = c.args.asked.new.now in
     let r = c.refused_twice.result in (
       Err Memory,
       tt,
-      twice_ends w end_of twice_text (diff_plan (Err Memory) given old_path new_path (change_of (review_in c.args.review.now))) (names_twice given old_path new_path) r
+      twice_ends w end_of twice_text (diff_plan (Err Memory) given old_path new_path (change_of (review_in c.args.asked.review.now))) (names_twice given old_path new_path) r
           (sym c.names_twice.ensures ∙ c.if-names_twice.true) (in_words_stops twice_text r c.refused_twice.ensures),
     )
 
 pub returns-in_err-texts-clause-follows : goal.returns-in_err-texts-clause-follows
 returns-in_err-texts-clause-follows g c = λ tells.
     let w = g.D.System.reads c.args.system.now in
-    let given = map string_bytes c.args.given.now in
-    let old_path = c.args.old_path.now in
-    let new_path = c.args.new_path.now in
+    let given = map string_bytes c.args.asked.devices.now in
+    let old_path = c.args.asked.old.now in
+    let new_path = c.args.asked.new.now in
     let once = sym c.names_twice.ensures ∙ c.if-names_twice.false in
     let told = c.in_err-texts.ensures.told tells in (
       told.0,
       told.1,
-      once_goes w end_of twice_text (diff_plan told.0 given old_path new_path (change_of (review_in c.args.review.now))) (names_twice given old_path new_path) c.from_residual.result once
-          (files_stopped texts_of end_of given w (given_files given told.0 given) (after_files told.0 old_path new_path (review_in c.args.review.now)) c.in_err-texts.field-0.0 c.from_residual.result told.2
+      once_goes w end_of twice_text (diff_plan told.0 given old_path new_path (change_of (review_in c.args.asked.review.now))) (names_twice given old_path new_path) c.from_residual.result once
+          (files_stopped texts_of end_of given w (given_files given told.0 given) (after_files told.0 old_path new_path (review_in c.args.asked.review.now)) c.in_err-texts.field-0.0 c.from_residual.result told.2
           c.from_residual.ensures.1),
     )
 
 pub returns-in_err-files-clause-follows : goal.returns-in_err-files-clause-follows
 returns-in_err-files-clause-follows g c = λ tells.
     let w = g.D.System.reads c.args.system.now in
-    let given = map string_bytes c.args.given.now in
-    let old_path = c.args.old_path.now in
-    let new_path = c.args.new_path.now in
+    let given = map string_bytes c.args.asked.devices.now in
+    let old_path = c.args.asked.old.now in
+    let new_path = c.args.asked.new.now in
     let once = sym c.names_twice.ensures ∙ c.if-names_twice.false in
-    let p = diff_plan (Err Memory) given old_path new_path (change_of (review_in c.args.review.now)) in (
+    let p = diff_plan (Err Memory) given old_path new_path (change_of (review_in c.args.asked.review.now)) in (
       Err Memory,
       tt,
       once_goes w end_of twice_text p (names_twice given old_path new_path) c.from_residual-in_err-files.result once
@@ -83,14 +83,14 @@ returns-clause-follows g c = λ tells.
     let w = g.D.System.reads c.args.system.now in
     let left = g.I.Source.left in
     let failures = g.I.Source.failures in
-    let given = map string_bytes c.args.given.now in
-    let old_path = c.args.old_path.now in
-    let new_path = c.args.new_path.now in
+    let given = map string_bytes c.args.asked.devices.now in
+    let old_path = c.args.asked.old.now in
+    let new_path = c.args.asked.new.now in
     let once = sym c.names_twice.ensures ∙ c.if-names_twice.false in
     let files = c.deref-2.result.now in
     let are = are_files files given _ (ap (map (λ f. f.path.now)) c.deref-2.ensures.value ∙ c.in_ok-files.ensures.paths)
     (ap (map (λ f. f.bytes.now)) c.deref-2.ensures.value ∙ c.in_ok-files.ensures.bytes ∙ ap (map (λ t. t.items)) c.deref.ensures.value) in
-    let say = change_of (review_in c.args.review.now) (map source_of files) in
+    let say = change_of (review_in c.args.asked.review.now) (map source_of files) in
     let plain = λ (dash : any_dash given ≡ true). no_dash given old_path new_path once dash in
     let told = files_told w texts_of end_of given old_path new_path say (left c.args.input.now) (left c.given_texts.new.input) (failures c.args.input.now) (failures c.given_texts.new.input)
     (failures c.compared.new.input) (Ok c.in_ok-texts.texts) c.compared.result plain (λ none. (ap left (c.in_ok-texts.ensures.unread none), ap failures (c.in_ok-texts.ensures.unread none)))
@@ -98,7 +98,7 @@ returns-clause-follows g c = λ tells.
     (c.compared.ensures.follows tells (one_dash given old_path new_path once)) in (
       told.0,
       told.1,
-      once_goes w end_of twice_text (diff_plan told.0 given old_path new_path (change_of (review_in c.args.review.now))) (names_twice given old_path new_path) c.compared.result once
-          (files_go texts_of end_of given w (given_files given told.0 given) (after_files told.0 old_path new_path (review_in c.args.review.now)) c.in_ok-texts.texts (map source_of files) c.compared.result
+      once_goes w end_of twice_text (diff_plan told.0 given old_path new_path (change_of (review_in c.args.asked.review.now))) (names_twice given old_path new_path) c.compared.result once
+          (files_go texts_of end_of given w (given_files given told.0 given) (after_files told.0 old_path new_path (review_in c.args.asked.review.now)) c.in_ok-texts.texts (map source_of files) c.compared.result
           told.2.0 are told.2.1),
     )

@@ -1,6 +1,10 @@
-use Rattle.std.proofs.Common.{◌≡◌, ◌∙◌, ◌∷◌, ap, inl, inr, ⊎_elim, List, None, Option, Some, Vec, Global, ℕ, []}
+use Rattle.std.proofs.Common.{◌≡◌, ◌∙◌, ◌∷◌, ap, false, inl, inr, subst, ⊎_elim, List, None, Option, Some, Vec, Global, ℕ, []}
+use Rattle.hwdb_spec.specs.Lines.{is, pieces}
+use Rattle.hwdb_spec_commands.specs.DeviceAsked.{no_device_text}
 use Rattle.std.specs.Option.{option_map_or}
-use Rattle.hwdb_spec_commands.specs.DeviceFound.{only, places_meant}
+use Rattle.hwdb_spec_commands.specs.DeviceFound.{near_given, only, places_meant}
+use Rattle.hwdb_spec_commands.specs.Refusals.{IsInWords}
+use Rattle.hwdb_exports.specs.declared.export.Export.{Export}
 use Rattle.hwdb_spec_commands.specs.Exports.{export_sight}
 use Rattle.hwdb_spec_program.specs.DeviceErrors.{asked_names}
 use Rattle.hwdb_tool.proofs.DeviceLemmas.{error_kept}
@@ -28,7 +32,16 @@ pub returns-clause-refused : goal.returns-clause-refused
 unfolding places
 returns-clause-refused c = λ unfound.
     let meant = places_meant (export_sight c.args.export.now.bytes.now) asked_names [] c.args.sys.now c.args.given.now in
-    inr (inl (none_meant meant c.in_ok-place.field-0 (c.in_ok-place.ensures.meant tt [] unfound) c.in-None.is, c.no_device.ensures.said tt))
+    let given = c.args.given.now in
+    let sysfs = c.for_rules-sysfs.result in
+    let sight = export_sight c.args.export.now.bytes.now in
+    let near = ap (λ (e : Export). near_given (export_sight e.bytes.now) (pieces (is 10) sysfs.names.now) sysfs.folder.now given) c.for_rules-sysfs.ensures.files
+    ∙ ap (λ names. near_given sight names sysfs.folder.now given) c.for_rules-sysfs.ensures.names
+    ∙ ap (λ folder. near_given sight asked_names folder given) c.for_rules-sysfs.ensures.folder in
+    inr (inl (
+      none_meant meant c.in_ok-place.field-0 (c.in_ok-place.ensures.meant tt [] unfound) c.in-None.is,
+      subst (λ (n : List ℕ). IsInWords (no_device_text false given [] n) c.no_device.result) near (c.no_device.ensures.said tt),
+    ))
 
 pub returns-in-Some-clause-found : goal.returns-in-Some-clause-found
 unfolding places
