@@ -242,17 +242,6 @@ is_text : (told truth : Option (List ℕ)) (other : List ℕ) → IsFollowed tol
 is_text None truth other h = tt
 is_text (Some text) truth other h = ap (λ (x : Option (List ℕ)). unwrap_or x other) h
 
-less_known : (k : Knowledge) (kind : TokenKind) (o : Option (List ℕ)) (own : List ℕ) (passes : Bool) (p q : Properties) → IsText o own
-    → IsEffect (known.effect_of k kind (Some own)) passes p q → IsEffect (known.effect_of k kind o) passes p q
-less_known k kind (Some text) own passes p q s h =
-    subst (λ (x : List ℕ). IsEffect (known.effect_of k kind (Some x)) passes p q) s h
-less_known k kind None own passes p q s h = by (known.imports kind) h
-  where
-    by : (c : Bool) → IsEffect (if c then known.import_of k kind own else known.plain_of kind) passes p q
-        → IsEffect (if c then known.anything else known.plain_of kind) passes p q
-    by true h = record { succeeds = tt; changes = λ name. opened name (p name) (q name) }
-    by false h = h
-
 known_so : (v : Option (List ℕ)) → Is (known.known_value v) v
 known_so None = refl
 known_so (Some text) = refl
@@ -327,14 +316,14 @@ effect_so : (k : Knowledge) (e : Event) (n : Turn) (p : Properties) (t : Token) 
 effect_so k e n p t cs h a = by (known.is_env t.kind) refl
   where
     by : (c : Bool) → known.is_env t.kind ≡ c
-        → IsEffect (if c then tell.env_effect cs t (text_told k cs t) else known.effect_of k t.kind (text_told k cs t)) (e.passes (real.moment e n) p t 0) p
+        → IsEffect (if c then tell.env_effect cs t (text_told k cs t) else known.effect_of k cs t (text_told k cs t)) (e.passes (real.moment e n) p t 0) p
         (if c then real.with_value p t.attribute (real.new_value e n p t) else e.sets (real.moment e n) p t)
     by true i = record {
       succeeds = tt;
       changes = λ name. env_so t.attribute name _ (real.new_value e n p t) (p name) (value_so k e n p t cs h a);
     }
     by false i =
-        less_known k t.kind (text_told k cs t) (real.text_at e n p t) (e.passes (real.moment e n) p t 0) p (e.sets (real.moment e n) p t) (text_is k e n cs p t h a) (h.effects e.parent n p t i)
+        h.effects e.parent n p cs t (text_told k cs t) i a (text_is k e n cs p t h a)
 
 turned_so : (o : Operator) (told : Option Bool) (succeeds : Bool) → Says told succeeds → Says (by_operator_told o told) (by_operator o succeeds)
 turned_so o None succeeds h = tt
@@ -345,20 +334,27 @@ plain_none Kinds.Tag = refl
 plain_none Kinds.Devlink = refl
 plain_none kind = refl
 
--- nothing is known of what is run if its text isn't
-effect_none : (k : Knowledge) (kind : TokenKind) → (known.effect_of k kind None).succeeds ≡ None
-effect_none k kind = by (known.imports kind)
+other_none : (kind : TokenKind) → (known.other_effect kind None).succeeds ≡ None
+other_none kind = by (known.imports kind)
   where
     by : (c : Bool) → (if c then known.anything else known.plain_of kind).succeeds ≡ None
     by true = refl
     by false = plain_none kind
 
+-- nothing is known of what is run if its text isn't
+effect_none : (k : Knowledge) (cs : List Change) (t : Token) → (known.effect_of k cs t None).succeeds ≡ None
+effect_none k cs t = by (known.is_command t.kind)
+  where
+    by : (c : Bool) → (if c then known.by_text None (k.commands t None cs) else known.other_effect t.kind None).succeeds ≡ None
+    by true = refl
+    by false = other_none t.kind
+
 unread_none : (k : Knowledge) (cs : List Change) (t : Token) → text_told k cs t ≡ None → (tell.effect_told k cs t).succeeds ≡ None
 unread_none k cs t e = by (known.is_env t.kind)
   where
-    by : (c : Bool) → (if c then tell.env_effect cs t (text_told k cs t) else known.effect_of k t.kind (text_told k cs t)).succeeds ≡ None
+    by : (c : Bool) → (if c then tell.env_effect cs t (text_told k cs t) else known.effect_of k cs t (text_told k cs t)).succeeds ≡ None
     by true = refl
-    by false = ap (λ (x : Option (List ℕ)). (known.effect_of k t.kind x).succeeds) e ∙ effect_none k t.kind
+    by false = ap (λ (x : Option (List ℕ)). (known.effect_of k cs t x).succeeds) e ∙ effect_none k cs t
 
 cut_so : (o : Operator) (text truth : Option (List ℕ)) (told : Option Bool) (cuts succeeds : Bool) → IsFollowed text truth → (text ≡ None → told ≡ None)
     → Says told succeeds → Says (by_operator_told o told) (if (if is_some truth then false else cuts) then false else by_operator o succeeds)
@@ -590,14 +586,6 @@ skipped_by true true (Some true) new before d e c = absurd (cc)
 skipped_by false true (Some true) new before d e c = tt
 skipped_by sure false r new before d e c = c
 
-import_same : (k : Knowledge) (c : Chosen) (kind : TokenKind) (text : List ℕ) → known.import_of (known.with_chosen k c) kind text ≡ known.import_of k kind text
-import_same k c Kinds.ImportBuiltin text = refl
-import_same k c Kinds.ImportProgram text = refl
-import_same k c Kinds.ImportDb text = refl
-import_same k c Kinds.ImportCmdline text = refl
-import_same k c Kinds.ImportParent text = refl
-import_same k c kind text = refl
-
 known_with : (k : Knowledge) (e : Event) (c : Chosen) (d : Option Device) → IsKnown k e → IsChosen c d → IsKnown (known.with_chosen k c) (real.with_parent e d)
 known_with k e c d h i = record {
   action = h.action;
@@ -606,10 +594,7 @@ known_with k e c d h i = record {
   parents = h.parents;
   parent = i;
   others = h.others;
-  effects = λ f n p t j.
-      subst (λ (x : Effect). IsEffect (if known.imports t.kind then x else known.plain_of t.kind) (e.passes (real.moment (real.with_parent e f) n) p t 0) p
-      (e.sets (real.moment (real.with_parent e f) n) p t))
-      (sym (import_same k c t.kind (real.text_at (real.with_parent e f) n p t))) (h.effects f n p t j);
+  effects = h.effects;
 }
 
 known_in_so : ParentsAreSo → (k : Knowledge) (e : Event) (n : Turn) (cs : List Change) (p : Properties) (l : RuleLine) → IsKnown k e → Agrees cs p

@@ -2,16 +2,15 @@
 use Rattle.std.specs.Prelude.{List, [], ◌∷◌, ◌++◌, Bool, true, false, if◌then◌else◌, ℕ, nat_le, codes, length, Option, Some, None}
 use Rattle.std.specs.List.{position_or_len}
 use Rattle.std.specs.Prelude.{take}
-use Rattle.std.specs.Str.{bytes_eq}
 use Rattle.hwdb_spec.specs.Lines.{byte, has, is_none}
-use Rattle.hwdb_rulefiles.specs.RuleTokens.{is_digit}
+use Rattle.hwdb_rulefiles.specs.RuleTokens.{Token, is_digit}
 use Rattle.hwdb_rulefiles.specs.declared.pairs.Operator.{Operator}
 use Rattle.hwdb_rulefiles.specs.declared.pairs.Operator.TheVariants.{Add}
 use Rattle.hwdb_rulefiles.specs.declared.tokens.TokenKind.{TokenKind}
 use Rattle.hwdb_rulefiles.specs.declared.tokens.TokenKind.TheVariants as Kinds
 use Rattle.hwdb_rulerun.specs.Matching.{is_wild}
 use Rattle.hwdb_rulerun.specs.Sights.{Entry, Known, Unknown, Missing, Text, Sight}
-use Rattle.hwdb_ruleevents.specs.Changes.{Change, Open}
+use Rattle.hwdb_ruleevents.specs.Changes.{Change, Open, by_sure}
 use Rattle.hwdb_ruleevents.specs.Parents.{Chosen}
 
 -- whether it succeeds, and what it changes
@@ -19,20 +18,18 @@ pub record Effect : Type 0 where
   pub succeeds : Option Bool
   pub changes : List Change
 
--- what is known of a command
-pub record Command : Type 0 where
-  pub text : List ℕ
-  pub succeeds : Option Bool
-  pub changes : List Change
+-- What is known of what builtins and programs do: by a token, the text of its command, if that is known, and what is known of properties
+-- before it.
+abbrev pub Commands : Type 0
+Commands = Token → (text : Option (List ℕ)) → List Change → Effect
 
--- what is known of a device, of the parent that a line chose, of attributes of other devices, by the texts in braces that name them, of builtins
--- and of programs
+-- what is known of a device, of the parent that a line chose, of attributes of other devices, by the texts in braces that name them, and of
+-- commands
 pub record Knowledge : Type 0 where
   pub sight : Sight
   pub parent : Chosen
   pub others : List Entry
-  pub builtins : List Command
-  pub programs : List Command
+  pub commands : Commands
 
 abbrev pub with_chosen : Knowledge → Chosen → Knowledge
 with_chosen k c = record k { parent = c }
@@ -45,13 +42,10 @@ anything = record { succeeds = None; changes = Open [] ∷ [] }
 abbrev pub nothing : Effect
 nothing = record { succeeds = None; changes = [] }
 
-abbrev pub effect_by : Command → Effect
-effect_by c = record { succeeds = c.succeeds; changes = c.changes }
-
--- the first command of this text counts
-abbrev pub effect_in : List Command → (text : List ℕ) → Effect
-effect_in [] text = anything
-effect_in (c ∷ more) text = if bytes_eq c.text text then effect_by c else effect_in more text
+-- A command whose text isn't known may be too long. Then it isn't run, and changes nothing.
+abbrev pub by_text : (text : Option (List ℕ)) → Effect → Effect
+by_text None effect = record { succeeds = None; changes = by_sure false effect.changes }
+by_text (Some text) effect = effect
 
 -- the part of a pattern before its first *, ? or [
 abbrev pub front : List ℕ → List ℕ
@@ -61,23 +55,28 @@ front pattern = take (position_or_len is_wild pattern) pattern
 abbrev pub opens : List ℕ → Effect
 opens start = record { succeeds = None; changes = Open start ∷ [] }
 
--- the effect of an import, by its text
-abbrev pub import_of : Knowledge → TokenKind → (text : List ℕ) → Effect
-import_of k Kinds.ImportBuiltin text = effect_in k.builtins text
-import_of k Kinds.ImportProgram text = effect_in k.programs text
-import_of k Kinds.ImportDb text = opens text
-import_of k Kinds.ImportCmdline text = opens text
-import_of k Kinds.ImportParent text = opens (front text)
-import_of k kind text = anything
+-- the effect of an import that runs nothing, by its text
+abbrev pub import_of : TokenKind → (text : List ℕ) → Effect
+import_of Kinds.ImportDb text = opens text
+import_of Kinds.ImportCmdline text = opens text
+import_of Kinds.ImportParent text = opens (front text)
+import_of kind text = anything
+
+abbrev pub import_told : TokenKind → (text : Option (List ℕ)) → Effect
+import_told kind None = anything
+import_told kind (Some text) = import_of kind text
 
 abbrev pub imports : TokenKind → Bool
-imports Kinds.ImportBuiltin = true
-imports Kinds.ImportProgram = true
 imports Kinds.ImportDb = true
 imports Kinds.ImportCmdline = true
 imports Kinds.ImportParent = true
 imports Kinds.ImportFile = true
 imports kind = false
+
+abbrev pub is_command : TokenKind → Bool
+is_command Kinds.ImportBuiltin = true
+is_command Kinds.ImportProgram = true
+is_command kind = false
 
 -- the effect of any other token: udev's own records change
 abbrev pub plain_of : TokenKind → Effect
@@ -85,13 +84,13 @@ plain_of Kinds.Tag = record { succeeds = None; changes = Open (codes "TAGS") ∷
 plain_of Kinds.Devlink = record { succeeds = None; changes = Open (codes "DEVLINKS") ∷ [] }
 plain_of kind = nothing
 
-abbrev pub import_told : Knowledge → TokenKind → Option (List ℕ) → Effect
-import_told k kind None = anything
-import_told k kind (Some text) = import_of k kind text
+-- the effect of a token that runs no command, and sets no property by ENV
+abbrev pub other_effect : TokenKind → (text : Option (List ℕ)) → Effect
+other_effect kind text = if imports kind then import_told kind text else plain_of kind
 
 -- the effect of a token that sets no property by ENV, by its text, if that is known
-abbrev pub effect_of : Knowledge → TokenKind → (text : Option (List ℕ)) → Effect
-effect_of k kind text = if imports kind then import_told k kind text else plain_of kind
+abbrev pub effect_of : Knowledge → List Change → Token → (text : Option (List ℕ)) → Effect
+effect_of k cs t text = if is_command t.kind then by_text text (k.commands t text cs) else other_effect t.kind text
 
 abbrev pub is_env : TokenKind → Bool
 is_env Kinds.Env = true

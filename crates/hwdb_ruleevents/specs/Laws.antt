@@ -15,13 +15,23 @@ pub record IsEffect (effect : Effect) (truth : Bool) (before after : Properties)
   pub succeeds : Says effect.succeeds truth
   pub changes : (name : List ℕ) → Becomes (said_in effect.changes name) (before name) (after name)
 
+-- a text that is told is so
+abbrev pub IsText : Option (List ℕ) → List ℕ → Type 0
+IsText None text = Unit {0}
+IsText (Some told) text = text ≡ told
+
 -- what is known of the effect of a token of an event is so
-abbrev pub IsEffectOf : Knowledge → Event → (at : Turn) → Properties → Token → Type 0
-IsEffectOf k e n p t =
-    IsEffect (effect_of k t.kind (Some (text_at e n p t))) (e.passes (moment e n) p t 0) p (e.sets (moment e n) p t)
+abbrev pub IsEffectOf : Knowledge → Event → (at : Turn) → Properties → List Change → Token → (text : Option (List ℕ)) → Type 0
+IsEffectOf k e n p cs t text = IsEffect (effect_of k cs t text) (e.passes (moment e n) p t 0) p (e.sets (moment e n) p t)
+
+-- what is known of the effects of tokens is so, by what is known of properties and of texts; the effect of ENV is followed
+abbrev pub AreEffects : Knowledge → Event → Type 0
+AreEffects k e =
+    (n : Turn) (p : Properties) (cs : List Change) (t : Token) (text : Option (List ℕ))
+    → is_env t.kind ≡ false → Agrees cs p → IsText text (text_at e n p t) → IsEffectOf k e n p cs t text
 
 -- All that is known is so: of the device, of the parent that a line chose, of other devices, and of each token that is run, whatever parent a line
--- chose. The effect of ENV is followed.
+-- chose.
 pub record IsKnown (k : Knowledge) (e : Event) : Type 0 where
   pub action : e.world.action ≡ k.sight.action
   pub path : e.world.path ≡ k.sight.path
@@ -29,12 +39,7 @@ pub record IsKnown (k : Knowledge) (e : Event) : Type 0 where
   pub parents : AreSeen k.sight.parents e.world.parents
   pub parent : IsChosen k.parent e.parent
   pub others : (argument : List ℕ) → Is (entry_of argument Unknown k.others) (e.other argument)
-  pub effects : (d : Option Device) (n : Turn) (p : Properties) (t : Token) → is_env t.kind ≡ false → IsEffectOf k (with_parent e d) n p t
-
--- a text that is told is so
-abbrev pub IsText : Option (List ℕ) → List ℕ → Type 0
-IsText None text = Unit {0}
-IsText (Some told) text = text ≡ told
+  pub effects : (d : Option Device) → AreEffects k (with_parent e d)
 
 -- a lookup is as it is told
 pub record Fits (t : Told) (x : Ask) : Type 0 where

@@ -1,7 +1,8 @@
 -- Worked rows: which lookups are told of the lines of rules, by hand from udev-rules.c (systemd 257). Texts are what `udevadm test` of systemd
 -- 252 runs, but for long commands, of which it runs some more.
-use Rattle.std.specs.Prelude.{List, [], ◌∷◌, ◌++◌, Bool, true, false, ℕ, codes, map, replicate, ◌≡◌, Option, Some, None}
+use Rattle.std.specs.Prelude.{List, [], ◌∷◌, ◌++◌, Bool, true, false, if◌then◌else◌, ℕ, codes, map, replicate, ◌≡◌, Option, Some, None}
 use Prim.Native.String.{String}
+use Rattle.std.specs.Str.{bytes_eq}
 use Rattle.hwdb_rulefiles.specs.RuleLines.{RuleLine}
 use Rattle.hwdb_rulefiles.specs.RuleFiles.{parsed}
 use Rattle.hwdb_rulerun.specs.Rows.{card}
@@ -9,8 +10,8 @@ use Rattle.hwdb_rulefiles.specs.declared.tokens.TokenKind.TheVariants as Kinds
 use Rattle.hwdb_rulerun.specs.Sights.{Missing, Sight, Unknown, Text}
 use Rattle.hwdb_ruleevents.specs.Texts as texts
 use Rattle.hwdb_ruleevents.specs.Texts.{Meaning, attribute_text, other_text, value_text}
-use Rattle.hwdb_ruleevents.specs.Changes.{Change, Put, Open}
-use Rattle.hwdb_ruleevents.specs.Effects.{Knowledge}
+use Rattle.hwdb_ruleevents.specs.Changes.{Change, Put}
+use Rattle.hwdb_ruleevents.specs.Effects.{Commands, Effect, Knowledge, anything, opens}
 use Rattle.hwdb_ruleevents.specs.Parents.{Nobody}
 use Rattle.hwdb_ruleevents.specs.Telling.{tell_files}
 
@@ -28,7 +29,18 @@ machine =
           ∷ [];
     }
 
--- what is known of a network interface: of two builtins, and of a program
+-- what is known of two builtins, and of a program; nothing of others
+abbrev pub command : (text : List ℕ) → Effect
+command text =
+    if bytes_eq text (codes "input_id") then record { succeeds = Some true; changes = Put (codes "ID_INPUT") (Text (codes "1")) ∷ [] } else
+    (if bytes_eq text (codes "hwdb --subsystem=net") then record { succeeds = Some false; changes = [] } else
+    (if bytes_eq text (codes "ata_id") then opens (codes "ID_ATA") else anything))
+
+abbrev pub commands : Commands
+commands t None cs = anything
+commands t (Some text) cs = command text
+
+-- what is known of a network interface
 abbrev pub known : Knowledge
 known =
     record {
@@ -38,11 +50,7 @@ known =
           record { name = codes "[dmi/id]modalias"; value = Text (codes "dmi:bvnLENOVO:pvrThinkPadT14:") }
           ∷ record { name = codes "[dmi/id]bios_date"; value = Missing }
           ∷ [];
-      builtins =
-          record { text = codes "input_id"; succeeds = Some true; changes = Put (codes "ID_INPUT") (Text (codes "1")) ∷ [] }
-          ∷ record { text = codes "hwdb --subsystem=net"; succeeds = Some false; changes = [] }
-          ∷ [];
-      programs = record { text = codes "ata_id"; succeeds = None; changes = Open (codes "ID_ATA") ∷ [] } ∷ [];
+      commands = commands;
     }
 
 -- its properties before any rule

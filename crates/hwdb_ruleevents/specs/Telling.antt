@@ -29,7 +29,7 @@ env_effect cs t text =
 
 -- the effect of a token, by the text of its value
 abbrev pub effect_by_text : Knowledge → List Change → Token → (text : Option (List ℕ)) → Effect
-effect_by_text k cs t text = if is_env t.kind then env_effect cs t text else effect_of k t.kind text
+effect_by_text k cs t text = if is_env t.kind then env_effect cs t text else effect_of k cs t text
 
 -- the effect of a token
 abbrev pub effect_told : Knowledge → List Change → Token → Effect

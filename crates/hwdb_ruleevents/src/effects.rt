@@ -1,60 +1,57 @@
 //! What is known of a token that is run.
-ghost use Rattle.std.specs.Prelude.{◌≡◌, ◌≤◌, ◌∷◌, [], length, take, map, not, nat_le, IfOk, Option};
+ghost use Rattle.std.specs.Prelude.{◌≡◌, ◌≤◌, ◌∷◌, [], length, take, map, not, nat_le, if◌then◌else◌, IfOk, List, Option};
 ghost use Rattle.std.specs.List.{list_any, position_or_len};
 ghost use Rattle.std.specs.Str.{bytes_eq};
 ghost use Rattle.hwdb_rulefiles.specs.RuleTokens;
 ghost use Rattle.hwdb_rulerun.specs.Matching;
 ghost use Rattle.hwdb_rulefiles.specs.PairViews.{value_view};
+ghost use Rattle.hwdb_rulefiles.specs.TokenViews.{token_of};
 ghost use Rattle.hwdb_rulerun.specs.Views.{known_of};
-ghost use Rattle.hwdb_ruleevents.specs.ChangeViews.{value_of};
+ghost use Rattle.hwdb_ruleevents.specs.ChangeViews.{held_of, value_of};
 ghost use Rattle.hwdb_ruleevents.specs.ParentViews.{chosen_of};
 ghost use Rattle.hwdb_ruleevents.specs.Effects;
-ghost use Rattle.hwdb_ruleevents.specs.EffectViews.{effect_view, command_of, knowledge_of};
+ghost use Rattle.hwdb_ruleevents.specs.EffectViews.{effect_view, knowledge_of};
 
-use crate::changes::{Change, Held, Value, all_held, value_for};
+use crate::changes::{Held, Value, put_all, value_for};
 use crate::parents::Parent;
-use hwdb_rulefiles::{Operator, TokenKind};
+use hwdb_rulefiles::{Operator, Token, TokenKind};
 use hwdb_rulerun::{Entry, Known, Sight, has_byte, is_wild};
 use std::alloc::{AllocError, Global};
 
-/// What is known of a command.
+/// What is known of a device and of others.
 #[derive(Clone, Copy, Debug)]
-pub struct Command<'a> {
-    /// Its text.
-    pub text: &'a [u8],
-    /// Whether it succeeds.
-    pub succeeds: Option<bool>,
-    /// What it changes.
-    pub changes: &'a [Change<'a>],
-}
-
-/// What is known of a device, of builtins and of programs.
-#[derive(Clone, Copy, Debug)]
-pub struct Knowledge<'a> {
+pub struct Facts<'a> {
     /// Of the device; its properties aren't looked at.
     pub sight: Sight<'a>,
     /// Of the parent that a line before these chose.
     pub parent: Parent<'a>,
     /// Of attributes of other devices, by the texts in braces that name them, as `[dmi/id]modalias`.
     pub others: &'a [Entry<'a>],
-    /// Of commands that udev has built in.
-    pub builtins: &'a [Command<'a>],
-    /// Of programs.
-    pub programs: &'a [Command<'a>],
 }
 
-impl<'a> Knowledge<'a> {
+/// What is known of a device, of others, and of commands.
+#[derive(Drop)]
+pub struct Knowledge<'a, C: Commands> {
+    /// Of the device and of others.
+    pub facts: Facts<'a>,
+    /// Of commands.
+    pub commands: &'a C,
+}
+
+impl<'a, C: Commands> Knowledge<'a, C> {
     /// The same, after a line chose this parent.
-    pub fn with_parent(&self, parent: Parent<'a>) -> Knowledge<'a>
-        ensures { knowledge_of result
-            ≡ Effects.with_chosen (knowledge_of self.now) (chosen_of parent.entry) }
+    pub fn with_parent(&self, parent: Parent<'a>) -> Knowledge<'a, C>
+        ensures { knowledge_of (C.known result.commands.now) result.facts ≡ Effects.with_chosen
+            (knowledge_of (C.known self.now.commands.now) self.now.facts)
+            (chosen_of parent.entry) }
     {
         Knowledge {
-            sight: self.sight,
-            parent,
-            others: self.others,
-            builtins: self.builtins,
-            programs: self.programs,
+            facts: Facts {
+                sight: self.facts.sight,
+                parent,
+                others: self.facts.others,
+            },
+            commands: self.commands,
         }
     }
 }
@@ -66,6 +63,27 @@ pub struct Effect {
     pub succeeds: Option<bool>,
     /// What it changes.
     pub changes: Vec<Held>,
+}
+
+/// What is known of what builtins and programs do.
+pub trait Commands {
+    /// What is known.
+    ghost known: { Self → Effects.Commands };
+
+    /// The effect of a token that runs a command: of its text, if that is known, and of what is known of properties before it.
+    ///
+    /// # Errors
+    ///
+    /// `AllocError` at any allocation that fails.
+    fn effect(
+        &self,
+        alloc: Global,
+        token: &Token,
+        text: &Option<Vec<u8>>,
+        changes: &[Held],
+    ) -> Result<Effect, AllocError>
+        ensures { IfOk result (λ e. effect_view e ≡ known self.now (token_of token.now)
+            (value_view text.now) (map held_of changes.now)) };
 }
 
 /// The names that begin so may be set.
@@ -97,30 +115,6 @@ fn nothing(alloc: Global) -> Effect
     }
 }
 
-/// The effect of a command that is known.
-fn effect_by(alloc: Global, command: Command<'_>) -> Result<Effect, AllocError>
-    ensures { IfOk result (λ e. effect_view e ≡ Effects.effect_by (command_of command.entry)) }
-{
-    let changes = all_held(alloc, command.changes)?;
-    Ok(Effect {
-        succeeds: command.succeeds,
-        changes,
-    })
-}
-
-/// The effect of a command; the first one with this text counts.
-fn effect_in(alloc: Global, commands: &[Command<'_>], text: &[u8]) -> Result<Effect, AllocError>
-    ensures { IfOk result (λ e. effect_view e
-        ≡ Effects.effect_in (map command_of commands.now) text.now) }
-{
-    for command in commands {
-        if command.text == text {
-            return effect_by(alloc, *command);
-        }
-    }
-    anything(alloc)
-}
-
 /// How long the part of a pattern is before its first *, ? or [.
 fn front_len(pattern: &[u8]) -> usize
     ensures value { result ≡ position_or_len Matching.is_wild pattern.now }
@@ -139,19 +133,11 @@ fn front(pattern: &[u8]) -> &[u8]
     &pattern[..front_len(pattern)]
 }
 
-/// The effect of an import.
-fn import_of(
-    alloc: Global,
-    knowledge: &Knowledge<'_>,
-    kind: TokenKind,
-    text: &[u8],
-) -> Result<Effect, AllocError>
-    ensures { IfOk result (λ e. effect_view e
-        ≡ Effects.import_of (knowledge_of knowledge.now) kind text.now) }
+/// The effect of an import that runs nothing.
+fn import_of(alloc: Global, kind: TokenKind, text: &[u8]) -> Result<Effect, AllocError>
+    ensures { IfOk result (λ e. effect_view e ≡ Effects.import_of kind text.now) }
 {
     match kind {
-        TokenKind::ImportBuiltin => effect_in(alloc, knowledge.builtins, text),
-        TokenKind::ImportProgram => effect_in(alloc, knowledge.programs, text),
         TokenKind::ImportDb => opens(alloc, text),
         TokenKind::ImportCmdline => opens(alloc, text),
         TokenKind::ImportParent => opens(alloc, front(text)),
@@ -159,17 +145,55 @@ fn import_of(
     }
 }
 
+/// The same, if its text is known.
+fn import_told(alloc: Global, kind: TokenKind, text: &Option<Vec<u8>>) -> Result<Effect, AllocError>
+    ensures { IfOk result (λ e. effect_view e
+        ≡ Effects.import_told kind (value_view text.now)) }
+{
+    match text {
+        None => anything(alloc),
+        Some(text) => import_of(alloc, kind, text),
+    }
+}
+
 fn imports(kind: TokenKind) -> bool
     ensures { result ≡ Effects.imports kind }
 {
     match kind {
-        TokenKind::ImportBuiltin
-        | TokenKind::ImportProgram
-        | TokenKind::ImportDb
+        TokenKind::ImportDb
         | TokenKind::ImportCmdline
         | TokenKind::ImportParent
         | TokenKind::ImportFile => true,
         _ => false,
+    }
+}
+
+/// Whether a token runs a command.
+fn is_command(kind: TokenKind) -> bool
+    ensures { result ≡ Effects.is_command kind }
+{
+    match kind {
+        TokenKind::ImportBuiltin => true,
+        TokenKind::ImportProgram => true,
+        _ => false,
+    }
+}
+
+/// A command whose text isn't known may not be run.
+fn by_text(alloc: Global, text: &Option<Vec<u8>>, effect: Effect) -> Result<Effect, AllocError>
+    ensures { IfOk result (λ e. effect_view e
+        ≡ Effects.by_text (value_view text.now) (effect_view effect)) }
+{
+    match text {
+        Some(_) => Ok(effect),
+        None => {
+            let mut changes = Vec::new(alloc);
+            put_all(alloc, &mut changes, false, effect.changes)?;
+            Ok(Effect {
+                succeeds: None,
+                changes,
+            })
+        }
     }
 }
 
@@ -189,23 +213,39 @@ fn plain_of(alloc: Global, kind: TokenKind) -> Result<Effect, AllocError>
     }
 }
 
-/// The effect of a token that sets no property by ENV, by its text, if that is known.
-pub fn effect_of(
+/// The effect of a token that runs no command, and sets no property by ENV.
+fn other_effect(
     alloc: Global,
-    knowledge: &Knowledge<'_>,
     kind: TokenKind,
     text: &Option<Vec<u8>>,
 ) -> Result<Effect, AllocError>
     ensures { IfOk result (λ e. effect_view e
-        ≡ Effects.effect_of (knowledge_of knowledge.now) kind (value_view text.now)) }
+        ≡ Effects.other_effect kind (value_view text.now)) }
 {
-    if !imports(kind) {
-        return plain_of(alloc, kind);
+    if imports(kind) {
+        return import_told(alloc, kind, text);
     }
-    match text {
-        None => anything(alloc),
-        Some(text) => import_of(alloc, knowledge, kind, text),
+    plain_of(alloc, kind)
+}
+
+/// The effect of a token that sets no property by ENV, by its text, if that is known.
+pub fn effect_of<C: Commands>(
+    alloc: Global,
+    commands: &C,
+    changes: &[Held],
+    token: &Token,
+    text: &Option<Vec<u8>>,
+) -> Result<Effect, AllocError>
+    ensures { IfOk result (λ e. effect_view e ≡ if Effects.is_command token.now.kind
+        then Effects.by_text (value_view text.now) (C.known commands.now (token_of token.now)
+        (value_view text.now) (map held_of changes.now))
+        else Effects.other_effect token.now.kind (value_view text.now)) }
+{
+    if is_command(token.kind) {
+        let effect = commands.effect(alloc, token, text, changes)?;
+        return by_text(alloc, text, effect);
     }
+    other_effect(alloc, token.kind, text)
 }
 
 pub fn is_env(kind: TokenKind) -> bool

@@ -16,7 +16,7 @@ ghost use Rattle.hwdb_ruleevents.specs.TellViews.{told_of, turn_of};
 ghost use Rattle.hwdb_ruleevents.specs.FileViews.{lines_of, progress_of, story_of, ways_of};
 
 use crate::changes::{Change, Held, all_held};
-use crate::effects::Knowledge;
+use crate::effects::{Commands, Knowledge};
 use crate::parents::Parent;
 use crate::telling::{Place, Told, known_after, tell_line};
 use hwdb_rulefiles::RuleLine;
@@ -146,14 +146,15 @@ fn jumped<'a>(
 }
 
 /// A line that some way comes to.
-fn tried<'a>(
+fn tried<'a, C: Commands>(
     alloc: Global,
-    knowledge: &Knowledge<'a>,
+    knowledge: &Knowledge<'a, C>,
     at: Place,
     progress: Progress<'a>,
     line: &'a RuleLine,
 ) -> Result<Progress<'a>, AllocError>
-    ensures { IfOk result (λ p. progress_of p ≡ Internal.tried (knowledge_of knowledge.now)
+    ensures { IfOk result (λ p. progress_of p ≡
+        Internal.tried (knowledge_of (C.known knowledge.now.commands.now) knowledge.now.facts)
         at.sure (turn_of at) (progress_of progress.entry) (line_of line.now)) }
 {
     let Progress { story, ways } = progress;
@@ -171,7 +172,7 @@ fn tried<'a>(
         story: Story {
             told,
             changes: tale.changes,
-            parent: after.parent,
+            parent: after.facts.parent,
         },
         ways,
     })
@@ -186,14 +187,15 @@ fn is_nobody(waiting: &[&[u8]]) -> bool
 }
 
 /// One more line.
-fn step<'a>(
+fn step<'a, C: Commands>(
     alloc: Global,
-    knowledge: &Knowledge<'a>,
+    knowledge: &Knowledge<'a, C>,
     place: (usize, usize),
     progress: Progress<'a>,
     line: &'a RuleLine,
 ) -> Result<Progress<'a>, AllocError>
-    ensures { IfOk result (λ p. progress_of p ≡ Internal.step (knowledge_of knowledge.now)
+    ensures { IfOk result (λ p. progress_of p ≡
+        Internal.step (knowledge_of (C.known knowledge.now.commands.now) knowledge.now.facts)
         (turn place.0 place.1) (progress_of progress.entry) (line_of line.now)) }
 {
     let Progress { story, ways } = progress;
@@ -211,15 +213,17 @@ fn step<'a>(
 
 /// What is told of the lines of a file.
 #[tactic(auto, using(crate::proofs::TellLemmas::line_on))]
-fn tell_lines<'a>(
+fn tell_lines<'a, C: Commands>(
     alloc: Global,
-    knowledge: &Knowledge<'a>,
+    knowledge: &Knowledge<'a, C>,
     file: usize,
     story: Story<'a>,
     lines: &'a [RuleLine],
 ) -> Result<Story<'a>, AllocError>
     ensures { IfOk result (λ s. story_of s ≡ Telling.story_before (story_of story.entry).told
-        (Telling.tell_lines (with_chosen (knowledge_of knowledge.now) (story_of story.entry).parent)
+        (Telling.tell_lines (with_chosen
+        (knowledge_of (C.known knowledge.now.commands.now) knowledge.now.facts)
+        (story_of story.entry).parent)
         file 0 (story_of story.entry).changes Telling.start (map line_of lines.now))) }
 {
     let mut progress = Progress {
@@ -241,20 +245,21 @@ fn tell_lines<'a>(
 ///
 /// `AllocError` at any allocation that fails.
 #[tactic(auto, using(crate::proofs::TellLemmas::file_on))]
-pub fn tell_files<'a>(
+pub fn tell_files<'a, C: Commands>(
     alloc: Global,
-    knowledge: &Knowledge<'a>,
+    knowledge: &Knowledge<'a, C>,
     changes: &[Change<'_>],
     files: &[&'a [RuleLine]],
 ) -> Result<Vec<Told<'a>>, AllocError>
     ensures { IfOk result (λ all. map told_of all.items ≡ Telling.tell_files
-        (knowledge_of knowledge.now) 0 (map change_of changes.now)
+        (knowledge_of (C.known knowledge.now.commands.now) knowledge.now.facts)
+        0 (map change_of changes.now)
         (map lines_of files.now)) }
 {
     let mut story = Story {
         told: Vec::new(alloc),
         changes: all_held(alloc, changes)?,
-        parent: knowledge.parent,
+        parent: knowledge.facts.parent,
     };
     for (number, lines) in files.iter().enumerate() {
         story = tell_lines(alloc, knowledge, number, story, lines)?;

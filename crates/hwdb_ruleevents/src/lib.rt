@@ -23,12 +23,13 @@ mod telling;
 mod texts;
 mod values;
 
-pub use changes::Change;
-pub use effects::{Command, Knowledge};
+pub use changes::{Change, Held, Value, value_in};
+pub use effects::{Commands, Effect, Facts, Knowledge, is_env};
 pub use files::tell_files;
 pub use laws::{
     events_are_covered, events_are_exact, jump_rows, parent_rows, property_rows, text_rows,
     written_rows,
 };
 pub use parents::Parent;
+pub use pieces::{Piece, Variable, pieces_of};
 pub use telling::Told;

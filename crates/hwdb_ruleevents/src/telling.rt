@@ -15,7 +15,7 @@ ghost use Rattle.hwdb_ruleevents.specs.EffectViews.{effect_view, knowledge_of};
 ghost use Rattle.hwdb_ruleevents.specs.TellViews.{turn_of, told_of, tale_of};
 
 use crate::changes::{Held, put_all, value_in};
-use crate::effects::{Effect, Knowledge, assigned_told, effect_of, is_env};
+use crate::effects::{Commands, Effect, Knowledge, assigned_told, effect_of, is_env};
 use crate::parents::{Parent, by_reached, first_tokens, is_for_all, parent_told};
 use crate::texts::text_told;
 use hwdb_rulefiles::{Operator, RuleLine, Token, TokenKind};
@@ -149,56 +149,69 @@ fn holds(
 }
 
 /// What is known when the tokens of a line are run.
-fn known_in<'a>(
+fn known_in<'a, C: Commands>(
     alloc: Global,
-    knowledge: &Knowledge<'a>,
+    knowledge: &Knowledge<'a, C>,
     changes: &[Held],
     line: &RuleLine,
-) -> Result<Knowledge<'a>, AllocError>
-    ensures { IfOk result (λ k. knowledge_of k ≡ Telling.known_in (knowledge_of knowledge.now)
+) -> Result<Knowledge<'a, C>, AllocError>
+    ensures { IfOk result (λ k. knowledge_of (C.known k.commands.now) k.facts ≡
+        Telling.known_in (knowledge_of (C.known knowledge.now.commands.now) knowledge.now.facts)
         (map held_of changes.now) (line_of line.now)) }
 {
-    let parent = parent_told(alloc, &knowledge.sight, &line.tokens, knowledge.parent)?;
+    let parent = parent_told(
+        alloc,
+        &knowledge.facts.sight,
+        &line.tokens,
+        knowledge.facts.parent,
+    )?;
     Ok(knowledge.with_parent(parent))
 }
 
 /// The parent after a line that is tried, or may be tried.
-fn parent_after<'a>(
+fn parent_after<'a, C: Commands>(
     alloc: Global,
     sure: bool,
-    knowledge: &Knowledge<'a>,
+    knowledge: &Knowledge<'a, C>,
     changes: &[Held],
     tokens: &[Token],
 ) -> Result<Parent<'a>, AllocError>
     ensures { IfOk result (λ p. chosen_of p ≡ Parents.parent_after_told sure
-        (Telling.sight_at (knowledge_of knowledge.now).sight (map held_of changes.now)
+        (Telling.sight_at (sight_of knowledge.now.facts.sight) (map held_of changes.now)
         (map token_of tokens.now))
-        (map token_of tokens.now) (knowledge_of knowledge.now).parent) }
+        (map token_of tokens.now) (chosen_of knowledge.now.facts.parent)) }
 {
     if !has_parents(tokens) {
-        return Ok(knowledge.parent);
+        return Ok(knowledge.facts.parent);
     }
     let reached = holds(
         alloc,
-        &knowledge.sight,
+        &knowledge.facts.sight,
         changes,
         tokens,
         first_tokens(tokens),
     )?;
-    let new = parent_told(alloc, &knowledge.sight, tokens, knowledge.parent)?;
-    Ok(by_reached(sure, reached, new, knowledge.parent))
+    let new = parent_told(
+        alloc,
+        &knowledge.facts.sight,
+        tokens,
+        knowledge.facts.parent,
+    )?;
+    Ok(by_reached(sure, reached, new, knowledge.facts.parent))
 }
 
 /// What is known after a line that is tried, or may be tried.
-pub fn known_after<'a>(
+pub fn known_after<'a, C: Commands>(
     alloc: Global,
     sure: bool,
-    knowledge: &Knowledge<'a>,
+    knowledge: &Knowledge<'a, C>,
     changes: &[Held],
     line: &RuleLine,
-) -> Result<Knowledge<'a>, AllocError>
-    ensures { IfOk result (λ k. knowledge_of k
-        ≡ Telling.known_after sure (knowledge_of knowledge.now) (map held_of changes.now)
+) -> Result<Knowledge<'a, C>, AllocError>
+    ensures { IfOk result (λ k. knowledge_of (C.known k.commands.now) k.facts
+        ≡ Telling.known_after sure
+        (knowledge_of (C.known knowledge.now.commands.now) knowledge.now.facts)
+        (map held_of changes.now)
         (line_of line.now)) }
 {
     let sure = if is_for_all(line) { sure } else { false };
@@ -228,21 +241,22 @@ fn env_effect(
 }
 
 /// The effect of a token, by the text of its value.
-fn effect_by_text(
+fn effect_by_text<C: Commands>(
     alloc: Global,
-    knowledge: &Knowledge<'_>,
+    knowledge: &Knowledge<'_, C>,
     changes: &[Held],
     token: &Token,
     text: &Option<Vec<u8>>,
 ) -> Result<Effect, AllocError>
     ensures { IfOk result (λ e. effect_view e
-        ≡ Telling.effect_by_text (knowledge_of knowledge.now) (map held_of changes.now)
-        (token_of token.now) (value_view text.now)) }
+        ≡ Telling.effect_by_text
+        (knowledge_of (C.known knowledge.now.commands.now) knowledge.now.facts)
+        (map held_of changes.now) (token_of token.now) (value_view text.now)) }
 {
     if is_env(token.kind) {
         return env_effect(alloc, changes, token, text);
     }
-    effect_of(alloc, knowledge, token.kind, text)
+    effect_of(alloc, knowledge.commands, changes, token, text)
 }
 
 /// Whether a line goes on after something that succeeds, or not.
@@ -288,19 +302,21 @@ impl<'a> Tale<'a> {
     }
 
     /// A token is run, or may be run. Gives whether it is passed.
-    fn run(
+    fn run<C: Commands>(
         &mut self,
         alloc: Global,
-        knowledge: &Knowledge<'a>,
+        knowledge: &Knowledge<'a, C>,
         at: Place,
         token: &'a Token,
     ) -> Result<Option<bool>, AllocError>
         ensures tale { OnOk result (tale_of self.new ≡ Telling.run_in
-            (knowledge_of knowledge.now) at.sure (turn_of at) (tale_of self.old)
+            (knowledge_of (C.known knowledge.now.commands.now) knowledge.now.facts)
+            at.sure (turn_of at) (tale_of self.old)
             (token_of token.now)) }
         ensures passes { IfOk result (λ passes. passes ≡ Telling.passes_told (token_of token.now)
-            (Telling.effect_told (knowledge_of knowledge.now) (tale_of self.old).changes
-            (token_of token.now))) }
+            (Telling.effect_told
+            (knowledge_of (C.known knowledge.now.commands.now) knowledge.now.facts)
+            (tale_of self.old).changes (token_of token.now))) }
     {
         let text = text_told(alloc, knowledge, &self.changes, token)?;
         let effect = effect_by_text(alloc, knowledge, &self.changes, token, &text)?;
@@ -314,15 +330,17 @@ impl<'a> Tale<'a> {
 
 /// Tokens that run, or that may run.
 #[tactic(auto, using(crate::proofs::TellLemmas::goes_on, crate::proofs::TellLemmas::stops, crate::proofs::TellLemmas::no_token))]
-fn tell_tokens<'a>(
+fn tell_tokens<'a, C: Commands>(
     alloc: Global,
-    knowledge: &Knowledge<'a>,
+    knowledge: &Knowledge<'a, C>,
     at: Place,
     changes: Vec<Held>,
     tokens: &'a [Token],
 ) -> Result<Tale<'a>, AllocError>
     ensures { IfOk result (λ tale. tale_of tale
-        ≡ Telling.tell_tokens (knowledge_of knowledge.now) at.sure (turn_of at)
+        ≡
+        Telling.tell_tokens (knowledge_of (C.known knowledge.now.commands.now) knowledge.now.facts)
+        at.sure (turn_of at)
         (map held_of changes.items) (map token_of tokens.now)) }
 {
     let mut tale = Tale::new(alloc, changes);
@@ -350,15 +368,16 @@ fn ended<'a>(alloc: Global, changes: Vec<Held>) -> Tale<'a>
 }
 
 /// A line whose conditions hold, or may hold, or don't.
-fn tell_by<'a>(
+fn tell_by<'a, C: Commands>(
     alloc: Global,
-    knowledge: &Knowledge<'a>,
+    knowledge: &Knowledge<'a, C>,
     at: Place,
     tale: (Option<bool>, Vec<Held>),
     tokens: &'a [Token],
 ) -> Result<Tale<'a>, AllocError>
     ensures { IfOk result (λ t. tale_of t
-        ≡ Telling.tell_by tale.0 (knowledge_of knowledge.now) at.sure (turn_of at)
+        ≡ Telling.tell_by tale.0
+        (knowledge_of (C.known knowledge.now.commands.now) knowledge.now.facts) at.sure (turn_of at)
         (map held_of tale.1.items) (map token_of tokens.now)) }
 {
     let (holds, changes) = tale;
@@ -374,19 +393,20 @@ fn tell_by<'a>(
 }
 
 /// A line that is tried, or that may be tried.
-pub fn tell_line<'a>(
+pub fn tell_line<'a, C: Commands>(
     alloc: Global,
-    knowledge: &Knowledge<'a>,
+    knowledge: &Knowledge<'a, C>,
     at: Place,
     changes: Vec<Held>,
     line: &'a RuleLine,
 ) -> Result<Tale<'a>, AllocError>
-    ensures { IfOk result (λ tale. tale_of tale ≡ Telling.tell_line (knowledge_of knowledge.now)
+    ensures { IfOk result (λ tale. tale_of tale ≡
+        Telling.tell_line (knowledge_of (C.known knowledge.now.commands.now) knowledge.now.facts)
         at.sure (turn_of at) (map held_of changes.items) (line_of line.now)) }
 {
     let holds = holds(
         alloc,
-        &knowledge.sight,
+        &knowledge.facts.sight,
         &changes,
         &line.tokens,
         &line.tokens,

@@ -14,7 +14,7 @@ ghost use Rattle.hwdb_ruleevents.specs.PieceViews.{piece_of};
 ghost use Rattle.hwdb_ruleevents.specs.Internal.{if_known};
 
 use crate::changes::{Held, value_in};
-use crate::effects::{Knowledge, is_digit, is_env};
+use crate::effects::{Commands, Knowledge, is_digit, is_env};
 use crate::parents::Parent;
 use crate::pieces::{Piece, Variable, pieces_of};
 use crate::values::{first, push_written};
@@ -102,32 +102,38 @@ fn parent_driver_told(alloc: Global, parent: &Parent<'_>) -> Result<Option<Vec<u
 }
 
 /// An attribute of the device, or else of the parent.
-fn own_told(
+fn own_told<C: Commands>(
     alloc: Global,
-    knowledge: &Knowledge<'_>,
+    knowledge: &Knowledge<'_, C>,
     name: &[u8],
 ) -> Result<Option<Vec<u8>>, AllocError>
     ensures { IfOk result (λ t. value_view t
-        ≡ Texts.own_told (attribute_in (knowledge_of knowledge.now).sight.own name.now)
-        (Texts.parent_attribute_told (knowledge_of knowledge.now).parent name.now)) }
+        ≡ Texts.own_told (attribute_in
+        (knowledge_of (C.known knowledge.now.commands.now) knowledge.now.facts).sight.own name.now)
+        (Texts.parent_attribute_told
+        (knowledge_of (C.known knowledge.now.commands.now) knowledge.now.facts).parent name.now)) }
 {
-    match attribute_of(&knowledge.sight.own, name) {
+    match attribute_of(&knowledge.facts.sight.own, name) {
         Known::Unknown => Ok(None),
-        Known::Missing => parent_attribute_told(alloc, &knowledge.parent, name),
+        Known::Missing => parent_attribute_told(alloc, &knowledge.facts.parent, name),
         Known::Text(text) => attribute_text(alloc, text),
     }
 }
 
-fn attribute_told(
+fn attribute_told<C: Commands>(
     alloc: Global,
-    knowledge: &Knowledge<'_>,
+    knowledge: &Knowledge<'_, C>,
     argument: &[u8],
 ) -> Result<Option<Vec<u8>>, AllocError>
     ensures { IfOk result (λ t. value_view t
-        ≡ Texts.attribute_told (knowledge_of knowledge.now) argument.now) }
+        ≡ Texts.attribute_told
+        (knowledge_of (C.known knowledge.now.commands.now) knowledge.now.facts) argument.now) }
 {
     if begins_with(b'[', argument) {
-        return other_told(alloc, entry_of(argument, Known::Unknown, knowledge.others));
+        return other_told(
+            alloc,
+            entry_of(argument, Known::Unknown, knowledge.facts.others),
+        );
     }
     own_told(alloc, knowledge, argument)
 }
@@ -179,24 +185,25 @@ fn number(name: &[u8]) -> &[u8]
 }
 
 /// The text that a variable stands for.
-fn meaning_told(
+fn meaning_told<C: Commands>(
     alloc: Global,
-    knowledge: &Knowledge<'_>,
+    knowledge: &Knowledge<'_, C>,
     changes: &[Held],
     variable: Variable,
     argument: &[u8],
 ) -> Result<Option<Vec<u8>>, AllocError>
-    ensures { IfOk result (λ t. value_view t ≡ Texts.meaning_told (knowledge_of knowledge.now)
+    ensures { IfOk result (λ t. value_view t ≡ Texts.meaning_told
+        (knowledge_of (C.known knowledge.now.commands.now) knowledge.now.facts)
         (map held_of changes.now) variable argument.now) }
 {
     match variable {
-        Variable::Kernel => own(alloc, knowledge.sight.own.name),
-        Variable::Number => own(alloc, number(knowledge.sight.own.name)),
-        Variable::Devpath => own(alloc, knowledge.sight.path),
+        Variable::Kernel => own(alloc, knowledge.facts.sight.own.name),
+        Variable::Number => own(alloc, number(knowledge.facts.sight.own.name)),
+        Variable::Devpath => own(alloc, knowledge.facts.sight.path),
         Variable::Env => known_text(alloc, value_in(changes, argument)),
         Variable::Attr => attribute_told(alloc, knowledge, argument),
-        Variable::Id => parent_name_told(alloc, &knowledge.parent),
-        Variable::Driver => parent_driver_told(alloc, &knowledge.parent),
+        Variable::Id => parent_name_told(alloc, &knowledge.facts.parent),
+        Variable::Driver => parent_driver_told(alloc, &knowledge.facts.parent),
         Variable::Root => own(alloc, b"/dev"),
         Variable::Sys => own(alloc, b"/sys"),
         _ => Ok(None),
@@ -218,15 +225,16 @@ fn push_known(out: &mut Vec<u8>, text: Option<Vec<u8>>) -> Result<bool, AllocErr
 }
 
 /// Adds the text of a piece, if it is known. Gives whether it is.
-fn push_piece(
+fn push_piece<C: Commands>(
     alloc: Global,
-    knowledge: &Knowledge<'_>,
+    knowledge: &Knowledge<'_, C>,
     changes: &[Held],
     out: &mut Vec<u8>,
     piece: Piece<'_>,
 ) -> Result<bool, AllocError>
     ensures { IfOk result (λ known. if_known known out.new.items
-        ≡ onto out.old.items (Texts.piece_text (Texts.meaning_told (knowledge_of knowledge.now)
+        ≡ onto out.old.items (Texts.piece_text (Texts.meaning_told
+        (knowledge_of (C.known knowledge.now.commands.now) knowledge.now.facts)
         (map held_of changes.now)) (piece_of piece.entry))) }
 {
     match piece {
@@ -243,14 +251,15 @@ fn push_piece(
 
 /// The text of pieces, if it is known.
 #[tactic(auto, using(crate::proofs::TextLemmas::one_piece))]
-fn text_of(
+fn text_of<C: Commands>(
     alloc: Global,
-    knowledge: &Knowledge<'_>,
+    knowledge: &Knowledge<'_, C>,
     changes: &[Held],
     pieces: &[Piece<'_>],
 ) -> Result<Option<Vec<u8>>, AllocError>
     ensures { IfOk result (λ t. value_view t
-        ≡ Texts.text_of (Texts.meaning_told (knowledge_of knowledge.now)
+        ≡ Texts.text_of (Texts.meaning_told
+        (knowledge_of (C.known knowledge.now.commands.now) knowledge.now.facts)
         (map held_of changes.now)) (map piece_of pieces.now)) }
 {
     let mut out = Vec::new(alloc);
@@ -289,13 +298,14 @@ fn is_verbatim(kind: TokenKind) -> bool
 }
 
 /// The text of a token's value, if it is known.
-pub fn text_told(
+pub fn text_told<C: Commands>(
     alloc: Global,
-    knowledge: &Knowledge<'_>,
+    knowledge: &Knowledge<'_, C>,
     changes: &[Held],
     token: &Token,
 ) -> Result<Option<Vec<u8>>, AllocError>
-    ensures { IfOk result (λ t. value_view t ≡ Texts.text_told (knowledge_of knowledge.now)
+    ensures { IfOk result (λ t. value_view t ≡ Texts.text_told
+        (knowledge_of (C.known knowledge.now.commands.now) knowledge.now.facts)
         (map held_of changes.now) (token_of token.now)) }
 {
     if is_verbatim(token.kind) {

@@ -204,7 +204,7 @@ fn attribute_compared(
 }
 
 /// Whether an attribute is named as it is.
-fn is_plain(name: &[u8]) -> bool
+pub fn is_plain(name: &[u8]) -> bool
     ensures { result ≡ Conditions.is_plain name.now }
 {
     if begins_with(b'[', name) {

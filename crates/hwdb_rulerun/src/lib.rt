@@ -20,7 +20,8 @@ mod sights;
 pub use asking::{Asked, is_lookup, lookups, runs};
 pub use causes::cause;
 pub use conditions::{
-    ATTRIBUTE_SIZE, all_of, and_then, by_operator_told, has_parents, is_parents, line_told,
+    ATTRIBUTE_SIZE, all_of, and_then, by_operator_told, has_parents, is_parents, is_plain,
+    line_told,
 };
 pub use laws::{
     cause_is_there, condition_rows, lookup_rows, lookups_are_covered, match_rows, parents_are_so,

@@ -10,9 +10,9 @@ use Rattle.hwdb_ruleevents.proofs.TellLemmas.{step_on}
 use Rattle.hwdb_ruleevents.proofs.files.step.Goals as goal
 
 pub returns : goal.returns
-returns c =
+returns g c =
     IfOk-weaker c.tried.result _ _
-    (λ p e. step_on (knowledge_of c.args.knowledge.now) (turn c.args.place.0 c.args.place.1) (progress_of c.args.progress) (progress_of p) (line_of c.args.line.now)
+    (λ p e. step_on (knowledge_of (g.C.Commands.known c.args.knowledge.now.commands.now) c.args.knowledge.now.facts) (turn c.args.place.0 c.args.place.1) (progress_of c.args.progress) (progress_of p) (line_of c.args.line.now)
     (ways_of c.in_ok-ways.ways) c.is_nobody.result c.in_ok-ways.ensures c.if-not-ways.false
     (c.is_nobody.ensures ∙ ap (λ names. is_none (map text_of names)) c.deref.ensures.value) e)
     c.tried.ensures

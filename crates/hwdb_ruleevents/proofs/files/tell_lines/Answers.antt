@@ -8,8 +8,8 @@ use Rattle.hwdb_ruleevents.proofs.TellLemmas.{from_here, line_on}
 use Rattle.hwdb_ruleevents.proofs.files.tell_lines.Goals as goal
 
 pub loop-number-preserved : goal.loop-number-preserved
-loop-number-preserved c =
-    let k = knowledge_of c.args.knowledge.now in
+loop-number-preserved g c =
+    let k = knowledge_of (g.C.Commands.known c.args.knowledge.now.commands.now) c.args.knowledge.now.facts in
     let p = progress_of c.loop-number.progress in
     line_on k c.args.file c.loop-number.number p (progress_of c.in_ok-progress.progress) (line_of c.index-lines-number.result)
     (map line_of (drop (c.loop-number.number + 1) c.args.lines.now)) c.in_ok-progress.ensures

@@ -8,6 +8,6 @@ use Rattle.hwdb_ruleevents.specs.Telling.{story_before, tell_lines, start}
 use Rattle.hwdb_ruleevents.proofs.files.tell_lines.Given as goal
 
 abbrev pub invariant-loop-number : goal.invariant-loop-number
-invariant-loop-number l =
-    lines_from (knowledge_of l.knowledge) l.file l.number (progress_of l.progress) (map line_of (drop l.number l.lines))
-    ≡ story_before (story_of l.fn.story).told (tell_lines (with_chosen (knowledge_of l.knowledge) (story_of l.fn.story).parent) l.file 0 (story_of l.fn.story).changes start (map line_of l.lines))
+invariant-loop-number g l =
+    lines_from (knowledge_of (g.C.Commands.known l.knowledge.commands.now) l.knowledge.facts) l.file l.number (progress_of l.progress) (map line_of (drop l.number l.lines))
+    ≡ story_before (story_of l.fn.story).told (tell_lines (with_chosen (knowledge_of (g.C.Commands.known l.knowledge.commands.now) l.knowledge.facts) (story_of l.fn.story).parent) l.file 0 (story_of l.fn.story).changes start (map line_of l.lines))
