@@ -1,0 +1,4 @@
+pub mod ComputedRows
+pub mod LookupLemmas
+pub mod NameLemmas
+pub mod WordLemmas

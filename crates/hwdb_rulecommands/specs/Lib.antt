@@ -1,0 +1,7 @@
+pub mod CommandWords
+pub mod LookupCommands
+pub mod Builtins
+pub mod Settable
+pub mod Views
+pub mod Laws
+pub mod Rows
