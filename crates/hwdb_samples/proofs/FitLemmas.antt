@@ -1,5 +1,5 @@
 -- The first of some texts that shows a change.
-use Rattle.std.proofs.Common.{◌≡◌, ◌∙◌, ap, sym, refl, subst, ℕ, Bool, true, false, cond, List, [], ◌∷◌, ◌++◌, codes, Option, Some, None, inl, inr}
+use Rattle.std.proofs.Common.{◌≡◌, ◌∙◌, ap, sym, refl, subst, ℕ, Bool, true, false, cond, List, [], ◌∷◌, ◌++◌, Option, Some, None, inl, inr, ◌⊎◌}
 use Rattle.std.specs.Prelude.{Err, IfOk, Ok, Result, Vec, find}
 use Rattle.std.specs.declared.alloc.Global.{Global}
 use Rattle.hwdb_spec.specs.Forms.{HasOneOf}
@@ -7,8 +7,7 @@ use Rattle.hwdb_spec.specs.Patterns.{tokens}
 use Rattle.hwdb_spec_commands.specs.FormTable.{asked}
 use Rattle.hwdb_spec_commands.specs.FormTexts.{filled, text_among}
 use Rattle.hwdb_spec_commands.specs.SampleRules.{RuleTexts}
-use Rattle.hwdb_spec_commands.specs.SampleTexts.{text_of}
-use Rattle.hwdb_spec_commands.specs.SamplesFound.{shows, some_text}
+use Rattle.hwdb_spec_commands.specs.SamplesFound.{is_long, plain_texts, shows, some_text, texts_to_try}
 use Rattle.hwdb_forms.specs.Laws.{TextsFit}
 use Rattle.hwdb_samples.specs.Laws.{SamplesFit, ShortestIsSample}
 use Rattle.hwdb_samples.specs.Views.{device_in}
@@ -55,7 +54,7 @@ module _ (old new : List RuleTexts) (pattern : List ℕ) where
   Passes text = shows old new pattern text
 
   abbrev Plain : List (List ℕ)
-  Plain = text_of [] pattern ∷ text_of (codes "0") pattern ∷ []
+  Plain = plain_texts pattern
 
   abbrev Sampled : List (List ℕ) → Type 0
   Sampled texts = (device : List ℕ) × (find Passes texts ≡ Some device) × Fits device
@@ -72,17 +71,33 @@ module _ (old new : List RuleTexts) (pattern : List ℕ) where
       by_first true k = (x, found_head Passes x rest true k, f x refl)
       by_first false k = (s.0, found_head Passes x rest false k ∙ s.1, s.2)
 
+  abbrev Asked : List (List ℕ)
+  Asked = some_text (text_among asked (tokens pattern)) ++ (some_text (text_among asked (filled (tokens pattern))) ++ Plain)
+
+  -- the texts to try of a pattern that isn't long
+  tried : is_long (tokens pattern) ≡ false → texts_to_try pattern ≡ Asked
+  tried e = ap (λ (b : Bool). cond b Plain Asked) e
+
+  pub fitting : TextsFit → (text : List ℕ) → (text_among asked (tokens pattern) ≡ Some text) ⊎ (text_among asked (filled (tokens pattern)) ≡ Some text) → Passes text ≡ true → Sampled Asked
+  fitting t text (inl e) s =
+      here t (text_among asked (tokens pattern)) text (some_text (text_among asked (filled (tokens pattern))) ++ Plain) (λ x k. (t asked (tokens pattern) x k).0) e s
+  fitting t text (inr e) s =
+      there (text_among asked (tokens pattern)) (some_text (text_among asked (filled (tokens pattern))) ++ Plain) (λ x k. (t asked (tokens pattern) x k).0)
+      (here t (text_among asked (filled (tokens pattern))) text Plain (λ x k. (t asked (filled (tokens pattern)) x k).0) e s)
+
+  pub fitted : is_long (tokens pattern) ≡ false → Sampled Asked → Sampled (texts_to_try pattern)
+  fitted e s = subst Sampled (sym (tried e)) s
+
+  pub first_found : is_long (tokens pattern) ≡ false → (text : List ℕ) → text_among asked (tokens pattern) ≡ Some text → Passes text ≡ true → find Passes (texts_to_try pattern) ≡ Some text
+  first_found e text k s =
+      ap (find Passes) (tried e) ∙ ap (λ (o : Option (List ℕ)). find Passes (some_text o ++ (some_text (text_among asked (filled (tokens pattern))) ++ Plain))) k
+      ∙ found_head Passes text (some_text (text_among asked (filled (tokens pattern))) ++ Plain) true s
+
 pub samples_fit : TextsFit → SamplesFit
-samples_fit t old new pattern text (inl e) s =
-    here old new pattern t (text_among asked (tokens pattern)) text (some_text (text_among asked (filled (tokens pattern))) ++ Plain old new pattern) (λ x k. (t asked (tokens pattern) x k).0) e s
-samples_fit t old new pattern text (inr e) s =
-    there old new pattern (text_among asked (tokens pattern)) (some_text (text_among asked (filled (tokens pattern))) ++ Plain old new pattern) (λ x k. (t asked (tokens pattern) x k).0)
-    (here old new pattern t (text_among asked (filled (tokens pattern))) text (Plain old new pattern) (λ x k. (t asked (filled (tokens pattern)) x k).0) e s)
+samples_fit t old new pattern text short has s = fitted old new pattern short (fitting old new pattern t text has s)
 
 pub shortest_is_sample : ShortestIsSample
-shortest_is_sample old new pattern text e s =
-    ap (λ (o : Option (List ℕ)). find (shows old new pattern) (some_text o ++ (some_text (text_among asked (filled (tokens pattern))) ++ (text_of [] pattern ∷ text_of (codes "0") pattern ∷ [])))) e
-    ∙ found_head (shows old new pattern) text (some_text (text_among asked (filled (tokens pattern))) ++ (text_of [] pattern ∷ text_of (codes "0") pattern ∷ [])) true s
+shortest_is_sample old new pattern text short e s = first_found old new pattern short text e s
 
 -- ---- answers that may be errors, or nothing
 pub no_device : (o : Option (Vec ℕ Global)) → ((device : Vec ℕ Global) → o ≡ Some device → ⊥) → device_in o ≡ None

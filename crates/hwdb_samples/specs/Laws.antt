@@ -1,12 +1,12 @@
 -- What samples say of two sides.
-use Rattle.std.specs.Prelude.{List, ℕ, Some, [], true, ◌≡◌, ◌⊎◌}
+use Rattle.std.specs.Prelude.{List, ℕ, Some, [], false, true, ◌≡◌, ◌⊎◌}
 use Rattle.std.specs.List.{AllByRecursion}
 use Rattle.hwdb_spec.specs.Assignment.{Assignment}
 use Rattle.hwdb_spec.specs.Forms.{HasOneOf}
 use Rattle.hwdb_spec.specs.Patterns.{tokens}
 use Rattle.hwdb_spec_commands.specs.FormTable.{asked}
 use Rattle.hwdb_spec_commands.specs.FormTexts.{filled, text_among}
-use Rattle.hwdb_spec_commands.specs.SamplesFound.{Found, sample_of, samples_by_key, samples_of, shows}
+use Rattle.hwdb_spec_commands.specs.SamplesFound.{Found, is_long, sample_of, samples_by_key, samples_of, shows}
 use Rattle.hwdb_samples.specs.Keys.{keyed_rules, properties}
 use Rattle.hwdb_spec_commands.specs.SampleRules.{AgreeOn, HasRule, HasSample, HasText, IsSame, RuleTexts, Shows}
 
@@ -33,20 +33,21 @@ abbrev pub AddedAreSettled : Type 0
 AddedAreSettled =
     (old new : List RuleTexts) (pattern value : List ℕ) → HasRule new pattern value → HasRule old pattern value ⊎ IsSettled old new (samples_of old new) pattern
 
--- A sample is a text that udev may ask, if the shortest one of these that the pattern matches shows the change. A star that takes
--- nothing may hide a change, so the shortest one counts of which each star takes a byte, too.
+-- A sample of a pattern that isn't long is a text that udev may ask, if the shortest one of these that the pattern matches shows the
+-- change. A star that takes nothing may hide a change, so the shortest one counts of which each star takes a byte, too.
 abbrev pub SamplesFit : Type 0
 SamplesFit =
     (old new : List RuleTexts) (pattern text : List ℕ)
+    → is_long (tokens pattern) ≡ false
     → (text_among asked (tokens pattern) ≡ Some text) ⊎ (text_among asked (filled (tokens pattern)) ≡ Some text)
     → shows old new pattern text ≡ true
     → (device : List ℕ) × (sample_of old new pattern ≡ Some device) × HasOneOf asked device
 
--- The first of the texts to try is the sample, if it shows the change.
+-- The first of the texts to try is the sample, if the pattern isn't long and the text shows the change.
 abbrev pub ShortestIsSample : Type 0
 ShortestIsSample =
     (old new : List RuleTexts) (pattern text : List ℕ)
-    → text_among asked (tokens pattern) ≡ Some text → shows old new pattern text ≡ true → sample_of old new pattern ≡ Some text
+    → is_long (tokens pattern) ≡ false → text_among asked (tokens pattern) ≡ Some text → shows old new pattern text ≡ true → sample_of old new pattern ≡ Some text
 
 -- nothing is shown of a key, and nothing is undecided
 abbrev pub IsNothing : List ℕ × Found → Type 0

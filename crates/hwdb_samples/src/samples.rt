@@ -1,9 +1,8 @@
 //! The samples of one key of two sides.
-ghost use Rattle.std.specs.Prelude.{◌≡◌, ◌++◌, ◌∷◌, [], codes, find, map, IfOk, OnOk};
+ghost use Rattle.std.specs.Prelude.{◌≡◌, ◌++◌, find, map, IfOk, OnOk};
 ghost use Rattle.hwdb_spec.specs.Patterns.{token_at};
 ghost use Rattle.hwdb_spec_commands.specs.FormTable.{asked};
 ghost use Rattle.hwdb_spec_commands.specs.FormTexts.{filled, text_among, widened};
-ghost use Rattle.hwdb_spec_commands.specs.SampleTexts.{text_of};
 ghost use Rattle.hwdb_spec_commands.specs.SamplesFound as spec;
 ghost use Rattle.hwdb_forms.specs.Internal.{views};
 ghost use Rattle.hwdb_samples.specs.Levels.{AreLevels};
@@ -17,6 +16,9 @@ use crate::texts::text_of;
 use hwdb_forms::asked_text;
 use hwdb_pattern::{begins_star, token_texts};
 use std::alloc::{AllocError, Global};
+
+/// How many tokens a pattern may have of which a text is looked for that udev may ask.
+const MOST_TOKENS: usize = 400;
 
 /// A device made of a pattern, which two sides give something else.
 #[derive(Debug, Drop)]
@@ -125,7 +127,7 @@ fn plain_sample(
 ) -> Result<Option<Vec<u8>>, AllocError>
     ensures { IfOk result (λ found. device_in found
         ≡ find (spec.shows (map rule_texts old.now) (map rule_texts new.now) pattern.now)
-        (text_of [] pattern.now ∷ text_of (codes "0") pattern.now ∷ [])) }
+        (spec.plain_texts pattern.now)) }
 {
     let short = text_of(alloc, pattern, b"")?;
     if shows(old, new, pattern, &short) {
@@ -138,8 +140,31 @@ fn plain_sample(
     Ok(None)
 }
 
-/// A sample of a pattern, if one is found: the first of four texts that shows a change. The first two are such as udev asks, with what
-/// the pattern's stars need or with more.
+/// The first of four texts that shows a change. The first two are such as udev asks, with what the pattern's stars need or with more.
+fn short_sample(
+    alloc: Global,
+    old: &[Rule<'_>],
+    new: &[Rule<'_>],
+    pattern: &[u8],
+    tokens: &[&[u8]],
+) -> Result<Option<Vec<u8>>, AllocError>
+    ensures { IfOk result (λ found. device_in found
+        ≡ find (spec.shows (map rule_texts old.now) (map rule_texts new.now) pattern.now)
+        (spec.some_text (text_among asked (views tokens.now))
+        ++ (spec.some_text (text_among asked (filled (views tokens.now)))
+        ++ spec.plain_texts pattern.now))) }
+{
+    if let Some(device) = asked_sample(alloc, old, new, pattern, tokens)? {
+        return Ok(Some(device));
+    }
+    let wide = filled(alloc, tokens)?;
+    if let Some(device) = asked_sample(alloc, old, new, pattern, &wide)? {
+        return Ok(Some(device));
+    }
+    plain_sample(alloc, old, new, pattern)
+}
+
+/// A sample of a pattern, if one is found: the first text to try that shows a change.
 fn sample_of(
     alloc: Global,
     old: &[Rule<'_>],
@@ -150,14 +175,10 @@ fn sample_of(
         ≡ spec.sample_of (map rule_texts old.now) (map rule_texts new.now) pattern.now) }
 {
     let tokens = token_texts(alloc, pattern)?;
-    if let Some(device) = asked_sample(alloc, old, new, pattern, &tokens)? {
-        return Ok(Some(device));
+    if tokens.len() > MOST_TOKENS {
+        return plain_sample(alloc, old, new, pattern);
     }
-    let wide = filled(alloc, &tokens)?;
-    if let Some(device) = asked_sample(alloc, old, new, pattern, &wide)? {
-        return Ok(Some(device));
-    }
-    plain_sample(alloc, old, new, pattern)
+    short_sample(alloc, old, new, pattern, &tokens)
 }
 
 /// Looks for a sample of a pattern, among rules that may match its devices. If none is found, and it isn't seen that there is none,

@@ -1,5 +1,5 @@
--- The shortest text of a form that a pattern matches. Rows are as those of `Forms`, with a text in place of a test: a cell for each place
--- of a list of tokens has the shortest text of the form's rest that the tokens from there on match, if there is one. Our choice.
+-- The shortest text of a form that a pattern matches. Rows are as those of `Forms`, with a text in place of a test, a cell for each place
+-- of a list of tokens. A cell has the shortest text of the form's rest that the tokens from there on match, if there is one. Our choice.
 use Rattle.std.specs.Prelude.{ℕ, Bool, true, false, List, [], ◌∷◌, ◌++◌, Option, None, Some, suc, zero, find, flat_map, if◌then◌else◌, length, nat_lt}
 use Rattle.hwdb_spec.specs.Forms.{Form, Piece, candidates, counted, fixed, is_in, is_star, repeated}
 use Rattle.hwdb_spec.specs.Patterns.{Token, admits_byte, one, star}

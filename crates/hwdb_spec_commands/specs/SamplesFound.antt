@@ -1,10 +1,10 @@
 -- The samples of two sides: devices made of patterns that the two give something else. A rule is a pattern and the value that it gives.
 -- A side has rules in the order in which they count, the last one first of all. Our choice.
-use Rattle.std.specs.Prelude.{◌&&◌, ◌++◌, ◌∷◌, Bool, List, None, Option, Some, [], codes, false, filter, find, flat_map, if◌then◌else◌, map, not, true, ℕ}
+use Rattle.std.specs.Prelude.{◌&&◌, ◌++◌, ◌∷◌, Bool, List, None, Option, Some, [], codes, false, filter, find, flat_map, if◌then◌else◌, length, map, nat_lt, not, true, ℕ}
 use Rattle.hwdb_spec.specs.Answers.{is_match}
 use Rattle.hwdb_spec.specs.Assignment.{in_order, text_cmp}
 use Rattle.hwdb_spec.specs.Folders.{same}
-use Rattle.hwdb_spec.specs.Patterns.{tokens}
+use Rattle.hwdb_spec.specs.Patterns.{Token, tokens}
 use Rattle.hwdb_spec_commands.specs.FormTable.{asked}
 use Rattle.hwdb_spec_commands.specs.FormTexts.{filled, text_among}
 use Rattle.hwdb_spec_commands.specs.Overlaps.{apart, covers}
@@ -78,12 +78,25 @@ abbrev pub some_text : Option (List ℕ) → List (List ℕ)
 some_text None = []
 some_text (Some text) = text ∷ []
 
--- The texts to try: the shortest one that udev may ask, and the shortest one of which each star takes a byte or more. Then come those
--- that udev may not ask: stars are taken out of the pattern, or a 0 stands for each.
+-- How many tokens a pattern may have of which a text is looked for that udev may ask. The longest of Debian's has 254. The search takes
+-- time in proportion to their number squared.
+abbrev pub most_tokens : ℕ
+most_tokens = 400
+
+-- whether a pattern has more
+abbrev pub is_long : List Token → Bool
+is_long ts = nat_lt most_tokens (length ts)
+
+-- texts that udev may not ask: stars are taken out of the pattern, or a 0 stands for each
+abbrev pub plain_texts : (pattern : List ℕ) → List (List ℕ)
+plain_texts pattern = text_of [] pattern ∷ text_of (codes "0") pattern ∷ []
+
+-- The texts to try. Unless the pattern is long, the first ones are those that udev may ask: the shortest one, and the shortest one of
+-- which each star takes a byte or more.
 abbrev pub texts_to_try : (pattern : List ℕ) → List (List ℕ)
 texts_to_try pattern =
-    some_text (text_among asked (tokens pattern))
-    ++ (some_text (text_among asked (filled (tokens pattern))) ++ (text_of [] pattern ∷ text_of (codes "0") pattern ∷ []))
+    if is_long (tokens pattern) then plain_texts pattern
+    else some_text (text_among asked (tokens pattern)) ++ (some_text (text_among asked (filled (tokens pattern))) ++ plain_texts pattern)
 
 -- the device: the first of these texts that shows a change
 abbrev pub sample_of : (old new : List RuleTexts) → (pattern : List ℕ) → Option (List ℕ)
