@@ -4,6 +4,7 @@ mod compiling;
 mod entered;
 mod errors;
 mod nearest;
+mod own_rules;
 mod patterns;
 mod refusals;
 mod scans;

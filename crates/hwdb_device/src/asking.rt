@@ -1,54 +1,24 @@
 //! Strings are asked, as udev's rules ask them.
-ghost use Rattle.std.specs.Prelude.{◌≡◌, ◌++◌, IfOk, OnOk};
+ghost use Rattle.std.specs.Prelude.{◌≡◌, IfOk};
 ghost use Rattle.hwdb_spec_commands.specs.DeviceFound.{is_asked};
 ghost use Rattle.hwdb_spec_commands.specs.Inputs.{no_kinds};
 ghost use Rattle.hwdb_spec_commands.specs.Lookups;
-ghost use Rattle.hwdb_rules.specs.Views.{kinds_of, plans_of, questions_of, scene_of};
+ghost use Rattle.hwdb_rules.specs.Views.{kinds_of, plans_of, scene_of};
 ghost use Rattle.hwdb_sysfs.specs.Views.{device_of};
-ghost use Rattle.hwdb_device.specs.Views.{all_found, tells_of};
+ghost use Rattle.hwdb_device.specs.Views.{all_found};
+ghost use Rattle.hwdb_ruleasks.specs.Views.{tells_of};
 
-use crate::found::Found;
 use crate::kinds::kinds_after;
-use crate::told::told;
 use hwdb_reader::Db;
+use hwdb_ruleasks::{Found, ask_questions};
 use hwdb_rules::{
-    Kinds, Plan, Question, Scene, early_rules, input_id_rules, kinds_seen, late_rules,
-    machine_text, middle_rules,
+    Kinds, Plan, Scene, early_rules, input_id_rules, kinds_seen, late_rules, machine_text,
+    middle_rules,
 };
 use hwdb_sysfs::Device;
 use std::alloc::{AllocError, Global};
 
-/// Asks strings one after another, up to the first that has an answer. It calls itself once for each string. The only error,
-/// here and below, is `AllocError`.
-#[tactic(auto, unfolding(hwdb_spec_commands::specs::Lookups::asked_in))]
-fn ask_questions<'a>(
-    alloc: Global,
-    db: Option<&Db<'a>>,
-    found: &mut Vec<Found<'a>>,
-    rule: &'static str,
-    questions: &[Question],
-) -> Result<(), AllocError>
-    ensures { OnOk result (all_found found.new.items ≡ all_found found.old.items
-        ++ Lookups.asked_in (tells_of db.entry) rule.now (questions_of questions.now)) }
-{
-    let Some((first, more)) = questions.split_first() else {
-        return Ok(());
-    };
-    let told = told(alloc, db, &first.text)?;
-    let is_last = !told.is_empty();
-    found.push(Found {
-        rule,
-        parent: first.parent,
-        text: Vec::from_slice(alloc, &first.text)?,
-        told,
-    })?;
-    if is_last {
-        return Ok(());
-    }
-    ask_questions(alloc, db, found, rule, more)
-}
-
-/// Asks what rules files ask, one after another.
+/// Asks what rules files ask, one after another. The only error, here and below, is `AllocError`.
 fn ask_all<'a>(
     alloc: Global,
     db: Option<&Db<'a>>,
@@ -59,7 +29,7 @@ fn ask_all<'a>(
 {
     let mut found = Vec::new(alloc);
     for plan in plans {
-        ask_questions(alloc, db, &mut found, plan.rule, &plan.questions)?;
+        ask_questions(alloc, db, &mut found, plan.rule.as_bytes(), &plan.questions)?;
     }
     Ok(found)
 }

@@ -12,10 +12,10 @@ ghost use Rattle.hwdb_sysfs.specs.Views.{device_of};
 ghost use Rattle.hwdb_device.specs.Views.{all_found};
 
 use crate::asking::lookups;
-use crate::found::Found;
 use crate::strings::push_line;
 use crate::told::same;
 use hwdb_reader::Db;
+use hwdb_ruleasks::Found;
 use hwdb_show::push_name;
 use hwdb_sysfs::{
     Device, DeviceFiles, Sysfs, device_of_path, list_links, read_device, unread_of_path,

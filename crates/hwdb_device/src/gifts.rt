@@ -4,9 +4,9 @@ ghost use Rattle.hwdb_spec_commands.specs.DeviceTexts;
 ghost use Rattle.hwdb_query.specs.Views.{explained_values};
 ghost use Rattle.hwdb_device.specs.Views.{all_found, gift_in, gifts_in};
 
-use crate::found::Found;
-use crate::told::{first_value, same};
+use crate::told::same;
 use hwdb_query::Explained;
+use hwdb_ruleasks::{Found, first_value};
 use std::alloc::{AllocError, Global};
 
 /// A property that a string gives.

@@ -6,15 +6,15 @@ ghost use Rattle.hwdb_spec_commands.specs.Json.{json_line};
 ghost use Rattle.hwdb_query.specs.Views.{explained_values, pairs_bytes};
 ghost use Rattle.hwdb_show.specs.JsonTokens.{tokens_of_members};
 ghost use Rattle.hwdb_sysfs.specs.Views.{device_of};
-ghost use Rattle.hwdb_device.specs.Views.{all_found, found_of};
+ghost use Rattle.hwdb_device.specs.Views.{all_found};
+ghost use Rattle.hwdb_ruleasks.specs.Views.{found_of};
 
-use crate::found::Found;
 use crate::gifts::all_gifts;
 use crate::outcomes::{outcomes, pairs_of_outcomes};
 use crate::texts::path_at;
-use crate::told::first_value;
 use hwdb_answers::{put_named, put_raw, raw_of};
 use hwdb_query::Explained;
+use hwdb_ruleasks::{Found, first_value};
 use hwdb_show::{ended, put_member};
 use hwdb_sysfs::Device;
 use json::Writer;
@@ -66,7 +66,7 @@ fn put_found(
         ++ json_tokens (DeviceTexts.found_json (device_of device.now) (found_of found.now))) }
 {
     json.begin_object()?;
-    put_member(json, "rule", found.rule.as_bytes())?;
+    put_member(json, "rule", &found.rule)?;
     put_member(json, "device", &found.text)?;
     put_member(json, "path", path_at(device, found.parent))?;
     put_properties(alloc, json, "properties", pairs)?;

@@ -7,9 +7,9 @@ ghost use Rattle.hwdb_rules.specs.Views.{kinds_of};
 ghost use Rattle.hwdb_device.specs.Internal.{test_of};
 ghost use Rattle.hwdb_device.specs.Views.{all_found};
 
-use crate::found::Found;
 use crate::told::{same, told_value};
 use hwdb_query::Explained;
+use hwdb_ruleasks::Found;
 use hwdb_rules::Kinds;
 
 /// What is asked of a property's value.

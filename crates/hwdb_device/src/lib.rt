@@ -16,7 +16,6 @@
 mod asking;
 mod by_word;
 mod every;
-mod found;
 mod gifts;
 mod json_lines;
 mod kinds;
@@ -38,5 +37,5 @@ pub use laws::{
     asked_rows, device_rows, every_rows, near_rows, pattern_is_matched, pattern_is_of_one,
     pattern_outlives, record_rows, same_answers_same_text, text_is_of_files, text_rows,
 };
-pub use printing::device_text;
+pub use printing::{device_text, rules_text};
 pub use row::device_row;

@@ -4,12 +4,13 @@ ghost use Rattle.hwdb_spec_commands.specs.DeviceTexts;
 ghost use Rattle.hwdb_spec_commands.specs.NearAsked.{database_patterns};
 ghost use Rattle.hwdb_spec_commands.specs.NearPrefixes.{prefix_report};
 ghost use Rattle.hwdb_near.specs.Views.{pattern_at};
-ghost use Rattle.hwdb_device.specs.Views.{all_found, found_of};
+ghost use Rattle.hwdb_device.specs.Views.{all_found};
+ghost use Rattle.hwdb_ruleasks.specs.Views.{found_of};
 
-use crate::found::Found;
 use hwdb_databases::assignments;
 use hwdb_near::{PatternAt, patterns_of, push_prefix_report};
 use hwdb_reader::Db;
+use hwdb_ruleasks::Found;
 use std::alloc::{AllocError, Global};
 
 /// Adds a string that gets nothing. The only error, here and below, is `AllocError`.

@@ -1,20 +1,23 @@
 //! What is printed of a device.
-ghost use Rattle.std.specs.Prelude.{◌≡◌, ◌++◌, IfOk};
+ghost use Rattle.std.specs.Prelude.{◌≡◌, ◌++◌, map, IfOk};
 ghost use Rattle.hwdb_spec_commands.specs.DeviceRecords.{records_text};
 ghost use Rattle.hwdb_spec_commands.specs.DeviceTexts;
 ghost use Rattle.hwdb_spec_commands.specs.NearAsked.{database_patterns};
 ghost use Rattle.hwdb_spec_commands.specs.Sysfs.{cut_short};
+ghost use Rattle.hwdb_spec_commands.specs.DeviceTexts.{told_by};
+ghost use Rattle.hwdb_spec_rules.specs.RuleStrings.{found_by_rules};
 ghost use Rattle.hwdb_sysfs.specs.Views.{device_of};
+ghost use Rattle.hwdb_ruleasks.specs.Views.{file_of};
 ghost use Rattle.hwdb_device.specs.Views.{all_found};
 
 use crate::asking::lookups;
-use crate::found::Found;
 use crate::json_lines::lookups_json;
 use crate::nearest::push_nearest;
 use crate::records::records_text;
 use crate::strings::strings_text;
 use crate::texts::{lookups_text, subsystem_of};
 use hwdb_reader::Db;
+use hwdb_ruleasks::{Found, RulesFile, found_by_rules};
 use hwdb_rules::machine_text;
 use hwdb_spec_commands::DeviceForm;
 use hwdb_sysfs::Device;
@@ -82,5 +85,27 @@ pub fn device_text(
         (λ text. text.items ≡ DeviceTexts.device_text form (device_of device.now) db.now) }
 {
     let found = lookups(alloc, Some(db), device)?;
+    found_form(alloc, db, device, &found, form)
+}
+
+/// What `device --udev system` prints of a device, over a database, by the machine's own rules files.
+///
+/// The rules are tried twice. Each string that they ask is asked, in its order: a walk ends with an answer.
+///
+/// # Errors
+///
+/// `AllocError` at any allocation that fails.
+pub fn rules_text<'x>(
+    alloc: Global,
+    db: &'x Db<'_>,
+    device: &'x Device,
+    files: &'x [RulesFile<'x>],
+    form: DeviceForm,
+) -> Result<Vec<u8>, AllocError>
+    ensures { IfOk result (λ text. text.items ≡ DeviceTexts.found_form form
+        (device_of device.now) (database_patterns db.now)
+        (found_by_rules (told_by db.now) (map file_of files.now) (device_of device.now))) }
+{
+    let found = found_by_rules(alloc, Some(db), files, device)?;
     found_form(alloc, db, device, &found, form)
 }

@@ -5,9 +5,9 @@ ghost use Rattle.hwdb_spec.specs.Lines.{is_none};
 ghost use Rattle.hwdb_spec_commands.specs.DeviceRecords;
 ghost use Rattle.hwdb_device.specs.Views.{all_found};
 
-use crate::found::Found;
 use crate::lasting::push_lasting;
 use crate::told::same;
+use hwdb_ruleasks::Found;
 use std::alloc::{AllocError, Global};
 
 /// The first string that begins so. It calls itself once for each string before it.

@@ -6,8 +6,8 @@ ghost use Rattle.hwdb_sysfs.specs.Views.{ancestor_of, device_of};
 ghost use Rattle.hwdb_device.specs.Views.{all_found};
 
 use crate::asking::lookups;
-use crate::found::Found;
 use crate::strings::push_line;
+use hwdb_ruleasks::Found;
 use hwdb_rules::first_text;
 use hwdb_show::push_name;
 use hwdb_sysfs::{Ancestor, Device};

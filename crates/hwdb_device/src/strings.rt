@@ -3,7 +3,7 @@ ghost use Rattle.std.specs.Prelude.{◌≡◌, ◌++◌, IfOk, OnOk};
 ghost use Rattle.hwdb_spec_commands.specs.DeviceTexts;
 ghost use Rattle.hwdb_device.specs.Views.{all_found};
 
-use crate::found::Found;
+use hwdb_ruleasks::Found;
 use std::alloc::{AllocError, Global};
 
 /// Adds a text and a newline. The only error, here and below, is `AllocError`.

@@ -3,14 +3,15 @@ ghost use Rattle.std.specs.Prelude.{◌≡◌, ◌++◌, [], flat_map, get_or, m
 ghost use Rattle.hwdb_spec_commands.specs.DeviceTexts;
 ghost use Rattle.hwdb_spec_commands.specs.DeviceTexts.{path_of};
 ghost use Rattle.hwdb_sysfs.specs.Views.{ancestor_of, device_of};
-ghost use Rattle.hwdb_device.specs.Views.{all_found, found_of, gift_in, gifts_in, outcome_in, outcomes_in};
+ghost use Rattle.hwdb_device.specs.Views.{all_found, gift_in, gifts_in, outcome_in, outcomes_in};
+ghost use Rattle.hwdb_ruleasks.specs.Views.{found_of};
 
-use crate::found::Found;
 use crate::gifts::{Gift, all_gifts};
 use crate::outcomes::{Outcome, outcomes};
 use crate::strings::push_line;
 use crate::told::same;
 use hwdb_answers::{explanation_lines, push_property};
+use hwdb_ruleasks::Found;
 use hwdb_show::push_name;
 use hwdb_sysfs::{Ancestor, Device};
 use std::alloc::{AllocError, Global};
@@ -50,7 +51,7 @@ fn push_asker(text: &mut Vec<u8>, device: &Device, found: &Found<'_>) -> Result<
         ++ DeviceTexts.asker_line (device_of device.now) (found_of found.now)) }
 {
     text.extend_from_slice(b"  ")?;
-    text.extend_from_slice(found.rule.as_bytes())?;
+    text.extend_from_slice(&found.rule)?;
     text.extend_from_slice(b", of ")?;
     push_name(text, path_at(device, found.parent))?;
     push_line(text, unanswered(found))

@@ -1,37 +1,11 @@
 //! What a string gets.
-ghost use Rattle.std.specs.Prelude.{◌≡◌, map, option_map, IfOk};
+ghost use Rattle.std.specs.Prelude.{◌≡◌, option_map};
 ghost use Rattle.hwdb_spec.specs.Folders;
 ghost use Rattle.hwdb_spec_commands.specs.Lookups;
-ghost use Rattle.hwdb_query.specs.Views.{assignment_of_answer, explained_values};
-ghost use Rattle.hwdb_device.specs.Views.{tells_of};
+ghost use Rattle.hwdb_query.specs.Views.{explained_values};
 
-use hwdb_query::{Explained, StoredAssignment, explain};
-use hwdb_reader::Db;
-use std::alloc::{AllocError, Global};
-
-/// What a string gets of a database; nothing without one. The only error is `AllocError`.
-pub(crate) fn told<'a>(
-    alloc: Global,
-    db: Option<&Db<'a>>,
-    text: &[u8],
-) -> Result<Vec<Explained<'a>>, AllocError>
-    ensures { IfOk result (λ told. explained_values told.items ≡ tells_of db.entry text.now) }
-{
-    match db {
-        Some(db) => explain(alloc, db, text),
-        None => Ok(Vec::new(alloc)),
-    }
-}
-
-/// The value of the first of some answers; empty if there is none.
-pub(crate) fn first_value<'t>(answers: &'t [StoredAssignment<'_>]) -> &'t [u8]
-    ensures { result.now ≡ Lookups.first_value (map assignment_of_answer answers.now) }
-{
-    match answers.split_first() {
-        Some((first, _more)) => first.value,
-        None => b"",
-    }
-}
+use hwdb_query::Explained;
+use hwdb_ruleasks::first_value;
 
 /// Whether two texts are the same.
 pub(crate) fn same(text: &[u8], other: &[u8]) -> bool

@@ -27,7 +27,7 @@ fn value_of<'a>(attributes: &'a [Attribute], name: &[u8]) -> Option<&'a [u8]>
 }
 
 /// An attribute's value, without ends of lines after it.
-pub(crate) fn attribute<'a>(ancestor: &'a Ancestor, name: &[u8]) -> Option<&'a [u8]>
+pub fn attribute<'a>(ancestor: &'a Ancestor, name: &[u8]) -> Option<&'a [u8]>
     ensures { option_map (λ v. v.now) result ≡ Sysfs.attribute name.now (ancestor_of ancestor.now) }
 {
     match value_of(&ancestor.attributes, name) {
@@ -70,7 +70,7 @@ pub(crate) fn uevent_value<'a>(ancestor: &'a Ancestor, start: &[u8]) -> Option<&
 }
 
 /// What `uevent` says under a name; empty if it says nothing.
-pub(crate) fn uevent_text<'a>(ancestor: &'a Ancestor, start: &[u8]) -> &'a [u8]
+pub fn uevent_text<'a>(ancestor: &'a Ancestor, start: &[u8]) -> &'a [u8]
     ensures { result.now ≡ unwrap_or (Sysfs.uevent_value start.now (ancestor_of ancestor.now)) [] }
 {
     match uevent_value(ancestor, start) {
@@ -80,7 +80,7 @@ pub(crate) fn uevent_text<'a>(ancestor: &'a Ancestor, start: &[u8]) -> &'a [u8]
 }
 
 /// Whether a device is in a subsystem.
-pub(crate) fn is_in(ancestor: &Ancestor, subsystem: &[u8]) -> bool
+pub fn is_in(ancestor: &Ancestor, subsystem: &[u8]) -> bool
     ensures { result ≡ Sysfs.is_in subsystem.now (ancestor_of ancestor.now) }
 {
     same(&ancestor.subsystem, subsystem)
@@ -115,7 +115,7 @@ pub(crate) fn has_text(ancestor: &Ancestor, name: &[u8]) -> bool
 }
 
 /// Whether it is a device on USB itself, and none of its interfaces.
-pub(crate) fn is_usb_device(ancestor: &Ancestor) -> bool
+pub fn is_usb_device(ancestor: &Ancestor) -> bool
     ensures { result ≡ Sysfs.is_usb_device (ancestor_of ancestor.now) }
 {
     is_in(ancestor, b"usb") && same(uevent_text(ancestor, b"DEVTYPE="), b"usb_device")
@@ -237,6 +237,13 @@ pub(crate) fn first_of<'d>(wanted: Wanted<'_>, chain: &'d [Ancestor]) -> Option<
         place += 1;
     }
     None
+}
+
+/// Whether a device or one of its parents tells its events, as input devices do.
+pub fn has_some_events(chain: &[Ancestor]) -> bool
+    ensures { result ≡ Sysfs.some Inputs.has_events (map ancestor_of chain.now) }
+{
+    some(Wanted::Events, chain)
 }
 
 /// Whether a rule is for one of them.

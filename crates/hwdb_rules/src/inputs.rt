@@ -333,7 +333,11 @@ impl Bits {
 }
 
 /// The kinds of a device, by the first of it and its parents that tells its events, beside those before.
-fn kinds_by_bits(alloc: Global, before: Kinds, chain: &[Ancestor]) -> Result<Kinds, AllocError>
+///
+/// # Errors
+///
+/// `AllocError` at any allocation that fails.
+pub fn kinds_by_bits(alloc: Global, before: Kinds, chain: &[Ancestor]) -> Result<Kinds, AllocError>
     ensures { IfOk result
         (λ k. kinds_of k ≡ kinds_by_bits (kinds_of before) (map ancestor_of chain.now)) }
 {

@@ -155,8 +155,13 @@ fn add_strings(
     add_strings(alloc, questions, next, more)
 }
 
-/// The strings of a device and its parents, with what comes before each; none if udev doesn't run the walk.
-fn strings_of(
+/// The strings of a device and its parents in a subsystem, or in any if its name is empty, with what comes before each. There are none if
+/// udev doesn't run the walk.
+///
+/// # Errors
+///
+/// `AllocError` at any allocation that fails.
+pub fn strings_of(
     alloc: Global,
     chain: &[Ancestor],
     subsystem: &[u8],

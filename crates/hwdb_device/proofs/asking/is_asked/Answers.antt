@@ -1,8 +1,8 @@
 use Rattle.std.proofs.Common.{◌≡◌, ◌∙◌, ◌==◌, ◌∷◌, [], ap, arith, length, map, ne_eqb, refl, vec_len, Global, List, Vec, ℕ}
 use Rattle.std.specs.Prelude.{false, not}
 use Rattle.hwdb_spec.specs.Lines.{is_none}
-use Rattle.hwdb_device.specs.Views.{found_of}
-use Rattle.hwdb_device.specs.declared.found.Found.{Found}
+use Rattle.hwdb_ruleasks.specs.Views.{found_of}
+use Rattle.hwdb_ruleasks.specs.declared.answers.Found.{Found}
 use Rattle.hwdb_device.proofs.asking.is_asked.Goals as goal
 
 -- there are none, by how many there are

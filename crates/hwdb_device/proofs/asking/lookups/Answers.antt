@@ -1,7 +1,8 @@
 use Rattle.std.proofs.Common.{◌∙◌, ap, map, sym}
 use Rattle.std.proofs.lemmas.Result.{IfOk-weaker}
 use Rattle.hwdb_sysfs.specs.Views.{ancestor_of}
-use Rattle.hwdb_device.specs.Views.{all_found, tells_of}
+use Rattle.hwdb_device.specs.Views.{all_found}
+use Rattle.hwdb_ruleasks.specs.Views.{tells_of}
 use Rattle.hwdb_device.proofs.AskingLemmas.{same_scene, scene_is}
 use Rattle.hwdb_device.proofs.asking.lookups.Goals as goal
 

@@ -14,15 +14,15 @@ pub returns-clause-tokens : goal.returns-clause-tokens
 returns-clause-tokens c =
     let found = c.args.found.now in
     let front = c.args.json.now.tokens ++ begin_object ∷ [] in
-    let a : List ℕ × Json = (codes "rule", text_json found.rule.now) in
+    let a : List ℕ × Json = (codes "rule", text_json found.rule.items) in
     let b : List ℕ × Json = (codes "device", text_json found.text.items) in
     let d : List ℕ × Json = (codes "path", text_json (path_at (device_of c.args.device.now) found.parent)) in
     let more : List (List ℕ × Json) = properties_members (codes "properties") (pairs_bytes c.args.pairs.now) in
     let none = no_members_yet front c.begin_object.new.self.tokens c.in_ok-begin_object.ensures.ok in
     let one = member_behind front c.begin_object.new.self.tokens c.put_member.new.json.tokens [] a none
-    (c.in_ok-put_member.ensures.tokens ∙ ap (λ t. c.begin_object.new.self.tokens ++ tokens_of_member (codes "rule", text_json t)) c.as_bytes.ensures.value) in
+    (c.in_ok-put_member.ensures.tokens ∙ ap (λ t. c.begin_object.new.self.tokens ++ tokens_of_member (codes "rule", text_json t)) c.deref.ensures.value) in
     let two = member_behind front c.put_member.new.json.tokens c.put_member-2.new.json.tokens (a ∷ []) b one
-    (c.in_ok-put_member-2.ensures.tokens ∙ ap (λ t. c.put_member.new.json.tokens ++ tokens_of_member (codes "device", text_json t)) c.deref.ensures.value) in
+    (c.in_ok-put_member-2.ensures.tokens ∙ ap (λ t. c.put_member.new.json.tokens ++ tokens_of_member (codes "device", text_json t)) c.deref-2.ensures.value) in
     let three = member_behind front c.put_member-2.new.json.tokens c.put_member-3.new.json.tokens (a ∷ b ∷ []) d two
     (c.in_ok-put_member-3.ensures.tokens ∙ ap (λ t. c.put_member-2.new.json.tokens ++ tokens_of_member (codes "path", text_json t)) c.path_at.ensures) in
     let four = members_behind front c.put_member-3.new.json.tokens c.put_properties.new.json.tokens (a ∷ b ∷ d ∷ []) more three c.in_ok-put_properties.ensures.tokens in

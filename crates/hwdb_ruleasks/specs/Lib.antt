@@ -1,0 +1,4 @@
+pub mod Views
+pub mod SightViews
+pub mod SettingViews
+pub mod FileViews

@@ -1,0 +1,6 @@
+pub mod RuleNames
+pub mod RuleSights
+pub mod DeviceCommands
+pub mod RuleStrings
+pub mod RuleAnswers
+pub mod Rows
