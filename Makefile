@@ -159,6 +159,7 @@ check-peer: $(PROGRAM) out/libhwdb.so.0
 	tests/peer/hooks out/hwdb
 	tests/peer/parse-hwdb out/hwdb
 	tests/peer/rules out/hwdb
+	tests/peer/own-rules out/hwdb
 	tests/peer/findings out/hwdb
 	tests/peer/machines out/hwdb
 	tests/peer/releases out/hwdb out/libhwdb.so.0

@@ -68,7 +68,7 @@ _hwdb() {
         [ask]='-r --root --color -h --help'
         [list]='-r --root --color --after --limit --text --json -h --help'
         [near]='-r --root --color --limit --text --json -h --help'
-        [device]='-r --root --color --from --text --strings --json --pattern --all -h --help'
+        [device]='-r --root --color --from --udev --text --strings --json --pattern --all -h --help'
         [check]='-s --strict -r --root --color --rules --allow --baseline --name --diff --format --json -h --help'
         [test]='-r --root --color --record --database --text --json -h --help'
         [diff]='-r --root --color --devices --samples --verbose --only --not --prefix --stat --format --json -h --help'
@@ -86,6 +86,7 @@ _hwdb() {
         [--after]='POS'
         [--limit]='N'
         [--from]='FILE'
+        [--udev]='WHICH'
         [--allow]='KIND'
         [--baseline]='FILE'
         [--name]='NAME'
@@ -100,6 +101,7 @@ _hwdb() {
     local -A kinds_of=(
         [KIND]='byte-order-mark leading-tab carriage-return open-bracket empty-range spaced-equals cut-value repeated-match replaced near-name old-name scan-code unknown-key unfit-value zero-row singular-matrix two-defaults unread unknown-property unpaired unknown-prefix dead-pattern unlikely-pattern too-long-for-udev fragile-pattern taken-as-set no-separator'
         [WHEN]='auto always never'
+        [WHICH]='system built-in'
         [check FORMAT]='text json github sarif'
         [diff FORMAT]='grouped lines markdown'
     )

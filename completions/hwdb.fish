@@ -72,7 +72,7 @@ end
 complete -c hwdb -f
 # From here on completions/from-help has made it of the program's help.
 function __hwdb_takes_value
-    contains -- $argv[1] -r --root --color --after --limit --from --allow --baseline --name --format --database --devices --only --not --prefix --count
+    contains -- $argv[1] -r --root --color --after --limit --from --udev --allow --baseline --name --format --database --devices --only --not --prefix --count
 end
 
 # The words that `help` takes.
@@ -146,6 +146,7 @@ complete -c hwdb -n '__hwdb_at list' -l after -x -d 'Print only what stands afte
 complete -c hwdb -n '__hwdb_at list' -l limit -x -d 'Print at most N lines; 0 prints nothing'
 complete -c hwdb -n '__hwdb_at near' -l limit -x -d 'Print at most N patterns that don\'t match, in place of 3'
 complete -c hwdb -n '__hwdb_at device' -l from -x -a '(__hwdb_file)' -d 'Take devices from a file in place of sysfs: what \'udevadm info --export-db\' printed; - for standard input'
+complete -c hwdb -n '__hwdb_at device' -l udev -x -a 'system built-in' -d 'Ask what the machine\'s own rules files ask: system; or what those of systemd 257 and 262 do: built-in'
 complete -c hwdb -n '__hwdb_at device' -l strings -d 'Print the strings alone, one a line'
 complete -c hwdb -n '__hwdb_at device' -l pattern -d 'Print records to begin with, which fit the device; before --json and --strings'
 complete -c hwdb -n '__hwdb_at device' -l all -d 'With --strings: print those of all devices, each once'

@@ -4,7 +4,7 @@ ghost use Rattle.clap.specs.Walk.{rows_of};
 ghost use Rattle.clap.specs.Matches.{found_of};
 ghost use Rattle.hwdb_cli.specs.Drafts.{IsArgument, IsDraft};
 ghost use Rattle.hwdb_spec_commands.specs.Jobs.{IsTask, list_misfit};
-ghost use Rattle.hwdb_spec_commands.specs.CommandLine.{device_app, from_rule};
+ghost use Rattle.hwdb_spec_commands.specs.CommandLine.{device_app, from_rule, udev_rule};
 
 use crate::drafts::{Draft, flag, json_option, option, shared, text_option, with_argument, word};
 use crate::matched::{copied, has_flag, text_of};
@@ -34,7 +34,8 @@ pub fn command<'a>(alloc: Global) -> Draft<'a>
         its node below /dev, or its path below /sys";
     let command = shared(alloc, "device", ABOUT, AFTER);
     let with_from = with_argument(command, from_option(alloc));
-    let with_text = with_argument(with_from, text_option(alloc));
+    let with_udev = with_argument(with_from, udev_option(alloc));
+    let with_text = with_argument(with_udev, text_option(alloc));
     let with_strings = with_argument(with_text, flag(alloc, "strings", strings));
     let with_json = with_argument(with_strings, json_option(alloc));
     let with_pattern = with_argument(with_json, flag(alloc, "pattern", pattern));
@@ -51,6 +52,15 @@ fn from_option<'a>(alloc: Global) -> Arg<'a>
     option(alloc, "from", "FILE", help)
 }
 
+/// `--udev`.
+fn udev_option<'a>(alloc: Global) -> Arg<'a>
+    ensures { IsArgument udev_rule result }
+{
+    let help =
+        "Ask what the machine's own rules files ask: system; or what those of systemd 257 and 262 do: built-in";
+    option(alloc, "udev", "WHICH", help)
+}
+
 /// The task of `device`.
 pub fn task(alloc: Global, inner: &ArgMatches<'_>) -> Result<Task, AllocError>
     ensures { IfOk result (IsTask (codes "device") (rows_of (found_of inner.now))) }
@@ -61,6 +71,7 @@ pub fn task(alloc: Global, inner: &ArgMatches<'_>) -> Result<Task, AllocError>
     let pattern = has_flag(inner, "pattern");
     let all = has_flag(inner, "all");
     let from = copied(alloc, text_of(inner, "from"))?;
+    let udev = copied(alloc, text_of(inner, "udev"))?;
     Ok(Task::Device(DeviceArgs {
         path,
         strings,
@@ -68,6 +79,7 @@ pub fn task(alloc: Global, inner: &ArgMatches<'_>) -> Result<Task, AllocError>
         pattern,
         all,
         from,
+        udev,
     }))
 }
 

@@ -1,5 +1,6 @@
 -- The plan of `device`, by what it asks of sysfs. Our choice.
 use Rattle.std.specs.Prelude.{ℕ, Bool, true, false, List, [], None, Option, Some, codes}
+use Rattle.hwdb_spec.specs.Folders.{Source}
 use Rattle.hwdb_spec_commands.specs.AllStrings.{all_strings_text, unread_lines}
 use Rattle.hwdb_spec_commands.specs.DeviceAsked.{device_list}
 use Rattle.hwdb_spec_commands.specs.DeviceTexts.{device_text}
@@ -7,13 +8,16 @@ use Rattle.hwdb_spec_commands.specs.DeviceTree.{Sight, device_at}
 use Rattle.hwdb_spec_commands.specs.Sysfs.{Device}
 use Rattle.hwdb_spec_commands.specs.declared.devices.DeviceForm.{DeviceForm}
 use Rattle.hwdb_spec_commands.specs.declared.devices.DeviceForm.TheVariants as form
+use Rattle.hwdb_spec_rules.specs.RuleAnswers.{needs_device, rules_misuse, rules_names, rules_text}
 use Rattle.hwdb_plan.specs.Asking.{asked}
 use Rattle.hwdb_plan.specs.Dump.{bad_database}
+use Rattle.hwdb_plan.specs.OwnRules.{own_rules}
 use Rattle.hwdb_plan.specs.Plans.{Next, Plan}
 use Rattle.hwdb_plan.specs.Plans.End.{Answers}
 use Rattle.hwdb_plan.specs.Plans.Plan.{Decode, Done}
 use Rattle.hwdb_plan.specs.Requests.{Search, found_plan}
 use Rattle.hwdb_plan.specs.Requests.Search.{AtPlace, Below, Fitting, Found}
+use Rattle.hwdb_plan.specs.Sysfs.{says}
 
 -- ---- what is printed
 -- what the database gives a device, in some form
@@ -55,6 +59,24 @@ all_misuse form None = Some (codes "--all needs --strings, without --json and --
 abbrev pub every_search : Sight → (names : List (List ℕ)) (root : List ℕ) → DeviceForm → (given : Option (List ℕ)) → Search
 every_search sight names root form given = Fitting (all_misuse form given) (strings_search sight names root)
 
+-- ---- the machine's own rules
+-- what the database gives a device whose strings rules files ask
+abbrev pub rules_answer : DeviceForm → List Source → Device → Next
+rules_answer form sources device path bytes = Decode bytes (bad_database path) (λ t. Done (Answers 0 [] (rules_text form sources device t)))
+
+-- the rules files are read after it is known where the device is
+abbrev pub rules_found : Sight → (root sys place : List ℕ) → DeviceForm → Plan
+rules_found sight root sys place form =
+    own_rules root (λ sources. asked root (rules_answer form sources (device_at sight (rules_names sources) sys place)))
+
+abbrev pub rules_search : Sight → (root : List ℕ) → DeviceForm → (given : Option (List ℕ)) → Search
+rules_search sight root form None = Found (says needs_device)
+rules_search sight root form (Some given) = Below root (λ sys. AtPlace root given sys (λ place. Found (rules_found sight root sys place form)))
+
+-- that, if the words fit
+abbrev pub own_search : Sight → (root : List ℕ) → DeviceForm → (udev given : Option (List ℕ)) (others : Bool) → Search
+own_search sight root form udev given others = Fitting (rules_misuse udev given others) (rules_search sight root form given)
+
 -- ---- what words ask for
 -- with `--all` the strings of all devices, and else one device or the list
 abbrev pub search_of : Sight → (names : List (List ℕ)) (root : List ℕ) → DeviceForm → (all : Bool) (given : Option (List ℕ)) → Search
@@ -79,3 +101,9 @@ every_plan sight cause names root form given = found_plan sight names cause (eve
 
 abbrev pub device_asked : Sight → (cause : List ℕ) (names : List (List ℕ)) (root : List ℕ) → DeviceForm → (all : Bool) (given : Option (List ℕ)) → Plan
 device_asked sight cause names root form all given = found_plan sight names cause (search_of sight names root form all given)
+
+abbrev pub own_plan : Sight → (cause : List ℕ) (names : List (List ℕ)) (root : List ℕ) → DeviceForm → (udev given : Option (List ℕ)) (others : Bool) → Plan
+own_plan sight cause names root form udev given others = found_plan sight names cause (own_search sight root form udev given others)
+
+abbrev pub by_rules_plan : Sight → (cause : List ℕ) (names : List (List ℕ)) (root : List ℕ) → DeviceForm → (given : Option (List ℕ)) → Plan
+by_rules_plan sight cause names root form given = found_plan sight names cause (rules_search sight root form given)

@@ -150,6 +150,10 @@ all_rule = record (new_rule (codes "all")) { long = Some (codes "all"); action =
 abbrev pub from_rule : Rule
 from_rule = record (new_rule (codes "from")) { value_names = 1; long = Some (codes "from"); action = Some Set }
 
+-- `--udev`
+abbrev pub udev_rule : Rule
+udev_rule = record (new_rule (codes "udev")) { value_names = 1; long = Some (codes "udev"); action = Some Set }
+
 -- a device's path or name, or none
 abbrev pub path_rule : Rule
 path_rule = record (new_rule (codes "DEVICE")) { action = Some Set }
@@ -201,7 +205,7 @@ near_app = with_rule (with_rule (with_rule (with_rule (with_shared (new_app (cod
 -- `device`
 abbrev pub device_app : App
 device_app =
-    with_rule (with_rule (with_rule (with_rule (with_rule (with_rule (with_rule (with_shared (new_app (codes "device"))) from_rule) text_rule) strings_rule) json_rule) pattern_rule) all_rule)
+    with_rule (with_rule (with_rule (with_rule (with_rule (with_rule (with_rule (with_rule (with_shared (new_app (codes "device"))) from_rule) udev_rule) text_rule) strings_rule) json_rule) pattern_rule) all_rule)
     path_rule
 
 -- `check`

@@ -122,6 +122,8 @@ pub struct DeviceArgs {
     pub all: bool,
     /// The path of an export of udev's database, or `-` for standard input; none if sysfs is asked.
     pub from: Option<String>,
+    /// Whose rules count: the machine's own ones, or those that are built in.
+    pub udev: Option<String>,
 }
 
 /// What the words of `diff` ask for.

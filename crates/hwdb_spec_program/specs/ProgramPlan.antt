@@ -4,7 +4,7 @@ use Rattle.clap.specs.Faults.{fault_of}
 use Rattle.clap.specs.Simple.{matches_of, subcommand_of}
 use Rattle.clap.specs.Walk.{Row, Text, all_of, first_of, one_of}
 use Rattle.std.specs.Option.{option_or, unwrap_or}
-use Rattle.std.specs.Prelude.{◌-◌, ◌≡◌, ◌⊎◌, ◌||◌, ◌∷◌, ℕ, Bool, false, List, [], None, Option, Some, Result, Ok, Err, IfSome, codes, find, if◌then◌else◌, length, not, option_map, take, true, ◌&&◌}
+use Rattle.std.specs.Prelude.{◌-◌, ◌≡◌, ◌⊎◌, ◌||◌, ◌∷◌, ℕ, Bool, false, List, [], None, Option, Some, Result, Ok, Err, IfSome, codes, find, if◌then◌else◌, is_some, length, not, option_map, take, true, ◌&&◌}
 use Rattle.std.specs.Str.{bytes_eq}
 use Rattle.std.specs.Str.Parse.{digits_value, without_leading_plus}
 use Rattle.hwdb_spec_commands.specs.Patches.{format_asked}
@@ -29,7 +29,8 @@ use Rattle.hwdb_plan.specs.Advice.{advice_of, advised_if}
 use Rattle.hwdb_plan.specs.Answers.{explain_plan, query_plan}
 use Rattle.hwdb_plan.specs.Ask.{lone_answer}
 use Rattle.hwdb_plan.specs.Check.{asked_request, said_of}
-use Rattle.hwdb_plan.specs.Device.{search_of}
+use Rattle.hwdb_plan.specs.Device.{own_search, search_of}
+use Rattle.hwdb_spec_rules.specs.RuleAnswers.{wants_rules}
 use Rattle.hwdb_plan.specs.Diff.{change_of, changes_request}
 use Rattle.hwdb_plan.specs.Dump.{text_form}
 use Rattle.hwdb_plan.specs.Ended.{Outs, ShowsEnd, outs, outs_of}
@@ -103,9 +104,20 @@ report_of root rows from =
     (has_flag (codes "all") rows) (first_of (codes "DEVICE") rows))
 
 -- of sysfs, or of an export if one is named
+abbrev pub device_from : Sight → (root : List ℕ) → List Row → (from : Option Text) → Command
+device_from sight root rows None = OfDevices (device_of sight root rows)
+device_from sight root rows (Some from) = OfFiles (report_of root rows from)
+
+-- by the machine's own rules
+abbrev pub rules_of : Sight → (root : List ℕ) → List Row → (from : Option Text) → Command
+rules_of sight root rows from =
+    OfDevices (own_search sight root (device_form (has_flag (codes "strings") rows) (has_flag (codes "json") rows) (has_flag (codes "pattern") rows))
+    (first_of (codes "udev") rows) (first_of (codes "DEVICE") rows) (has_flag (codes "all") rows || is_some from))
+
+-- by these, or by those that are built in
 abbrev pub device_command : Sight → (root : List ℕ) → List Row → (from : Option Text) → Command
-device_command sight root rows None = OfDevices (device_of sight root rows)
-device_command sight root rows (Some from) = OfFiles (report_of root rows from)
+device_command sight root rows from =
+    if wants_rules (first_of (codes "udev") rows) then rules_of sight root rows from else device_from sight root rows from
 
 -- `check`
 abbrev pub check_of : (root : List ℕ) (strict : Bool) → List Row → Request

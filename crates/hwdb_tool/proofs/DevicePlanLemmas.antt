@@ -1,5 +1,5 @@
 -- Ends of `device`, from what its calls promise.
-use Rattle.std.proofs.Common.{◌≡◌, ◌⊎◌, inl, inr, ap, refl, sym, subst, List, Option, None, Some, Result, Ok, Err, ℕ, [], ◌∷◌, ◌++◌}
+use Rattle.std.proofs.Common.{◌≡◌, ◌∙◌, ◌⊎◌, inl, inr, ap, refl, sym, subst, Bool, List, Option, None, Some, Result, Ok, Err, ℕ, [], ◌∷◌, ◌++◌}
 use Rattle.std.specs.Option.{option_map_or}
 use Rattle.std.specs.Prelude.{codes, option_map}
 use Rattle.std.specs.Result.{IsErrAnd}
@@ -10,7 +10,12 @@ use Rattle.hwdb_spec_commands.specs.Databases.{IsTextOf}
 use Rattle.hwdb_spec_commands.specs.AllStrings.{all_strings_text, unread_lines}
 use Rattle.hwdb_spec_commands.specs.DeviceAsked.{device_list, device_meant, missing_text, no_sysfs_text, unread_text}
 use Rattle.hwdb_spec_commands.specs.DeviceFound.{only, places_meant, several_text}
-use Rattle.hwdb_spec_commands.specs.DeviceTexts.{device_text}
+use Rattle.hwdb_spec_commands.specs.DeviceTexts.{device_text, found_form, told_by}
+use Rattle.hwdb_spec_commands.specs.NearAsked.{database_patterns}
+use Rattle.hwdb_spec.specs.Folders.{Source}
+use Rattle.hwdb_spec.specs.Tree.{Tree}
+use Rattle.hwdb_spec_rules.specs.RuleAnswers.{files_of, needs_device, rules_misuse}
+use Rattle.hwdb_spec_rules.specs.RuleStrings.{RulesFile, found_by_rules}
 use Rattle.hwdb_spec_commands.specs.DeviceTree.{Sight, device_at, missing_folder, sysfs_below, unread_for}
 use Rattle.hwdb_spec_commands.specs.Refusals.{IsInWords}
 use Rattle.hwdb_spec_commands.specs.Sysfs.{Device}
@@ -21,7 +26,7 @@ use Rattle.hwdb_spec_commands.specs.declared.refusals.Refusal.{Refusal}
 use Rattle.hwdb_spec_commands.specs.declared.refusals.Refusal.TheVariants as refusal
 use Rattle.hwdb_spec_program.specs.DeviceErrors.{IsNoDevice, IsNoSysfs, IsUnmeant, asked_names}
 use Rattle.hwdb_plan.specs.Asking.{asked}
-use Rattle.hwdb_plan.specs.Device.{all_misuse, device_answer, devices_plan, every_plan, meant_plan, strings_answer, strings_plan}
+use Rattle.hwdb_plan.specs.Device.{all_misuse, by_rules_plan, device_answer, devices_plan, every_plan, meant_plan, own_plan, rules_answer, rules_found, strings_answer, strings_plan}
 use Rattle.hwdb_plan.specs.OverText.{if_fit}
 use Rattle.hwdb_plan.specs.Sysfs.{OfCause, folder_of, none_there, one_of, place_of, says, sysfs_of}
 use Rattle.hwdb_plan.specs.Dump.{database_stop}
@@ -177,6 +182,60 @@ module _ {Y : Type 0} (end_of : Y → End) (w : Reads) (sight : Sight) (root : L
       handed_on (λ cause. meant_plan sight cause asked_names root given form) r result
       (no_device given sys (λ cause s place. asked root (device_answer form (device_at sight asked_names s place))) r below none) is
 
+  -- ---- by the machine's own rules
+  module _ (given : List ℕ) (form : DeviceForm) where
+    abbrev AtPlace : (sys place : List ℕ) → Plan
+    AtPlace sys place = rules_found sight root sys place form
+
+    abbrev ByRules : Result Y Refusal → Type 0
+    ByRules result = OfCause (λ cause. Follows end_of w (by_rules_plan sight cause asked_names root form (Some given)) result)
+
+    pub no_sysfs_for_rules : (r : Refusal) (result : Result Y Refusal) → IsNoSysfs root sight r → IsErrAnd result (λ x. x ≡ r) → ByRules result
+    no_sysfs_for_rules r result none is =
+        handed_on (λ cause. by_rules_plan sight cause asked_names root form (Some given)) r result
+        (no_sysfs (λ cause sys. place_of sight cause asked_names root given sys (λ place. AtPlace sys place)) r none) is
+
+    pub no_device_for_rules : (sys : List ℕ) (r : Refusal) (result : Result Y Refusal) → sysfs_below sight root ≡ Some sys → IsNoDevice root sys given sight r → IsErrAnd result (λ x. x ≡ r) → ByRules result
+    no_device_for_rules sys r result below none is =
+        handed_on (λ cause. by_rules_plan sight cause asked_names root form (Some given)) r result (no_device given sys (λ cause s place. AtPlace s place) r below none) is
+
+    rules_end : (sys place : List ℕ) (e : End) → sysfs_below sight root ≡ Some sys → only (places_meant sight asked_names root sys given) ≡ Some place → Ends w (AtPlace sys place) e
+        → Ends w (by_rules_plan sight [] asked_names root form (Some given)) e
+    rules_end sys place e below meant ends =
+        below_ends w sight [] root (λ s. place_of sight [] asked_names root given s (λ p. AtPlace s p)) sys e below
+        (there_ends w sight [] root asked_names given sys (λ p. AtPlace sys p) place e meant ends)
+
+    pub place_follows : (sys place : List ℕ) (result : Result Y Refusal) → sysfs_below sight root ≡ Some sys → only (places_meant sight asked_names root sys given) ≡ Some place
+        → Follows end_of w (AtPlace sys place) result → ByRules result
+    place_follows sys place (Ok y) below meant ends =
+        whatever (λ cause. Follows end_of w (by_rules_plan sight cause asked_names root form (Some given)) (Ok y)) (rules_end sys place (end_of y) below meant ends)
+    place_follows sys place (Err r) below meant (inl memory) = whatever (λ cause. Follows end_of w (by_rules_plan sight cause asked_names root form (Some given)) (Err r)) (inl memory)
+    place_follows sys place (Err r) below meant (inr ends) =
+        whatever (λ cause. Follows end_of w (by_rules_plan sight cause asked_names root form (Some given)) (Err r)) (inr (rules_end sys place (Stops (stop_of r)) below meant ends))
+
+  -- no device is named
+  pub unnamed_follows : (form : DeviceForm) (r : Refusal) (result : Result Y Refusal) → IsInWords needs_device r → IsErrAnd result (λ x. x ≡ r)
+      → OfCause (λ cause. Follows end_of w (by_rules_plan sight cause asked_names root form None) result)
+  unfolding Ends
+  unnamed_follows form r result said same =
+      handed_on (λ cause. by_rules_plan sight cause asked_names root form None) r result
+      (whatever (λ cause. EndsIn w (says needs_device) r) (error_ends w (says needs_device) needs_device r said refl)) same
+
+  -- words that don't fit
+  module _ (form : DeviceForm) (udev given : Option (List ℕ)) (others : Bool) where
+    pub own_misused : (text : List ℕ) (r : Refusal) (result : Result Y Refusal) → rules_misuse udev given others ≡ Some text → IsInWords text r → IsErrAnd result (λ x. x ≡ r)
+        → OfCause (λ cause. Follows end_of w (own_plan sight cause asked_names root form udev given others) result)
+    unfolding Ends
+    own_misused text r result is said same =
+        handed_on (λ cause. own_plan sight cause asked_names root form udev given others) r result
+        (whatever (λ cause. EndsIn w (own_plan sight cause asked_names root form udev given others) r)
+        (subst (λ (o : Option (List ℕ)). EndsIn w (if_fit o (by_rules_plan sight [] asked_names root form given)) r) (sym is) (error_ends w (says text) text r said refl))) same
+
+    pub own_fits : (result : Result Y Refusal) → rules_misuse udev given others ≡ None → OfCause (λ cause. Follows end_of w (by_rules_plan sight cause asked_names root form given) result)
+        → OfCause (λ cause. Follows end_of w (own_plan sight cause asked_names root form udev given others) result)
+    own_fits result is (cause, one_line, follows) =
+        (cause, one_line, subst (λ (o : Option (List ℕ)). Follows end_of w (if_fit o (by_rules_plan sight cause asked_names root form given)) result) (sym is) follows)
+
   module _ (names : List (List ℕ)) where
     -- ---- all devices
     pub unlisted_follows : (r : Refusal) (result : Result Y Refusal) → IsNoSysfs root sight r → IsErrAnd result (λ x. x ≡ r) → OfCause (λ cause. Follows end_of w (devices_plan sight cause names root) result)
@@ -270,6 +329,29 @@ no_text_ends w form device path bytes e r is (inl memory) = inl memory
 no_text_ends w form device path bytes (error.BadDatabase f) r none (inr says) = inr (inr (f, none, ap Stops says))
 no_text_ends w form device path bytes error.Memory r is (inr says) = inl (plainly r says)
 no_text_ends w form device path bytes _ r is (inr says) = absurd is
+
+-- ---- by the machine's own rules
+abbrev pub RulesText : DeviceForm → List RulesFile → Device → Tree → List ℕ
+RulesText form files device t = found_form form device (database_patterns t) (found_by_rules (told_by t) files device)
+
+pub rules_text_ends : (w : Reads) (form : DeviceForm) (sources : List Source) (files : List RulesFile) (device : Device) (path bytes : List ℕ) (status : ℕ) (err out : List ℕ) → files ≡ files_of sources
+    → status ≡ 0 → err ≡ [] → IsTextOf (RulesText form files device) bytes out → Ends w (rules_answer form sources device path bytes) (Answers status err out)
+unfolding Ends
+rules_text_ends w form sources files device path bytes status err out are zero none is = inl (is.tree, is.database, same)
+  where
+    text : out ≡ RulesText form (files_of sources) device is.tree
+    text = is.is ∙ ap (λ (l : List RulesFile). RulesText form l device is.tree) are
+
+    same : Answers status err out ≡ Answers 0 [] (RulesText form (files_of sources) device is.tree)
+    same = cc
+
+pub no_rules_text_ends : (w : Reads) (form : DeviceForm) (sources : List Source) (device : Device) (path bytes : List ℕ) (e : ToolError) (r : Refusal) → IsDatabaseRefusal bytes e → IsStop (database_stop path e) r
+    → (r ≡ refusal.Plain error.Memory) ⊎ Ends w (rules_answer form sources device path bytes) (Stops (stop_of r))
+unfolding Ends
+no_rules_text_ends w form sources device path bytes e r is (inl memory) = inl memory
+no_rules_text_ends w form sources device path bytes (error.BadDatabase f) r none (inr says) = inr (inr (f, none, ap Stops says))
+no_rules_text_ends w form sources device path bytes error.Memory r is (inr says) = inl (plainly r says)
+no_rules_text_ends w form sources device path bytes _ r is (inr says) = absurd is
 
 -- ---- the strings of all devices
 pub strings_end : (w : Reads) (sight : Sight) (names : List (List ℕ)) (sys path bytes : List ℕ) (status : ℕ) (err out : List ℕ) → status ≡ 0 → err ≡ unread_lines sight sys

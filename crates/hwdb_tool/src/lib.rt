@@ -73,6 +73,7 @@ mod query_command;
 mod record_command;
 mod reloading;
 mod reported;
+mod rules_device;
 mod scan_command;
 mod sides;
 mod status_command;

@@ -1,13 +1,15 @@
 //! `device --from`: an export of udev's database in place of sysfs. Nothing is written.
-ghost use Rattle.std.specs.Prelude.{◌≡◌, ◌++◌, [], List, Some, ℕ, codes, false, if◌then◌else◌, option_map, IfErr, IfOk};
+ghost use Rattle.std.specs.Prelude.{◌≡◌, ◌++◌, ◌||◌, [], List, Some, ℕ, codes, false, if◌then◌else◌, is_some, option_map, string_bytes, IfErr, IfOk};
 ghost use Rattle.hwdb_plan.specs.Asking.{asked};
-ghost use Rattle.hwdb_plan.specs.Device.{all_misuse};
+ghost use Rattle.hwdb_plan.specs.Device.{all_misuse, own_plan};
 ghost use Rattle.hwdb_plan.specs.Files.{OfInput};
 ghost use Rattle.hwdb_plan.specs.Given.{given_at};
 ghost use Rattle.hwdb_plan.specs.OverText.{if_fit};
 ghost use Rattle.hwdb_plan.specs.Plans.{Follows};
 ghost use Rattle.hwdb_plan.specs.Report as plan;
+ghost use Rattle.hwdb_plan.specs.Sysfs.{OfCause};
 ghost use Rattle.hwdb_spec_commands.specs.AllStrings as strings;
+ghost use Rattle.hwdb_spec_commands.specs.DeviceAsked as device;
 ghost use Rattle.hwdb_spec_commands.specs.DeviceFound.{only, places_meant};
 ghost use Rattle.hwdb_spec_commands.specs.Exports as spec;
 ghost use Rattle.hwdb_spec_commands.specs.Given.{is_dash};
@@ -16,6 +18,8 @@ ghost use Rattle.hwdb_spec_commands.specs.SysfsAnswers.{sight_by};
 ghost use Rattle.hwdb_spec_commands.specs.Told.{Reads};
 ghost use Rattle.hwdb_spec_program.specs.DeviceErrors.{asked_names};
 ghost use Rattle.hwdb_spec_program.specs.GivenDatabases.{names_input};
+ghost use Rattle.hwdb_spec_program.specs.Program.{root_of};
+ghost use Rattle.hwdb_spec_rules.specs.RuleAnswers.{wants_rules};
 ghost use Rattle.hwdb_sysfs.specs.Finding.{IsUnfound};
 ghost use Rattle.hwdb_exports.specs.Reports.{bytes_of};
 ghost use Rattle.hwdb_tool.specs.Reported.{FollowsFrom, IsUnfoundIn, given_in, report_of};
@@ -29,6 +33,7 @@ use crate::every_device::{all_misuse, devices, strings_over};
 use crate::given::{INPUT, is_dash, read};
 use crate::missing::{for_rules, no_device, only_meant};
 use crate::over_text::misused;
+use crate::rules_device::{own_device, wants_rules};
 use crate::verb::{Verb, root_of, text_of};
 use hwdb_cli::{DeviceArgs, Job};
 use hwdb_device::{DeviceForm, unread_lines};
@@ -343,6 +348,77 @@ fn told_besides(alloc: Global, report: &Report<'_>) -> Result<Vec<u8>, AllocErro
     Ok(told)
 }
 
+/// What the words ask for.
+fn question_of<'w>(args: &'w DeviceArgs, job: &'w Job) -> DeviceQuestion<'w>
+    ensures root { result.root.now ≡ root_of job.now }
+    ensures given { given_in result ≡ option_map string_bytes args.now.path }
+    ensures form { result.form
+        ≡ device.device_form args.now.strings args.now.json args.now.pattern }
+    ensures all { result.all ≡ args.now.all }
+{
+    DeviceQuestion {
+        root: root_of(job),
+        given: text_of(&args.path),
+        form: device_form(args.strings, args.json, args.pattern),
+        all: args.all,
+    }
+}
+
+/// Whether other words are given that choose devices.
+fn has_others(all: bool, from: &Option<String>) -> bool
+    ensures { result ≡ (all || is_some (option_map string_bytes from.now)) }
+{
+    match from {
+        Some(_) => true,
+        None => all,
+    }
+}
+
+/// What the words ask for, by the machine's own rules.
+fn by_rules<D: Machine>(
+    alloc: Global,
+    args: &DeviceArgs,
+    job: &Job,
+    system: &D,
+) -> Result<Answer, Refusal>
+    ensures { D.Store.tells → OfCause (λ cause. Follows end_of (D.System.reads system.now)
+        (own_plan (sight_by D.answers system.now) cause asked_names (root_of job.now)
+        (device.device_form args.now.strings args.now.json args.now.pattern)
+        (option_map string_bytes args.now.udev) (option_map string_bytes args.now.path)
+        (args.now.all || is_some (option_map string_bytes args.now.from))) result) }
+{
+    let udev = text_of(&args.udev);
+    let others = has_others(args.all, &args.from);
+    own_device(alloc, udev, others, question_of(args, job), system)
+}
+
+/// What the words ask for, by the rules that are built in.
+fn by_table<D: Machine, I: Source>(
+    alloc: Global,
+    args: &DeviceArgs,
+    job: &Job,
+    system: &D,
+    input: &mut I,
+) -> Result<Answer, Refusal>
+    ensures unread { names_input (option_map string_bytes args.now.from) ≡ false
+        → input.new ≡ input.old }
+    ensures follows { D.Store.tells → FollowsFrom (option_map string_bytes args.now.from)
+        (root_of job.now) (device.device_form args.now.strings args.now.json args.now.pattern)
+        args.now.all (option_map string_bytes args.now.path)
+        (sight_by D.answers system.now) (D.System.reads system.now)
+        (I.left input.old) (I.failures input.old) (I.failures input.new) result }
+{
+    let named = text_of(&args.from);
+    devices_from(alloc, named, question_of(args, job), system, input)
+}
+
+/// Whether the words ask for the machine's own rules.
+fn is_by_rules(args: &DeviceArgs) -> bool
+    ensures { result ≡ wants_rules (option_map string_bytes args.now.udev) }
+{
+    wants_rules(text_of(&args.udev))
+}
+
 impl<D: Machine, I: Source> Verb<D, I> for DeviceArgs {
     ghost task = { λ args. Device args };
 
@@ -353,14 +429,9 @@ impl<D: Machine, I: Source> Verb<D, I> for DeviceArgs {
         system: &D,
         input: &mut I,
     ) -> Result<Answer, Refusal> {
-        let (root, given, named) = (root_of(job), text_of(&self.path), text_of(&self.from));
-        let form = device_form(self.strings, self.json, self.pattern);
-        let question = DeviceQuestion {
-            root,
-            given,
-            form,
-            all: self.all,
-        };
-        devices_from(alloc, named, question, system, input)
+        if is_by_rules(self) {
+            return by_rules(alloc, self, job, system);
+        }
+        by_table(alloc, self, job, system, input)
     }
 }

@@ -1,7 +1,7 @@
 -- Plans that end in an error or in an answer, whatever they are told: neither in lines that come one after the other, nor in a new database.
 -- Such a run can be held in memory until it is known whether it prints anything.
 use Rattle.std.proofs.Common.{◌≡◌, ◌∷◌, ◌++◌, inl, inr, sym, subst, Bool, true, false, List, [], Option, None, Some, Result, Ok, Err, ℕ}
-use Rattle.std.specs.Prelude.{codes, if◌then◌else◌, length, nat_le}
+use Rattle.std.specs.Prelude.{codes, if◌then◌else◌, length, map, nat_le}
 use Rattle.hwdb_spec.specs.Assignment.{Position}
 use Rattle.hwdb_spec.specs.Folders.{Choice, Source, choice, max_files, names}
 use Rattle.hwdb_spec.specs.Tree.{Tree}
@@ -12,17 +12,23 @@ use Rattle.hwdb_spec_commands.specs.DeviceTree.{Sight, device_at, unread_for}
 use Rattle.hwdb_spec_commands.specs.Exports.{export_sight, is_export, no_export_text, without_machine}
 use Rattle.hwdb_spec_commands.specs.Given.{any_dash, is_dash}
 use Rattle.hwdb_spec_commands.specs.Near.{PatternAt}
-use Rattle.hwdb_spec_commands.specs.Told.{Reads, Unlisted}
+use Rattle.hwdb_spec_commands.specs.RulePaths.{rules_folder, rules_path}
+use Rattle.hwdb_spec_commands.specs.Told.{Reads, Unlisted, rules_told}
+use Rattle.hwdb_rulefiles.specs.RuleFolders.{choice as choice_of}
+use Rattle.hwdb_rulefiles.specs.declared.choice.Folder.{Folder as Folder_}
+use Rattle.hwdb_rulefiles.specs.declared.choice.Folder.TheVariants.{Etc, Local, Run, Usr}
+use Rattle.hwdb_spec_rules.specs.RuleAnswers.{rules_names}
 use Rattle.hwdb_spec_commands.specs.declared.devices.DeviceForm.{DeviceForm}
 use Rattle.hwdb_spec_commands.specs.declared.form.Form.{Form}
 use Rattle.hwdb_spec_commands.specs.declared.unread.Unread.{Unread}
 use Rattle.hwdb_plan.specs.Answers.{answer_plan, answered}
 use Rattle.hwdb_plan.specs.Asking.{asked, if_read, if_there}
-use Rattle.hwdb_plan.specs.Device.{all_misuse, device_answer, device_asked, search_of, strings_answer}
+use Rattle.hwdb_plan.specs.Device.{all_misuse, device_answer, device_asked, own_plan, own_search, rules_answer, rules_search, search_of, strings_answer}
 use Rattle.hwdb_plan.specs.Files.{ask_file, given_files, if_input, is_word, read_files, source_at}
 use Rattle.hwdb_plan.specs.Folders.{Texts, choose, if_listed, paths_of, read_texts, texts_of_folders, with_texts}
 use Rattle.hwdb_plan.specs.Given.{given_at}
 use Rattle.hwdb_plan.specs.Near.{near_database, near_plan}
+use Rattle.hwdb_plan.specs.OwnRules.{own_rules, rules_in, sources_of}
 use Rattle.hwdb_plan.specs.OverText.{basis_of, from_basis, if_fit, is_first, said_after, text_plan, with_after}
 use Rattle.hwdb_plan.specs.Plans.{End, Ends, Next, Plan, over}
 use Rattle.hwdb_plan.specs.Plans.End.{Answers, Stops}
@@ -217,6 +223,31 @@ searched sight own root f false (Some given) = λ sys place. only_asked root (de
 pub only_device : (sight : Sight) (cause : List ℕ) (names : List (List ℕ)) (root : List ℕ) (f : DeviceForm) (all : Bool) (given : Option (List ℕ))
     → OnlyAnswers (device_asked sight cause names root f all given)
 only_device sight cause names root f all given = only_search sight names cause (search_of sight names root f all given) (searched sight names root f all given)
+
+-- the machine's own rules files
+only_rules_in : (root : List ℕ) (f : Folder_) (next : List (List ℕ) → Plan) → ((names : List (List ℕ)) → OnlyAnswers (next names)) → OnlyAnswers (rules_in root f next)
+unfolding OnlyAnswers
+only_rules_in root f next only = λ r. only_listed (rules_folder root f) next only (rules_told r)
+
+only_own : (root : List ℕ) (next : List Source → Plan) → ((s : List Source) → OnlyAnswers (next s)) → OnlyAnswers (own_rules root next)
+only_own root next only =
+    only_rules_in root Etc _ (λ etc. only_rules_in root Run _ (λ run. only_rules_in root Local _ (λ local. only_rules_in root Usr _
+    (λ usr. only_texts _ [] _ (λ texts. only (sources_of (map rules_path (choice_of etc run local usr)) texts))))))
+
+rules_searched : (sight : Sight) (root : List ℕ) (f : DeviceForm) (given : Option (List ℕ)) → OnlyFound (rules_search sight root f given)
+unfolding OnlyAnswers OnlyFound
+rules_searched sight root f None = tt
+rules_searched sight root f (Some given) = λ sys place.
+    only_own root (λ (sources : List Source). asked root (rules_answer f sources (device_at sight (rules_names sources) sys place))) (λ sources. only_asked root (rules_answer f sources (device_at sight (rules_names sources) sys place)) (λ path bytes t. tt))
+
+own_searched : (sight : Sight) (root : List ℕ) (f : DeviceForm) (udev given : Option (List ℕ)) (others : Bool) → OnlyFound (own_search sight root f udev given others)
+unfolding OnlyFound
+own_searched sight root f udev given others = rules_searched sight root f given
+
+pub only_own_device : (sight : Sight) (cause : List ℕ) (names : List (List ℕ)) (root : List ℕ) (f : DeviceForm) (udev given : Option (List ℕ)) (others : Bool)
+    → OnlyAnswers (own_plan sight cause names root f udev given others)
+only_own_device sight cause names root f udev given others =
+    only_search sight names cause (own_search sight root f udev given others) (own_searched sight root f udev given others)
 
 -- an export
 only_found_given : (r : Report) (f : DeviceForm) (given : Option (List ℕ)) → OnlyAnswers (found_given r f given)

@@ -3,7 +3,8 @@ use Rattle.hwdb_cli.proofs.device.command.Goals as goal
 pub returns : goal.returns
 returns c =
     let from = c.with_argument-with_from.ensures _ _ c.shared-command.ensures c.from_option.ensures in
-    let text = c.with_argument-with_text.ensures _ _ from c.text_option.ensures in
+    let udev = c.with_argument-with_udev.ensures _ _ from c.udev_option.ensures in
+    let text = c.with_argument-with_text.ensures _ _ udev c.text_option.ensures in
     let strings = c.with_argument-with_strings.ensures _ _ text c.flag.ensures in
     let json = c.with_argument-with_json.ensures _ _ strings c.json_option.ensures in
     let pattern = c.with_argument-with_pattern.ensures _ _ json c.flag-2.ensures in
