@@ -160,6 +160,7 @@ check-peer: $(PROGRAM) out/libhwdb.so.0
 	tests/peer/parse-hwdb out/hwdb
 	tests/peer/rules out/hwdb
 	tests/peer/own-rules out/hwdb
+	tests/peer/random-rules out/hwdb 60
 	tests/peer/findings out/hwdb
 	tests/peer/machines out/hwdb
 	tests/peer/releases out/hwdb out/libhwdb.so.0
