@@ -76,6 +76,7 @@ word_rows_hold = record {
   none = refl;
   system = refl;
   built_in = refl;
+  other_word = refl;
   other = refl;
   no_device = refl;
   others = refl;

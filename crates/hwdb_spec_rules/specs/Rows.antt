@@ -162,6 +162,7 @@ pub record WordRows : Type 0 where
   pub none : wants_rules None ≡ false
   pub system : wants_rules (Some (codes "system")) ≡ true
   pub built_in : wants_rules (Some (codes "built-in")) ≡ false
+  pub other_word : wants_rules (Some (codes "257")) ≡ true
   pub other : rules_misuse (Some (codes "257")) (Some (codes "event3")) false ≡ Some (codes "--udev takes system or built-in")
   pub no_device : rules_misuse (Some (codes "system")) None false ≡ Some (codes "--udev system needs DEVICE, without --all and --from")
   pub others : rules_misuse (Some (codes "system")) (Some (codes "event3")) true ≡ Some (codes "--udev system needs DEVICE, without --all and --from")
