@@ -68,7 +68,7 @@ _hwdb() {
         [ask]='-r --root --color -h --help'
         [list]='-r --root --color --after --limit --text --json -h --help'
         [near]='-r --root --color --limit --text --json -h --help'
-        [device]='-r --root --color --from --udev --text --strings --json --pattern --all -h --help'
+        [device]='-r --root --color --from --udev --why --text --strings --json --pattern --all -h --help'
         [check]='-s --strict -r --root --color --rules --allow --baseline --name --diff --format --json -h --help'
         [test]='-r --root --color --record --database --text --json -h --help'
         [diff]='-r --root --color --devices --samples --verbose --only --not --prefix --stat --format --json -h --help'

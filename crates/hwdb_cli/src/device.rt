@@ -27,6 +27,8 @@ const AFTER: &str =
 pub fn command<'a>(alloc: Global) -> Draft<'a>
     ensures { IsDraft device_app result }
 {
+    let why =
+        "Tell of each line of the machine's own rules that asks whether it does, and what decides";
     let strings = "Print the strings alone, one a line";
     let pattern = "Print records to begin with, which fit the device; before --json and --strings";
     let all = "With --strings: print those of all devices, each once";
@@ -35,7 +37,8 @@ pub fn command<'a>(alloc: Global) -> Draft<'a>
     let command = shared(alloc, "device", ABOUT, AFTER);
     let with_from = with_argument(command, from_option(alloc));
     let with_udev = with_argument(with_from, udev_option(alloc));
-    let with_text = with_argument(with_udev, text_option(alloc));
+    let with_why = with_argument(with_udev, flag(alloc, "why", why));
+    let with_text = with_argument(with_why, text_option(alloc));
     let with_strings = with_argument(with_text, flag(alloc, "strings", strings));
     let with_json = with_argument(with_strings, json_option(alloc));
     let with_pattern = with_argument(with_json, flag(alloc, "pattern", pattern));
@@ -57,7 +60,7 @@ fn udev_option<'a>(alloc: Global) -> Arg<'a>
     ensures { IsArgument udev_rule result }
 {
     let help =
-        "Ask what the machine's own rules files ask: system; or what those of systemd 257 and 262 do: built-in";
+        "By which rules: the machine's own, system, or those of systemd 257 and 262, built-in; else its own if it has any";
     option(alloc, "udev", "WHICH", help)
 }
 
@@ -72,6 +75,7 @@ pub fn task(alloc: Global, inner: &ArgMatches<'_>) -> Result<Task, AllocError>
     let all = has_flag(inner, "all");
     let from = copied(alloc, text_of(inner, "from"))?;
     let udev = copied(alloc, text_of(inner, "udev"))?;
+    let why = has_flag(inner, "why");
     Ok(Task::Device(DeviceArgs {
         path,
         strings,
@@ -80,6 +84,7 @@ pub fn task(alloc: Global, inner: &ArgMatches<'_>) -> Result<Task, AllocError>
         all,
         from,
         udev,
+        why,
     }))
 }
 

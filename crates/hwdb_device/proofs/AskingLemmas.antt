@@ -1,5 +1,5 @@
 -- What a rule sees of a device.
-use Rattle.std.proofs.Common.{◌≡◌, ◌∙◌, ap, refl, sym, subst, ℕ, List, ◌∷◌}
+use Rattle.std.proofs.Common.{◌≡◌, ◌∙◌, ap, sym, subst, ℕ, List, ◌∷◌}
 use Rattle.hwdb_spec_commands.specs.Lookups.{Found, Scene, Told, found_for, found_in}
 use Rattle.hwdb_spec_commands.specs.Sysfs.{Ancestor, cut_short}
 

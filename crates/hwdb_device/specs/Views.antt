@@ -1,15 +1,22 @@
 -- What the types of this crate mean.
-use Rattle.std.specs.Prelude.{List, ℕ, map}
+use Rattle.std.specs.Prelude.{List, Option, option_map, ℕ, map}
+use Rattle.std.specs.Borrow.{Bor}
 use Rattle.hwdb_spec_commands.specs.DeviceTexts.{Gift}
 use Rattle.hwdb_spec_commands.specs.Lookups.{Found}
 use Rattle.hwdb_ruleasks.specs.declared.answers.Found.{Found as Asked}
-use Rattle.hwdb_ruleasks.specs.Views.{found_of}
+use Rattle.hwdb_ruleasks.specs.Views.{file_of, found_of}
+use Rattle.hwdb_ruleasks.specs.declared.strings.RulesFile.{RulesFile as ReadFile}
+use Rattle.hwdb_spec_rules.specs.RuleStrings.{RulesFile}
 use Rattle.hwdb_device.specs.declared.gifts.Gift.{Gift as Given}
 use Rattle.hwdb_device.specs.declared.outcomes.Outcome.{Outcome}
 
 -- strings that were asked
 abbrev pub all_found : List Asked → List Found
 all_found found = map found_of found
+
+-- rules files, if there are any
+abbrev pub files_in : Option (Bor (List ReadFile)) → Option (List RulesFile)
+files_in files = option_map (λ f. map file_of f.now) files
 
 -- a property that a string gives
 abbrev pub gift_in : Given → Gift

@@ -29,9 +29,10 @@ mod row;
 mod strings;
 mod texts;
 mod told;
+mod whys;
 
 pub use by_word::{fitting, near_given, several_text};
-pub use every::{all_strings_text, unread_lines};
+pub use every::{Asker, all_asked_text, unread_lines};
 pub use hwdb_spec_commands::DeviceForm;
 pub use laws::{
     asked_rows, device_rows, every_rows, near_rows, pattern_is_matched, pattern_is_of_one,

@@ -1,11 +1,12 @@
 //! What is printed of a device.
-ghost use Rattle.std.specs.Prelude.{◌≡◌, ◌++◌, map, IfOk};
+ghost use Rattle.std.specs.Prelude.{◌≡◌, ◌++◌, if◌then◌else◌, map, IfOk};
 ghost use Rattle.hwdb_spec_commands.specs.DeviceRecords.{records_text};
 ghost use Rattle.hwdb_spec_commands.specs.DeviceTexts;
 ghost use Rattle.hwdb_spec_commands.specs.NearAsked.{database_patterns};
 ghost use Rattle.hwdb_spec_commands.specs.Sysfs.{cut_short};
 ghost use Rattle.hwdb_spec_commands.specs.DeviceTexts.{told_by};
-ghost use Rattle.hwdb_spec_rules.specs.RuleStrings.{found_by_rules};
+ghost use Rattle.hwdb_spec_rules.specs.RuleStrings.{found_by_rules, whys_by_rules};
+ghost use Rattle.hwdb_spec_rules.specs.RuleWhys.{whys_form};
 ghost use Rattle.hwdb_sysfs.specs.Views.{device_of};
 ghost use Rattle.hwdb_ruleasks.specs.Views.{file_of};
 ghost use Rattle.hwdb_device.specs.Views.{all_found};
@@ -16,10 +17,12 @@ use crate::nearest::push_nearest;
 use crate::records::records_text;
 use crate::strings::strings_text;
 use crate::texts::{lookups_text, subsystem_of};
+use crate::whys::whys_form;
 use hwdb_reader::Db;
-use hwdb_ruleasks::{Found, RulesFile, found_by_rules};
+use hwdb_ruleasks::{Found, RulesFile, told_by_rules};
 use hwdb_rules::machine_text;
 use hwdb_spec_commands::DeviceForm;
+use hwdb_spec_rules::RulesForm;
 use hwdb_sysfs::Device;
 use std::alloc::{AllocError, Global};
 
@@ -88,7 +91,7 @@ pub fn device_text(
     found_form(alloc, db, device, &found, form)
 }
 
-/// What `device --udev system` prints of a device, over a database, by the machine's own rules files.
+/// What `device --udev system` and `device --why` print of a device, over a database, by the machine's own rules files.
 ///
 /// The rules are tried twice. Each string that they ask is asked, in its order: a walk ends with an answer.
 ///
@@ -100,12 +103,18 @@ pub fn rules_text<'x>(
     db: &'x Db<'_>,
     device: &'x Device,
     files: &'x [RulesFile<'x>],
-    form: DeviceForm,
+    form: RulesForm,
 ) -> Result<Vec<u8>, AllocError>
-    ensures { IfOk result (λ text. text.items ≡ DeviceTexts.found_form form
-        (device_of device.now) (database_patterns db.now)
+    ensures { IfOk result (λ text. text.items ≡ if form.why
+        then whys_form form.form
+        (whys_by_rules (told_by db.now) (map file_of files.now) (device_of device.now))
+        else DeviceTexts.found_form form.form (device_of device.now) (database_patterns db.now)
         (found_by_rules (told_by db.now) (map file_of files.now) (device_of device.now))) }
 {
-    let found = found_by_rules(alloc, Some(db), files, device)?;
-    found_form(alloc, db, device, &found, form)
+    let told = told_by_rules(alloc, Some(db), files, device)?;
+    if form.why {
+        whys_form(alloc, form.form, &told.whys)
+    } else {
+        found_form(alloc, db, device, &told.found, form.form)
+    }
 }

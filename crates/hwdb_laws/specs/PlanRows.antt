@@ -10,17 +10,18 @@ use Rattle.hwdb_spec_commands.specs.DeviceTree.{Sight}
 use Rattle.hwdb_spec_commands.specs.NearAsked.{near_form}
 use Rattle.hwdb_spec_commands.specs.SysfsAnswers.{nothing_there, seen}
 use Rattle.hwdb_spec_commands.specs.Told.Stop.{NoDatabase, Over, Says}
-use Rattle.hwdb_spec_commands.specs.declared.devices.DeviceForm.TheVariants.{Json, Lookups, Pattern}
+use Rattle.hwdb_spec_commands.specs.declared.devices.DeviceForm.TheVariants.{Json, Lookups, Pattern, Strings}
 use Rattle.hwdb_spec_commands.specs.declared.unread.Unread.TheVariants as unread
 use Rattle.hwdb_spec_program.specs.DeviceErrors.{asked_names}
 use Rattle.hwdb_spec_program.specs.GivenDatabases.{twice_text}
 use Rattle.hwdb_spec_program.specs.ProgramPlan.{AskedUpdate, error_status, program_plan, update_of}
 use Rattle.hwdb_plan.specs.Requests.{Around}
+use Rattle.hwdb_spec_rules.specs.declared.forms.Whose.TheVariants.{BuiltIn, Own, OwnFirst}
 use Rattle.hwdb_plan.specs.Answers.{explain_plan, query_plan}
 use Rattle.hwdb_plan.specs.Ask.{ask_plan}
 use Rattle.hwdb_plan.specs.Check.{check_plan, said_of}
 use Rattle.hwdb_plan.specs.Baseline.{over_baseline}
-use Rattle.hwdb_plan.specs.Device.{device_plan, strings_plan}
+use Rattle.hwdb_plan.specs.Device.{asks as own_form, device_plan, strings_plan}
 use Rattle.hwdb_plan.specs.Sysfs.{says}
 use Rattle.hwdb_plan.specs.Diff.{change_of, diff_plan}
 use Rattle.hwdb_spec_commands.specs.Reviews.{Review}
@@ -72,10 +73,12 @@ DeviceRows =
     (a : Around)
     → asked a (codes "device" ∷ codes "--strings" ∷ codes "--pattern" ∷ codes "event3" ∷ []) ∷ asked a (codes "device" ∷ codes "-r" ∷ codes "/r" ∷ [])
     ∷ asked a (codes "device" ∷ codes "--all" ∷ codes "--strings" ∷ codes "-r/r" ∷ []) ∷ asked a (codes "device" ∷ codes "--strings" ∷ codes "--all" ∷ codes "event3" ∷ [])
-    ∷ asked a (codes "device" ∷ codes "--all" ∷ codes "--strings" ∷ codes "--json" ∷ []) ∷ []
-    ≡ Some (device_plan a.sight a.cause asked_names [] Pattern (Some (codes "event3"))) ∷ Some (device_plan a.sight a.cause asked_names (codes "/r") Lookups None)
-    ∷ Some (strings_plan a.sight a.cause asked_names (codes "/r")) ∷ Some (says (codes "--all and DEVICE are two choices: leave out one of them"))
-    ∷ Some (says (codes "--all needs --strings, without --json and --pattern")) ∷ []
+    ∷ asked a (codes "device" ∷ codes "--all" ∷ codes "--strings" ∷ codes "--json" ∷ []) ∷ asked a (codes "device" ∷ codes "--udev=built-in" ∷ codes "event3" ∷ [])
+    ∷ asked a (codes "device" ∷ codes "--udev" ∷ codes "system" ∷ codes "event3" ∷ []) ∷ asked a (codes "device" ∷ codes "--udev=system" ∷ codes "--all" ∷ codes "--strings" ∷ []) ∷ []
+    ≡ Some (device_plan a.sight a.cause asked_names [] (OwnFirst Pattern) (Some (codes "event3"))) ∷ Some (device_plan a.sight a.cause asked_names (codes "/r") (OwnFirst Lookups) None)
+    ∷ Some (strings_plan a.sight a.cause asked_names (codes "/r") (OwnFirst Strings)) ∷ Some (says (codes "--all and DEVICE are two choices: leave out one of them"))
+    ∷ Some (says (codes "--all needs --strings, without --json and --pattern")) ∷ Some (device_plan a.sight a.cause asked_names [] (BuiltIn Lookups) (Some (codes "event3")))
+    ∷ Some (device_plan a.sight a.cause asked_names [] (Own (own_form Lookups)) (Some (codes "event3"))) ∷ Some (strings_plan a.sight a.cause asked_names [] (Own (own_form Strings))) ∷ []
 
 -- Files and databases that words name.
 abbrev pub NamedRows : Type 0
@@ -185,7 +188,7 @@ TextRows =
     ∷ asked a (codes "near" ∷ codes "--text" ∷ codes "a" ∷ []) ∷ asked a (codes "device" ∷ codes "--text" ∷ codes "event3" ∷ []) ∷ asked a (codes "test" ∷ codes "--text" ∷ codes "f" ∷ [])
     ∷ asked a (codes "verify" ∷ codes "--text" ∷ []) ∷ asked a (codes "dump" ∷ codes "--text" ∷ codes "--root=/r" ∷ []) ∷ asked a (codes "explain" ∷ codes "--text" ∷ codes "-" ∷ []) ∷ []
     ≡ Some (etc (query_plan [] false (codes "a" ∷ []))) ∷ Some (over_text (codes "/r") (codes "/r/etc/udev/hwdb.bin") (query_plan (codes "/r") false (codes "-" ∷ []))) ∷ Some (etc (list_plan [] false (codes "a") None None))
-    ∷ Some (etc (near_plan a.input [] [] (near_form false (codes "a") 3))) ∷ Some (etc (device_plan a.sight a.cause asked_names [] Lookups (Some (codes "event3")))) ∷ Some (etc (test_plan a.input (codes "f" ∷ []) None [] false))
+    ∷ Some (etc (near_plan a.input [] [] (near_form false (codes "a") 3))) ∷ Some (etc (device_plan a.sight a.cause asked_names [] (OwnFirst Lookups) (Some (codes "event3")))) ∷ Some (etc (test_plan a.input (codes "f" ∷ []) None [] false))
     ∷ Some (etc (verify_plan None [])) ∷ Some (over_text (codes "/r") (codes "/r/etc/udev/hwdb.bin") (dump_plan None (codes "/r"))) ∷ Some (etc (explain_plan [] false (codes "-"))) ∷ []
 
 -- Words that name another source, or a list of devices: nothing is asked, and this is said of them.
@@ -260,7 +263,7 @@ sight_of place = record (seen nothing_there) { place = λ path. if bytes_eq path
 -- No sysfs, and one without its folder of devices: the path that leads nowhere is told, and the words of the cause.
 abbrev pub SysfsRows : Type 0
 SysfsRows =
-    device_plan (seen nothing_there) (codes "No such file or directory") asked_names (codes "/r") Json (Some (codes "event3"))
-    ∷ device_plan (sight_of (codes "/sys")) (codes "Permission denied") asked_names [] Lookups None ∷ []
+    device_plan (seen nothing_there) (codes "No such file or directory") asked_names (codes "/r") (OwnFirst Json) (Some (codes "event3"))
+    ∷ device_plan (sight_of (codes "/sys")) (codes "Permission denied") asked_names [] (BuiltIn Lookups) None ∷ []
     ≡ Done (Stops (Says (codes "no sysfs: /r/sys: No such file or directory: mount it, or name another root")))
     ∷ Done (Stops (Says (codes "no sysfs: /sys/devices: Permission denied: mount it, or name another root"))) ∷ []

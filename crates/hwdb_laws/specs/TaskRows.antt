@@ -47,7 +47,7 @@ abbrev pub recording : Vec (String Global) Global → Option (String Global) →
 recording devices database = Record (record { devices = devices; database = database; json = false })
 
 abbrev pub devices : Task
-devices = Device (record { path = None; strings = false; json = false; pattern = false; all = false; from = None; udev = None })
+devices = Device (record { path = None; strings = false; json = false; pattern = false; all = false; from = None; udev = None; why = false })
 
 -- globs are no files, whatever they are
 abbrev pub reviewing : (globs : Vec (String Global) Global) → ReviewArgs

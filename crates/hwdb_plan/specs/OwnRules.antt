@@ -1,6 +1,6 @@
 -- The machine's own rules files below a root, as the front of a plan. Which folders these are, and which of their files count, is udev(7)'s.
 -- The rest is our choice.
-use Rattle.std.specs.Prelude.{◌++◌, ◌∷◌, List, [], map, ℕ}
+use Rattle.std.specs.Prelude.{◌++◌, ◌∷◌, Bool, List, [], false, map, true, ℕ}
 use Rattle.hwdb_spec.specs.Folders.{Source}
 use Rattle.hwdb_rulefiles.specs.RuleFolders.{Chosen, choice}
 use Rattle.hwdb_rulefiles.specs.declared.choice.Folder.{Folder}
@@ -30,6 +30,11 @@ sources_of (path ∷ paths) (text ∷ texts) = source_at path text ∷ sources_o
 -- the files at these paths below a root are read, and each has its path without the root
 abbrev pub rules_read : (root : List ℕ) (paths : List (List ℕ)) → (List Source → Plan) → Plan
 rules_read root paths next = read_texts (map (λ (path : List ℕ). root ++ path) paths) [] (λ texts. next (sources_of paths texts))
+
+-- whether there are none
+unfoldable pub has_none : List Source → Bool
+has_none [] = true
+has_none (source ∷ more) = false
 
 -- those of the files that count, in their order
 abbrev pub own_rules : (root : List ℕ) → (List Source → Plan) → Plan

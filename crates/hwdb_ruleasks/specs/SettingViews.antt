@@ -1,16 +1,17 @@
--- What is known of a device when rules are tried, as the code has it.
-use Rattle.std.specs.Prelude.{List, ℕ, codes, flat_map, map}
+-- What is known of a device when rules are tried, as the code has it, and what is told then.
+use Rattle.std.specs.Prelude.{List, ℕ, codes, map}
 use Rattle.hwdb_rulerun.specs.Views.{entry_view, seen_of}
 use Rattle.hwdb_sysfs.specs.Views.{ancestor_of}
 use Rattle.hwdb_ruleevents.specs.Effects.{Knowledge}
 use Rattle.hwdb_ruleevents.specs.Parents.{Nobody}
-use Rattle.hwdb_spec_commands.specs.Lookups.{Found}
+use Rattle.hwdb_ruleevents.specs.ReasonViews.{reason_of}
+use Rattle.hwdb_ruleevents.specs.TellViews.{told_of}
+use Rattle.hwdb_ruleevents.specs.declared.files.Story.{Story}
 use Rattle.hwdb_spec_commands.specs.Sysfs.{Ancestor}
 use Rattle.hwdb_rulefiles.specs.RuleLines.{RuleLine}
-use Rattle.hwdb_ruleevents.specs.Telling.{tell_files}
-use Rattle.hwdb_spec_rules.specs.DeviceCommands.{Tells, commands}
+use Rattle.hwdb_spec_rules.specs.DeviceCommands.{commands}
 use Rattle.hwdb_spec_rules.specs.RuleSights.{first_properties, sight_of}
-use Rattle.hwdb_spec_rules.specs.RuleStrings.{RulesFile, found_of, with_change}
+use Rattle.hwdb_spec_rules.specs.RuleStrings.{Account, account}
 use Rattle.hwdb_ruleasks.specs.Views.{tells_of}
 use Rattle.hwdb_ruleasks.specs.declared.strings.Setting.{Setting}
 
@@ -24,9 +25,17 @@ known_in s action =
       commands = commands (tells_of s.commands.now.db) (map ancestor_of s.commands.now.chain.now);
     }
 
--- the strings that lines ask of a device, by what is known of it at an action
-abbrev pub found_in : Tells → List RulesFile → (chain : List Ancestor) → ((action : List ℕ) → Knowledge) → (own : Ancestor) → List (List RuleLine) → List Found
-found_in tells files chain known own lines =
-    flat_map (found_of tells files chain)
-    (with_change (tell_files (known (codes "add")) 0 (first_properties (codes "add") own) lines)
-    (tell_files (known (codes "change")) 0 (first_properties (codes "change") own) lines))
+-- what is told of a device at an action, by what is known of it then
+abbrev pub account_in : ((action : List ℕ) → Knowledge) → (own : Ancestor) → List (List RuleLine) → (action : List ℕ) → Account
+account_in known own lines action = account (known action) (first_properties action own) lines
+
+-- of the device that is added, and of one that changes
+abbrev pub added_in : Setting → List (List RuleLine) → Account
+added_in s lines = account_in (known_in s) (ancestor_of s.own.now) lines (codes "add")
+
+abbrev pub changed_in : Setting → List (List RuleLine) → Account
+changed_in s lines = account_in (known_in s) (ancestor_of s.own.now) lines (codes "change")
+
+-- what was told means
+abbrev pub account_of : Story → Account
+account_of s = record { told = map told_of s.told.items; reasons = map reason_of s.reasons.items }

@@ -14,6 +14,8 @@ use Rattle.hwdb_rulefiles.specs.LineViews.{line_of}
 use Rattle.hwdb_ruleevents.specs.EffectViews.{knowledge_of}
 use Rattle.hwdb_spec_rules.specs.DeviceCommands.{Tells}
 use Rattle.hwdb_spec_rules.specs.RuleStrings.{RulesFile}
+use Rattle.hwdb_spec_rules.specs.RuleWhys as whys
+use Rattle.hwdb_ruleasks.specs.declared.strings.Why.{Why}
 use Rattle.hwdb_ruleasks.specs.declared.strings.RulesFile.{RulesFile as ReadFile}
 use Rattle.hwdb_ruleasks.specs.declared.answers.Found.{Found as Asked}
 
@@ -39,3 +41,7 @@ file_of f = record { name = f.name.now; lines = map line_of f.lines.now }
 -- a string that was asked, and what it gets
 abbrev pub found_of : Asked → Found
 found_of f = record { rule = f.rule.items; parent = f.parent; text = f.text.items; told = explained_values f.told.items }
+
+-- a line with a lookup
+abbrev pub why_view : Why → whys.Why
+why_view w = record { rule = w.rule.items; asks = w.asks; cause = w.cause.items }

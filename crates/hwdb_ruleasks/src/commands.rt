@@ -8,19 +8,21 @@ ghost use Rattle.hwdb_ruleevents.specs.Changes.{Open, Put};
 ghost use Rattle.hwdb_ruleevents.specs.ChangeViews.{held_of, value_of};
 ghost use Rattle.hwdb_ruleevents.specs.EffectViews.{effect_view};
 ghost use Rattle.hwdb_ruleevents.specs.Effects;
+ghost use Rattle.hwdb_rulerun.specs.Views.{known_of};
 ghost use Rattle.hwdb_rules.specs.Views.{kinds_of};
 ghost use Rattle.hwdb_sysfs.specs.Views.{ancestor_of};
 ghost use Rattle.hwdb_spec_rules.specs.DeviceCommands as spec;
 ghost use Rattle.hwdb_ruleasks.specs.Views.{questions_view, tells_of};
 
 use crate::answers::{first_told, first_value};
-use crate::lookups::questions_in;
+use crate::lookups::{address_questions, questions_in};
 use crate::usb::usb_effect;
 use hwdb_query::Explained;
 use hwdb_reader::Db;
 use hwdb_rulecommands::{Builtin, builtin_of, may_set, program_may_set};
-use hwdb_ruleevents::{Commands, Effect, Held, Value};
+use hwdb_ruleevents::{Commands, Effect, Held, Value, known_as, value_in};
 use hwdb_rulefiles::{Token, TokenKind, first_word};
+use hwdb_rulerun::Known;
 use hwdb_rules::{Kinds, Question, has_some_events, kinds_by_bits};
 use hwdb_sysfs::Ancestor;
 use std::alloc::{AllocError, Global};
@@ -58,6 +60,21 @@ pub(crate) fn opened(alloc: Global, all: &mut Vec<Held>, starts: &[&[u8]]) -> Re
 {
     for start in starts {
         all.push(Held::Open(Vec::from_slice(alloc, start)?))?;
+    }
+    Ok(())
+}
+
+/// Adds properties that may be set, or not.
+pub(crate) fn push_untold(
+    alloc: Global,
+    all: &mut Vec<Held>,
+    names: &[&[u8]],
+) -> Result<(), AllocError>
+    ensures { OnOk result (map held_of all.new.items
+        ≡ map held_of all.old.items ++ map spec.untold (map text_of names.now)) }
+{
+    for name in names {
+        push_put(alloc, all, *name, Value::Unknown)?;
     }
     Ok(())
 }
@@ -114,7 +131,7 @@ fn push_given(alloc: Global, all: &mut Vec<Held>, told: &[Explained<'_>]) -> Res
 {
     for one in told {
         let value = value_for(alloc, first_value(&one.answers))?;
-        push_put(alloc, all, one.key, value)?;
+        push_put(alloc, all, one.key, known_as(one.key, value))?;
     }
     Ok(())
 }
@@ -155,15 +172,16 @@ fn hwdb_effect(
     alloc: Global,
     db: Option<&Db<'_>>,
     chain: &[Ancestor],
+    alias: Known<'_>,
     text: &Option<Vec<u8>>,
 ) -> Result<Effect, AllocError>
-    ensures { IfOk result (λ e. effect_view e ≡ spec.hwdb_effect
-        (tells_of db.entry) (map ancestor_of chain.now) (value_view text.now)) }
+    ensures { IfOk result (λ e. effect_view e ≡ spec.hwdb_effect (tells_of db.entry)
+        (map ancestor_of chain.now) (known_of alias.entry) (value_view text.now)) }
 {
     match text {
         None => anything(alloc),
         Some(text) => {
-            let questions = questions_in(alloc, chain, text)?;
+            let questions = questions_in(alloc, chain, alias, text)?;
             asked_effect(alloc, db, &questions)
         }
     }
@@ -213,6 +231,33 @@ fn input_effect(alloc: Global, chain: &[Ancestor]) -> Result<Effect, AllocError>
     })
 }
 
+/// Adds the properties that an answer may give.
+fn push_gifts(alloc: Global, all: &mut Vec<Held>, told: &[Explained<'_>]) -> Result<(), AllocError>
+    ensures { OnOk result (map held_of all.new.items ≡ map held_of all.old.items
+        ++ map spec.may_give (explained_values told.now)) }
+{
+    for one in told {
+        push_put(alloc, all, one.key, Value::Unknown)?;
+    }
+    Ok(())
+}
+
+/// The effect of the builtin net_id.
+fn net_effect(alloc: Global, db: Option<&Db<'_>>, chain: &[Ancestor]) -> Result<Effect, AllocError>
+    ensures { IfOk result (λ e. effect_view e
+        ≡ spec.net_effect (tells_of db.entry) (map ancestor_of chain.now)) }
+{
+    let questions = address_questions(alloc, chain)?;
+    let told = first_told(alloc, db, &questions)?;
+    let mut changes = Vec::new(alloc);
+    opened(alloc, &mut changes, may_set(Builtin::NetId))?;
+    push_gifts(alloc, &mut changes, &told)?;
+    Ok(Effect {
+        succeeds: None,
+        changes,
+    })
+}
+
 /// What is known of commands, by what sysfs has of a device and its parents, and by a database that answers.
 #[derive(Clone, Copy)]
 pub(crate) struct DeviceCommands<'a> {
@@ -236,9 +281,13 @@ fn builtin_effect(
 {
     match builtin {
         None => anything(alloc),
-        Some(Builtin::Hwdb) => hwdb_effect(alloc, of.db, of.chain, text),
+        Some(Builtin::Hwdb) => {
+            let alias = value_in(changes, b"MODALIAS");
+            hwdb_effect(alloc, of.db, of.chain, alias, text)
+        }
         Some(Builtin::InputId) => input_effect(alloc, of.chain),
         Some(Builtin::UsbId) => usb_effect(alloc, of.chain, changes),
+        Some(Builtin::NetId) => net_effect(alloc, of.db, of.chain),
         Some(builtin) => may(alloc, may_set(builtin)),
     }
 }

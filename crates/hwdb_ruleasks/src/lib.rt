@@ -12,6 +12,7 @@
 //! | `lookups` | the strings of a command |
 //! | `commands` | what builtins and programs do |
 //! | `usb` | what the builtin usb_id does |
+//! | `reasons` | what is said of why lines ask, may ask, or don't |
 //! | `strings` | the strings of all rules |
 //! | `files` | rules files that were read |
 #![tactic(auto)]
@@ -22,10 +23,11 @@ mod files;
 mod lookups;
 mod names;
 mod properties;
+mod reasons;
 mod sights;
 mod strings;
 mod usb;
 
 pub use answers::{Found, ask_questions, first_value, told};
 pub use files::{ParsedFile, files_in, names_text, parsed_files};
-pub use strings::{RulesFile, found_by_rules};
+pub use strings::{ByRules, RulesFile, Why, told_by_rules};

@@ -10,22 +10,29 @@ ghost use Rattle.hwdb_spec_commands.specs.Sysfs;
 ghost use Rattle.hwdb_sysfs.specs.Views.{ancestor_of};
 ghost use Rattle.hwdb_spec_rules.specs.DeviceCommands;
 
-use crate::commands::{opened, push_put, value_for};
+use crate::commands::{opened, push_put, push_untold, value_for};
 use hwdb_ruleevents::{Effect, Held, Value, value_in};
 use hwdb_rulerun::Known;
 use hwdb_rules::{attribute, is_in, is_usb_device, uevent_text};
 use hwdb_sysfs::Ancestor;
 use std::alloc::{AllocError, Global};
 
-/// The starts of names that it may set besides.
-const OTHER_NAMES: [&[u8]; 7] = [
+/// What it may set besides, and more that begins so.
+const STARTS: [&[u8]; 1] = [b"ID_USB_"];
+
+/// The names that it may set besides.
+const OTHER_NAMES: [&[u8]; 11] = [
     b"ID_INSTANCE",
     b"ID_MODEL",
+    b"ID_MODEL_ENC",
+    b"ID_MODEL_ID",
     b"ID_REVISION",
     b"ID_SERIAL",
+    b"ID_SERIAL_SHORT",
     b"ID_TYPE",
-    b"ID_USB_",
     b"ID_VENDOR",
+    b"ID_VENDOR_ENC",
+    b"ID_VENDOR_ID",
 ];
 
 /// Whether it is an interface of a device on USB.
@@ -173,7 +180,8 @@ fn succeeds(
 {
     let mut changes = Vec::new(alloc);
     push_bus(alloc, &mut changes, bus)?;
-    opened(alloc, &mut changes, &OTHER_NAMES)?;
+    opened(alloc, &mut changes, &STARTS)?;
+    push_untold(alloc, &mut changes, &OTHER_NAMES)?;
     push_numbers(alloc, &mut changes, bus, vendor, product)?;
     Ok(Effect {
         succeeds: Some(true),

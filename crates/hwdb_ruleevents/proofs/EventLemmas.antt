@@ -1,6 +1,6 @@
 -- What is told covers what is asked.
 use Rattle.std.proofs.Common.{◌≡◌, ℕ, ◌+◌, Bool, true, false, List, [], ◌∷◌, ◌++◌, map, refl, sym, ap, subst, ◌∙◌, Option, Some, None, ◌⊎◌, inl, inr, ◌||◌}
-use Rattle.std.specs.Prelude.{if◌then◌else◌, is_some, unwrap_or, nat_eq, filter, not}
+use Rattle.std.specs.Prelude.{if◌then◌else◌, codes, is_some, unwrap_or, nat_eq, filter, not}
 use Rattle.std.specs.List.{starts_with, list_any}
 use Rattle.std.specs.Str.{bytes_eq}
 use Rattle.hwdb_spec.specs.Lines.{is_none}
@@ -297,11 +297,18 @@ text_is : (k : Knowledge) (e : Event) (n : Turn) (cs : List Change) (p : Propert
     → IsText (text_told k cs t) (real.text_at e n p t)
 text_is k e n cs p t h a = is_text (text_told k cs t) (real.followed e p t) (e.text (real.moment e n) p t) (text_so k e cs p t h a)
 
+named_so : (name : List ℕ) (value : Known) (truth : Option (List ℕ)) → Is value truth → Is (known.known_as name value) truth
+named_so name value truth h = by (known.is_name name)
+  where
+    by : (c : Bool) → Is (if c then value else Unknown) truth
+    by true = h
+    by false = tt
+
 value_so : (k : Knowledge) (e : Event) (n : Turn) (p : Properties) (t : Token) (cs : List Change) → IsKnown k e → Agrees cs p
-    → Is (known.assigned_told t.operator t.value (text_told k cs t) (value_in cs t.attribute)) (real.new_value e n p t)
+    → Is (tell.new_known cs t (text_told k cs t)) (real.new_value e n p t)
 value_so k e n p t cs h a =
-    assigned_so t.operator t.value (text_told k cs t) (real.text_at e n p t) (value_in cs t.attribute) (p t.attribute) (e.sets (real.moment e n) p t t.attribute)
-    (text_is k e n cs p t h a) (a t.attribute)
+    named_so t.attribute _ (real.new_value e n p t) (assigned_so t.operator t.value (text_told k cs t) (real.text_at e n p t) (value_in cs t.attribute) (p t.attribute) (e.sets (real.moment e n) p t t.attribute)
+    (text_is k e n cs p t h a) (a t.attribute))
 
 env_so : (own name : List ℕ) (value : Known) (new before : Option (List ℕ)) → Is value new
     → Becomes (said_in (Put own value ∷ []) name) before (if bytes_eq own name then new else before)
@@ -388,30 +395,30 @@ covers_both (t ∷ ts) us [] ys h k = skip_one t (ts ++ us) ys h.0 (covers_both 
 covers_both (t ∷ ts) us (x ∷ xs) ys h k =
     elim h [ inl a ↦ inl (a.0, covers_both ts us xs ys a.1 k) | inr b ↦ inr (b.0, covers_both ts us (x ∷ xs) ys b.1 k) ]
 
-ask_so : (sure cuts : Bool) (n : Turn) (t : Token) (o truth : Option (List ℕ)) (unread : List ℕ) (ts : List Told) (xs : List Ask) → IsFollowed o truth
-    → Covers ts xs
-    → Covers (record { at = n; token = t; text = o; certain = tell.is_certain sure o } ∷ ts)
-    ((if (if is_some truth then false else cuts) then [] else record { at = n; token = t; text = unwrap_or truth unread } ∷ []) ++ xs)
-ask_so sure cuts n t (Some text) truth unread ts xs f h =
-    subst (λ (x : Option (List ℕ)). Covers (record { at = n; token = t; text = Some text; certain = sure } ∷ ts)
-    ((if (if is_some x then false else cuts) then [] else record { at = n; token = t; text = unwrap_or x unread } ∷ []) ++ xs)) (sym f)
-    (inl (record { at = refl; token = refl; text = refl }, h))
-ask_so sure cuts n t None truth unread ts xs f h = by (if is_some truth then false else cuts)
+ask_so : (sure cuts : Bool) (n : Turn) (t : Token) (o truth : Option (List ℕ)) (unread : List ℕ) (known : Known) (alias : Option (List ℕ)) (ts : List Told) (xs : List Ask)
+    → IsFollowed o truth → Is known alias → Covers ts xs
+    → Covers (record { at = n; token = t; text = o; alias = known; certain = tell.is_certain sure o } ∷ ts)
+    ((if (if is_some truth then false else cuts) then [] else record { at = n; token = t; text = unwrap_or truth unread; alias = alias } ∷ []) ++ xs)
+ask_so sure cuts n t (Some text) truth unread known alias ts xs f i h =
+    subst (λ (x : Option (List ℕ)). Covers (record { at = n; token = t; text = Some text; alias = known; certain = sure } ∷ ts)
+    ((if (if is_some x then false else cuts) then [] else record { at = n; token = t; text = unwrap_or x unread; alias = alias } ∷ []) ++ xs)) (sym f)
+    (inl (record { at = refl; token = refl; text = refl; alias = i }, h))
+ask_so sure cuts n t None truth unread known alias ts xs f i h = by (if is_some truth then false else cuts)
   where
     by : (c : Bool)
-        → Covers (record { at = n; token = t; text = None; certain = false } ∷ ts)
-        ((if c then [] else record { at = n; token = t; text = unwrap_or truth unread } ∷ []) ++ xs)
+        → Covers (record { at = n; token = t; text = None; alias = known; certain = false } ∷ ts)
+        ((if c then [] else record { at = n; token = t; text = unwrap_or truth unread; alias = alias } ∷ []) ++ xs)
     by true = skip_one _ ts xs refl h
-    by false = inl (record { at = refl; token = refl; text = tt }, h)
+    by false = inl (record { at = refl; token = refl; text = tt; alias = i }, h)
 
 asks_so : (k : Knowledge) (sure : Bool) (e : Event) (n : Turn) (cs : List Change) (p : Properties) (t : Token) (ts : List Told) (xs : List Ask) → IsKnown k e
     → Agrees cs p → Covers ts xs → Covers (tell.told_in k cs sure n t ++ ts) (real.ask_in e n p t ++ xs)
 asks_so k sure e n cs p t ts xs i a h = by (is_lookup t)
   where
     by : (c : Bool)
-        → Covers ((if c then record { at = n; token = t; text = text_told k cs t; certain = tell.is_certain sure (text_told k cs t) } ∷ [] else []) ++ ts)
+        → Covers ((if c then record { at = n; token = t; text = text_told k cs t; alias = tell.alias_told cs; certain = tell.is_certain sure (text_told k cs t) } ∷ [] else []) ++ ts)
         ((if c then real.asked_in e n p t else []) ++ xs)
-    by true = ask_so sure (e.cuts (real.moment e n) p t) n t (text_told k cs t) (real.followed e p t) (e.text (real.moment e n) p t) ts xs (text_so k e cs p t i a) h
+    by true = ask_so sure (e.cuts (real.moment e n) p t) n t (text_told k cs t) (real.followed e p t) (e.text (real.moment e n) p t) (tell.alias_told cs) (p (codes "MODALIAS")) ts xs (text_so k e cs p t i a) (a (codes "MODALIAS")) h
     by false = h
 
 uncertain : (sure : Bool) (o : Option (List ℕ)) → sure ≡ false → tell.is_certain sure o ≡ false
@@ -423,7 +430,7 @@ none_so : (k : Knowledge) (cs : List Change) (sure : Bool) (n : Turn) (t : Token
 none_so k cs sure n t ts e h = by (is_lookup t)
   where
     by : (c : Bool)
-        → Covers ((if c then record { at = n; token = t; text = text_told k cs t; certain = tell.is_certain sure (text_told k cs t) } ∷ [] else []) ++ ts) []
+        → Covers ((if c then record { at = n; token = t; text = text_told k cs t; alias = tell.alias_told cs; certain = tell.is_certain sure (text_told k cs t) } ∷ [] else []) ++ ts) []
     by true = (uncertain sure (text_told k cs t) e, h)
     by false = h
 

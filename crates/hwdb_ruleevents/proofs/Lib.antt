@@ -1,5 +1,6 @@
 pub mod ChangeLemmas
 pub mod TellLemmas
+pub mod ReasonLemmas
 pub mod EventLemmas
 pub mod JumpLemmas
 pub mod EventRows

@@ -203,12 +203,12 @@ run_passes k cs t text effect passes e f g = g ∙ ap (Telling.passes_told t) (e
 -- a token that was run
 pub run_tale : (k : Knowledge) (sure : Bool) (n : Turn) (old asked : Tale) (t : Token) (text : Option (List ℕ)) (effect : Effect) (passes passed : Option Bool)
     (changes : List Change) → text ≡ text_told k old.changes t → effect ≡ Telling.effect_by_text k old.changes t text → passes ≡ Telling.passes_told t effect
-    → asked ≡ Telling.asked old (Telling.told_by_text text sure n t) → passed ≡ and_then asked.passed passes
+    → asked ≡ Telling.asked old (Telling.told_by_text old.changes text sure n t) → passed ≡ and_then asked.passed passes
     → changes ≡ asked.changes ++ by_sure sure effect.changes → tale_with asked.told passed changes ≡ Telling.run_in k sure n old t
 run_tale k sure n old asked t text effect passes passed changes e f g h i j =
     let is = effect_is k old.changes t text effect e f in
     let told : asked.told ≡ old.told ++ Telling.told_in k old.changes sure n t =
-    ap (λ (x : Tale). x.told) h ∙ ap (λ (x : Option (List ℕ)). old.told ++ Telling.told_by_text x sure n t) e in
+    ap (λ (x : Tale). x.told) h ∙ ap (λ (x : Option (List ℕ)). old.told ++ Telling.told_by_text old.changes x sure n t) e in
     let through : passed ≡ and_then old.passed (Telling.passes_told t (Telling.effect_told k old.changes t)) =
     i ∙ ap (λ (x : Tale). and_then x.passed passes) h ∙ ap (and_then old.passed) (run_passes k old.changes t text effect passes e f g) in
     let after : changes ≡ old.changes ++ by_sure sure (Telling.effect_told k old.changes t).changes =

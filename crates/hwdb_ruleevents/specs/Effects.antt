@@ -131,6 +131,18 @@ all_stay (b ∷ more) = if stays b then all_stay more else false
 abbrev pub is_set_as_is : List ℕ → Bool
 is_set_as_is text = if nat_le (length text) 511 then all_stay text else false
 
+abbrev pub is_name_byte : ℕ → Bool
+is_name_byte b = if is_letter b then true else (if is_digit b then true else has b (codes "_."))
+
+-- a name that each release takes: letters, digits, `_` and `.`; systemd 262 sets no property of another name
+abbrev pub is_name : List ℕ → Bool
+is_name [] = true
+is_name (b ∷ more) = if is_name_byte b then is_name more else false
+
+-- what is known of a property that is set, by its name
+abbrev pub known_as : (name : List ℕ) → Known → Known
+known_as name value = if is_name name then value else Unknown
+
 abbrev pub is_value_as_is : Option (List ℕ) → Bool
 is_value_as_is None = true
 is_value_as_is (Some text) = is_set_as_is text

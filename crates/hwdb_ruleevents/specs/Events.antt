@@ -117,15 +117,16 @@ goes_on_after e n p t = if is_cut e n p t then false else by_operator t.operator
 abbrev pub goes_on : Event → (at : Turn) → Properties → Token → Bool
 goes_on e n p t = if runs t.kind then goes_on_after e n p t else true
 
--- a lookup: the turn of its line, its token, and the text of its command
+-- a lookup: the turn of its line, its token, the text of its command, and the device's MODALIAS then
 pub record Ask : Type 0 where
   pub at : Turn
   pub token : Token
   pub text : List ℕ
+  pub alias : Option (List ℕ)
 
 -- a command whose text is too long isn't run
 abbrev pub asked_in : Event → (at : Turn) → Properties → Token → List Ask
-asked_in e n p t = if is_cut e n p t then [] else record { at = n; token = t; text = text_at e n p t } ∷ []
+asked_in e n p t = if is_cut e n p t then [] else record { at = n; token = t; text = text_at e n p t; alias = p (codes "MODALIAS") } ∷ []
 
 abbrev pub ask_in : Event → (at : Turn) → Properties → Token → List Ask
 ask_in e n p t = if is_lookup t then asked_in e n p t else []

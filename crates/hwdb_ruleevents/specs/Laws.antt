@@ -46,6 +46,7 @@ pub record Fits (t : Told) (x : Ask) : Type 0 where
   pub at : x.at ≡ t.at
   pub token : x.token ≡ t.token
   pub text : IsText t.text x.text
+  pub alias : Is t.alias x.alias
 
 -- What is told covers what is asked: in their order, each that is asked is told, and each that is certain is asked.
 abbrev pub Covers : List Told → List Ask → Type 0

@@ -13,4 +13,6 @@ pub mod EffectViews
 pub mod TellViews
 pub mod Internal
 pub mod FileViews
+pub mod Reasons
+pub mod ReasonViews
 pub mod Rows

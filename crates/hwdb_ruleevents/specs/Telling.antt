@@ -1,5 +1,5 @@
 -- What is told of the lookups of a device from what is known. It follows `Events`, step by step.
-use Rattle.std.specs.Prelude.{List, [], ◌∷◌, ◌++◌, Bool, true, false, if◌then◌else◌, ℕ, ◌+◌, map, filter, not, Option, Some, None}
+use Rattle.std.specs.Prelude.{List, [], ◌∷◌, ◌++◌, Bool, true, false, if◌then◌else◌, ℕ, ◌+◌, codes, map, filter, not, Option, Some, None}
 use Rattle.std.specs.List.{list_any}
 use Rattle.hwdb_spec.specs.Lines.{is_none}
 use Rattle.hwdb_rulefiles.specs.RuleTokens.{Token, is_word}
@@ -7,11 +7,11 @@ use Rattle.hwdb_rulefiles.specs.RuleLines.{RuleLine}
 use Rattle.hwdb_rulefiles.specs.declared.pairs.Operator.{Operator}
 use Rattle.hwdb_rulefiles.specs.declared.tokens.TokenKind.{TokenKind}
 use Rattle.hwdb_rulerun.specs.Asking.{runs, is_lookup}
-use Rattle.hwdb_rulerun.specs.Sights.{Sight, Entry}
+use Rattle.hwdb_rulerun.specs.Sights.{Known, Sight, Entry}
 use Rattle.hwdb_rulerun.specs.Telling.{and_then, by_operator_told, line_told}
 use Rattle.hwdb_ruleevents.specs.Changes.{Change, Put, value_in, by_sure}
 use Rattle.hwdb_ruleevents.specs.Events.{Turn, turn}
-use Rattle.hwdb_ruleevents.specs.Effects.{Effect, Knowledge, assigned_told, effect_of, is_env, with_chosen}
+use Rattle.hwdb_ruleevents.specs.Effects.{Effect, Knowledge, assigned_told, effect_of, is_env, known_as, with_chosen}
 use Rattle.hwdb_ruleevents.specs.Parents.{Chosen, is_for_all, parent_after_told, parent_told}
 use Rattle.hwdb_ruleevents.specs.Texts.{text_told}
 
@@ -22,10 +22,13 @@ entry_for cs t = record { name = t.attribute; value = value_in cs t.attribute }
 abbrev pub sight_at : Sight → List Change → List Token → Sight
 sight_at s cs tokens = record s { properties = map (entry_for cs) tokens; closed = false }
 
--- the effect of ENV, by the text of its value, if that is known
+-- what is known of the property that ENV sets, by the text of its value, if that is known
+abbrev pub new_known : List Change → Token → (text : Option (List ℕ)) → Known
+new_known cs t text = known_as t.attribute (assigned_told t.operator t.value text (value_in cs t.attribute))
+
+-- the effect of ENV
 abbrev pub env_effect : List Change → Token → (text : Option (List ℕ)) → Effect
-env_effect cs t text =
-    record { succeeds = None; changes = Put t.attribute (assigned_told t.operator t.value text (value_in cs t.attribute)) ∷ [] }
+env_effect cs t text = record { succeeds = None; changes = Put t.attribute (new_known cs t text) ∷ [] }
 
 -- the effect of a token, by the text of its value
 abbrev pub effect_by_text : Knowledge → List Change → Token → (text : Option (List ℕ)) → Effect
@@ -42,11 +45,16 @@ passes_by kind o succeeds = if runs kind then by_operator_told o succeeds else S
 abbrev pub passes_told : Token → Effect → Option Bool
 passes_told t effect = passes_by t.kind t.operator effect.succeeds
 
--- a lookup that is told: the turn of its line, its token, its text, if it is known, and whether it is certain
+-- what is known of MODALIAS, by which a walk asks
+abbrev pub alias_told : List Change → Known
+alias_told cs = value_in cs (codes "MODALIAS")
+
+-- a lookup that is told: the turn of its line, its token, its text, if it is known, what is known of MODALIAS then, and whether it is certain
 pub record Told : Type 0 where
   pub at : Turn
   pub token : Token
   pub text : Option (List ℕ)
+  pub alias : Known
   pub certain : Bool
 
 -- a lookup is certain only if its text is known, which may be too long else
@@ -54,11 +62,12 @@ abbrev pub is_certain : (sure : Bool) → (text : Option (List ℕ)) → Bool
 is_certain sure None = false
 is_certain sure (Some text) = sure
 
-abbrev pub told_by_text : (text : Option (List ℕ)) → (sure : Bool) → (at : Turn) → Token → List Told
-told_by_text text sure n t = if is_lookup t then record { at = n; token = t; text = text; certain = is_certain sure text } ∷ [] else []
+abbrev pub told_by_text : List Change → (text : Option (List ℕ)) → (sure : Bool) → (at : Turn) → Token → List Told
+told_by_text cs text sure n t =
+    if is_lookup t then record { at = n; token = t; text = text; alias = alias_told cs; certain = is_certain sure text } ∷ [] else []
 
 abbrev pub told_in : Knowledge → List Change → (sure : Bool) → (at : Turn) → Token → List Told
-told_in k cs sure n t = told_by_text (text_told k cs t) sure n t
+told_in k cs sure n t = told_by_text cs (text_told k cs t) sure n t
 
 -- what is told of a line: its lookups, whether it comes to its end, and what is known of properties after it
 pub record Tale : Type 0 where

@@ -75,7 +75,7 @@ pub fn all_held(alloc: Global, changes: &[Change<'_>]) -> Result<Vec<Held>, Allo
 }
 
 /// What is known of a value.
-fn known(value: &Value) -> Known<'_>
+pub fn known(value: &Value) -> Known<'_>
     ensures { known_of result ≡ value_of value.now }
 {
     match value {

@@ -302,6 +302,38 @@ fn all_stay(text: &[u8]) -> bool
     true
 }
 
+/// Whether each release takes a byte in a property's name.
+fn is_name_byte(byte: u8) -> bool
+    ensures { result ≡ Effects.is_name_byte byte }
+{
+    if is_letter(byte) {
+        return true;
+    }
+    if is_digit(byte) {
+        return true;
+    }
+    has_byte(byte, b"_.")
+}
+
+/// Whether each release takes a property's name.
+pub fn is_name(name: &[u8]) -> bool
+    ensures { result ≡ Effects.is_name name.now }
+{
+    for byte in name {
+        if !is_name_byte(*byte) {
+            return false;
+        }
+    }
+    true
+}
+
+/// What is known of a property that is set, by its name.
+pub fn known_as(name: &[u8], value: Value) -> Value
+    ensures { value_of result ≡ Effects.known_as name.now (value_of value) }
+{
+    if is_name(name) { value } else { Value::Unknown }
+}
+
 /// Whether a text is set as it is.
 fn is_set_as_is(text: &[u8]) -> bool
     ensures { result ≡ Effects.is_set_as_is text.now }

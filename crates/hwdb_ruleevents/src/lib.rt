@@ -9,6 +9,7 @@
 //! | `parents` | the parent that a line chose |
 //! | `effects` | what is known of a token that is run |
 //! | `telling` | what is told of a line |
+//! | `reasons` | why lines ask, may ask, or don't |
 //! | `files` | jumps, and what is told of the lines of files |
 //! | `laws` | what is proved of the definitions alone |
 #![tactic(auto)]
@@ -19,17 +20,19 @@ mod files;
 mod laws;
 mod parents;
 mod pieces;
+mod reasons;
 mod telling;
 mod texts;
 mod values;
 
-pub use changes::{Change, Held, Value, value_in};
-pub use effects::{Commands, Effect, Facts, Knowledge, is_env};
-pub use files::tell_files;
+pub use changes::{Change, Held, Value, known, value_in};
+pub use effects::{Commands, Effect, Facts, Knowledge, is_env, known_as};
+pub use files::{Story, tell_files};
 pub use laws::{
     events_are_covered, events_are_exact, jump_rows, parent_rows, property_rows, text_rows,
     written_rows,
 };
 pub use parents::Parent;
 pub use pieces::{Piece, Variable, pieces_of};
+pub use reasons::{Cause, Reason};
 pub use telling::Told;

@@ -14,8 +14,8 @@ ghost use Rattle.hwdb_ruleevents.specs.ChangeViews.{held_of};
 ghost use Rattle.hwdb_ruleevents.specs.EffectViews.{effect_view, knowledge_of};
 ghost use Rattle.hwdb_ruleevents.specs.TellViews.{turn_of, told_of, tale_of};
 
-use crate::changes::{Held, put_all, value_in};
-use crate::effects::{Commands, Effect, Knowledge, assigned_told, effect_of, is_env};
+use crate::changes::{Held, Value, put_all, value_for, value_in};
+use crate::effects::{Commands, Effect, Knowledge, assigned_told, effect_of, is_env, known_as};
 use crate::parents::{Parent, by_reached, first_tokens, is_for_all, parent_told};
 use crate::texts::text_told;
 use hwdb_rulefiles::{Operator, RuleLine, Token, TokenKind};
@@ -35,6 +35,8 @@ pub struct Told<'a> {
     pub token: &'a Token,
     /// The text of its command, if it is known.
     pub text: Option<Vec<u8>>,
+    /// What is known of MODALIAS when it is asked.
+    pub alias: Value,
     /// Whether it is asked, or may be asked.
     pub certain: bool,
 }
@@ -85,7 +87,7 @@ fn is_certain(sure: bool, text: &Option<Vec<u8>>) -> bool
     }
 }
 
-fn is_no(passes: Option<bool>) -> bool
+pub(crate) fn is_no(passes: Option<bool>) -> bool
     ensures { result ≡ Telling.is_no passes }
 {
     match passes {
@@ -105,7 +107,7 @@ fn is_sure(sure: bool, passes: Option<bool>) -> bool
 }
 
 /// What a line sees of the properties that it names.
-fn entries<'a>(
+pub(crate) fn entries<'a>(
     alloc: Global,
     changes: &'a [Held],
     tokens: &'a [Token],
@@ -124,7 +126,7 @@ fn entries<'a>(
 }
 
 /// Some conditions of a line, as far as they are known, by the properties that its tokens name.
-fn holds(
+pub(crate) fn holds(
     alloc: Global,
     sight: &Sight<'_>,
     changes: &[Held],
@@ -233,7 +235,7 @@ fn env_effect(
     let value = assigned_told(alloc, token.operator, &token.value, text, old)?;
     let name = Vec::from_slice(alloc, &token.attribute)?;
     let mut new = Vec::new(alloc);
-    new.push(Held::Put(name, value))?;
+    new.push(Held::Put(name, known_as(&token.attribute, value)))?;
     Ok(Effect {
         succeeds: None,
         changes: new,
@@ -282,20 +284,28 @@ impl<'a> Tale<'a> {
     }
 
     /// Adds the lookup of a token, with the text of its value.
-    fn ask(&mut self, at: Place, token: &'a Token, text: Option<Vec<u8>>) -> Result<(), AllocError>
+    fn ask(
+        &mut self,
+        alloc: Global,
+        at: Place,
+        token: &'a Token,
+        text: Option<Vec<u8>>,
+    ) -> Result<(), AllocError>
         ensures { OnOk result (tale_of self.new ≡ Telling.asked (tale_of self.old)
-            (Telling.told_by_text (value_view text) at.sure (turn_of at)
+            (Telling.told_by_text (tale_of self.old).changes (value_view text) at.sure (turn_of at)
             (token_of token.now))) }
     {
         if !is_lookup(token) {
             return Ok(());
         }
         let certain = is_certain(at.sure, &text);
+        let alias = value_for(alloc, value_in(&self.changes, b"MODALIAS"))?;
         self.told.push(Told {
             file: at.file,
             line: at.line,
             token,
             text,
+            alias,
             certain,
         })?;
         Ok(())
@@ -321,7 +331,7 @@ impl<'a> Tale<'a> {
         let text = text_told(alloc, knowledge, &self.changes, token)?;
         let effect = effect_by_text(alloc, knowledge, &self.changes, token, &text)?;
         let passes = passes_by(token.kind, token.operator, effect.succeeds);
-        self.ask(at, token, text)?;
+        self.ask(alloc, at, token, text)?;
         self.passed = and_then(self.passed, passes);
         put_all(alloc, &mut self.changes, at.sure, effect.changes)?;
         Ok(passes)

@@ -75,8 +75,13 @@ lookup_rows_hold = record {
   program = refl;
   as_program = refl;
   shortened = refl;
+  address = refl;
+  short_address = refl;
+  driver = refl;
   other = refl;
   refused_line = refl;
   own_cause = refl;
   parents_cause = refl;
+  no_cause = refl;
+  no_parents = refl;
 }

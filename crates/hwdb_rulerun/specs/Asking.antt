@@ -1,5 +1,5 @@
--- Which lookups a line asks, after `udev_rule_apply_line_to_event`, `udev_builtin_lookup` and `builtin_hwdb` (systemd 257): its commands of the
--- builtin hwdb, as they are written.
+-- Which lookups a line asks, after `udev_rule_apply_line_to_event`, `udev_builtin_lookup`, `builtin_hwdb` and `builtin_net_id` (systemd 257): its
+-- commands of these builtins, as they are written.
 use Rattle.std.specs.Prelude.{List, [], ◌∷◌, ◌++◌, Bool, true, false, if◌then◌else◌, ℕ, nat_eq, take, codes, Option, Some, None, ◌≡◌, ◌⊎◌}
 use Rattle.std.specs.List.{starts_with}
 use Rattle.hwdb_spec.specs.Lines.{is_none}
@@ -35,9 +35,13 @@ first_word command = take (word_len (unindented command)) (unindented command)
 abbrev pub is_hwdb : List ℕ → Bool
 is_hwdb command = if is_none (first_word command) then false else starts_with nat_eq (codes "hwdb") (first_word command)
 
--- whether a token asks the hardware database
+-- one of the builtin net_id; a shorter name is net_driver's
+abbrev pub is_net_id : List ℕ → Bool
+is_net_id command = if starts_with nat_eq (first_word command) (codes "net_i") then starts_with nat_eq (codes "net_id") (first_word command) else false
+
+-- Whether a token asks the hardware database. The builtin net_id asks it for the owner of a network address (`ieee_oui`).
 abbrev pub is_lookup : Token → Bool
-is_lookup t = if is_import t.kind then is_hwdb t.value else false
+is_lookup t = if is_import t.kind then (if is_hwdb t.value then true else is_net_id t.value) else false
 
 abbrev pub lookup_in : Token → List Token
 lookup_in t = if is_lookup t then t ∷ [] else []

@@ -110,10 +110,9 @@ pub record ConditionRows : Type 0 where
 abbrev pub Asks : String → List (List ℕ × Bool) → Type 0
 Asks line answer = map (λ a. (a.token.value, a.certain)) (told card (tokens_of line)) ≡ answer
 
--- the value of the condition that is the cause
-abbrev pub cause_value : Option Token → List ℕ
-cause_value None = []
-cause_value (Some t) = t.value
+-- the values of the conditions that decide over a line
+abbrev pub Decides : (fails : Bool) → String → List String → Type 0
+Decides fails line values = map (λ t. t.value) (cause fails card (tokens_of line)) ≡ map codes values
 
 -- lookups of lines, and causes
 pub record LookupRows : Type 0 where
@@ -124,7 +123,12 @@ pub record LookupRows : Type 0 where
   pub program : Asks "IMPORT{builtin}=\"hwdb\", PROGRAM==\"x\"" ((codes "hwdb", false) ∷ [])
   pub as_program : Asks "IMPORT{program}=\"hwdb a\"" ((codes "hwdb a", true) ∷ [])
   pub shortened : Asks "IMPORT{builtin}=\"hw a\"" ((codes "hw a", true) ∷ [])
+  pub address : Asks "IMPORT{builtin}=\"net_id\"" ((codes "net_id", true) ∷ [])
+  pub short_address : Asks "IMPORT{builtin}=\" net_i x\"" ((codes " net_i x", true) ∷ [])
+  pub driver : Asks "IMPORT{builtin}=\"net_\", IMPORT{builtin}=\"net_ids\"" []
   pub other : Asks "IMPORT{builtin}=\"usb_id\"" []
   pub refused_line : Asks "ATRS==\"1\", IMPORT{builtin}=\"hwdb\"" []
-  pub own_cause : cause_value (cause card (tokens_of "KERNEL==\"eth*\", TAG==\"x\", ENV{A}=\"1\"")) ≡ codes "x"
-  pub parents_cause : cause_value (cause card (tokens_of "KERNEL==\"eth*\", ATTRS{vendor}==\"y\", ENV{A}=\"1\"")) ≡ codes "y"
+  pub own_cause : Decides false "KERNEL==\"eth*\", TAG==\"x\", ENV{A}=\"1\"" ("x" ∷ [])
+  pub parents_cause : Decides false "KERNEL==\"eth*\", ATTRS{vendor}==\"y\", ENV{A}=\"1\"" ("y" ∷ [])
+  pub no_cause : Decides true "TAG==\"x\", KERNEL==\"wlan*\", KERNEL==\"b\", ENV{A}=\"1\"" ("wlan*" ∷ [])
+  pub no_parents : Decides true "KERNEL==\"eth*\", KERNELS==\"a\", DRIVERS==\"b\", ENV{A}=\"1\"" ("a" ∷ "b" ∷ [])

@@ -57,11 +57,19 @@ fn is_hwdb(command: &[u8]) -> bool
     b"hwdb".starts_with(word)
 }
 
+/// Whether a command is one of the builtin net_id.
+pub fn is_net_id(command: &[u8]) -> bool
+    ensures { result ≡ Asking.is_net_id command.now }
+{
+    let word = first_word(command);
+    word.starts_with(b"net_i") && b"net_id".starts_with(word)
+}
+
 /// Whether a token asks the hardware database.
 pub fn is_lookup(token: &Token) -> bool
     ensures { result ≡ Asking.is_lookup (token_of token.now) }
 {
-    is_import(token.kind) && is_hwdb(&token.value)
+    is_import(token.kind) && (is_hwdb(&token.value) || is_net_id(&token.value))
 }
 
 /// After something was run, nothing is certain.

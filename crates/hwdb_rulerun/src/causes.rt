@@ -1,8 +1,8 @@
-//! Why nothing is told of a line.
-ghost use Rattle.std.specs.Prelude.{◌≡◌, map, IfOk};
+//! What decides over the conditions of a line.
+ghost use Rattle.std.specs.Prelude.{◌≡◌, ◌++◌, map, IfOk, OnOk};
 ghost use Rattle.hwdb_rulefiles.specs.TokenViews.{token_of};
 ghost use Rattle.hwdb_rulerun.specs.Causes;
-ghost use Rattle.hwdb_rulerun.specs.CauseViews.{token_view};
+ghost use Rattle.hwdb_rulerun.specs.CauseViews.{token_in};
 ghost use Rattle.hwdb_rulerun.specs.Views.{sight_of};
 
 use crate::conditions::{is_own, is_parents, told};
@@ -10,62 +10,86 @@ use crate::sights::Sight;
 use hwdb_rulefiles::Token;
 use std::alloc::{AllocError, Global};
 
-/// Whether nothing is told of a condition that isn't about parents.
-fn is_untold(alloc: Global, sight: &Sight<'_>, token: &Token) -> Result<bool, AllocError>
-    ensures { IfOk result (λ untold. untold
-        ≡ Causes.is_untold (sight_of sight.now) (token_of token.now)) }
+/// Whether an answer is no, if that is looked for, or else no answer.
+fn is_meant(fails: bool, answer: Option<bool>) -> bool
+    ensures { result ≡ Causes.is_meant fails answer }
+{
+    match answer {
+        None => !fails,
+        Some(true) => false,
+        Some(false) => fails,
+    }
+}
+
+/// Whether a condition that isn't about parents is told so.
+fn is_told_so(
+    alloc: Global,
+    fails: bool,
+    sight: &Sight<'_>,
+    token: &Token,
+) -> Result<bool, AllocError>
+    ensures { IfOk result (λ so. so
+        ≡ Causes.is_told_so fails (sight_of sight.now) (token_of token.now)) }
 {
     if !is_own(token.kind) {
         return Ok(false);
     }
     let answer = told(alloc, sight, token)?;
-    Ok(answer.is_none())
+    Ok(is_meant(fails, answer))
 }
 
-/// The first of a line's own conditions of which nothing is told.
+/// The first of a line's own conditions that is told so.
 fn own_cause<'a>(
     alloc: Global,
+    fails: bool,
     sight: &Sight<'_>,
     tokens: &'a [Token],
-) -> Result<Option<&'a Token>, AllocError>
-    ensures { IfOk result (λ found. token_view found
-        ≡ Causes.own_cause (sight_of sight.now) (map token_of tokens.now)) }
+) -> Result<Vec<&'a Token>, AllocError>
+    ensures { IfOk result (λ found. map token_in found.items
+        ≡ Causes.own_cause fails (sight_of sight.now) (map token_of tokens.now)) }
 {
+    let mut found = Vec::new(alloc);
     for token in tokens {
-        if is_untold(alloc, sight, token)? {
-            return Ok(Some(token));
+        if is_told_so(alloc, fails, sight, token)? {
+            found.push(token)?;
+            return Ok(found);
         }
     }
-    Ok(None)
+    Ok(found)
 }
 
-/// The first condition about parents.
-fn parents_cause(tokens: &[Token]) -> Option<&Token>
-    ensures { token_view result ≡ Causes.parents_cause (map token_of tokens.now) }
+/// All conditions about parents.
+fn parents_cause(alloc: Global, tokens: &[Token]) -> Result<Vec<&Token>, AllocError>
+    ensures { IfOk result (λ found. map token_in found.items
+        ≡ Causes.parents_cause (map token_of tokens.now)) }
 {
+    let mut found = Vec::new(alloc);
     for token in tokens {
         if is_parents(token.kind) {
-            return Some(token);
+            found.push(token)?;
         }
     }
-    None
+    Ok(found)
 }
 
-/// Why nothing is told of a line: the first of its own conditions of which nothing is told, or else the first about parents.
+/// What decides over a line that doesn't hold, if `fails`, or else of which nothing is told: the first of its own conditions that is told so, or
+/// all about parents. Each condition is tried once more.
 ///
 /// # Errors
 ///
 /// `AllocError` at any allocation that fails.
 pub fn cause<'a>(
     alloc: Global,
+    fails: bool,
     sight: &Sight<'_>,
     tokens: &'a [Token],
-) -> Result<Option<&'a Token>, AllocError>
-    ensures { IfOk result (λ found. token_view found
-        ≡ Causes.cause (sight_of sight.now) (map token_of tokens.now)) }
+) -> Result<Vec<&'a Token>, AllocError>
+    ensures { IfOk result (λ found. map token_in found.items
+        ≡ Causes.cause fails (sight_of sight.now) (map token_of tokens.now)) }
 {
-    if let Some(token) = own_cause(alloc, sight, tokens)? {
-        return Ok(Some(token));
+    let own = own_cause(alloc, fails, sight, tokens)?;
+    if own.is_empty() {
+        return parents_cause(alloc, tokens);
     }
-    Ok(parents_cause(tokens))
+    Ok(own)
 }

@@ -33,7 +33,7 @@ pub fn condition_rows()
     ensures { ConditionRows }
 {}
 
-/// If nothing is told of a line, there is a cause.
+/// If a line doesn't hold, or nothing is told of it, something decides over that.
 #[tactic(auto, using(crate::proofs::CauseLemmas::cause_is_there))]
 pub fn cause_is_there()
     ensures { CauseIsThere }

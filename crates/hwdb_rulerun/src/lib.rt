@@ -6,7 +6,7 @@
 //! | `sights` | what is known of a device |
 //! | `conditions` | which conditions of a line hold, as far as it is known |
 //! | `asking` | which lookups a line asks, or may ask |
-//! | `causes` | why nothing is told of a line |
+//! | `causes` | what decides over the conditions of a line |
 //! | `laws` | what is proved of the definitions alone, and worked rows |
 #![tactic(auto)]
 
@@ -17,7 +17,7 @@ mod laws;
 mod matching;
 mod sights;
 
-pub use asking::{Asked, is_lookup, lookups, runs};
+pub use asking::{Asked, is_lookup, is_net_id, lookups, runs};
 pub use causes::cause;
 pub use conditions::{
     ATTRIBUTE_SIZE, all_of, and_then, by_operator_told, has_parents, is_parents, is_plain,

@@ -4,3 +4,4 @@ pub mod WalkLemmas
 pub mod BitLemmas
 pub mod RuleLemmas
 pub mod ComputedRows
+pub mod AddressLemmas

@@ -1,5 +1,5 @@
 -- The strings of a walk, one parent after another.
-use Rattle.std.proofs.Common.{◌≡◌, ℕ, suc, ◌+◌, Bool, true, false, Option, None, Some, List, [], ◌∷◌, ◌++◌, length, map, refl, ap, ◌∙◌, sym, arith, append_assoc, append-nil, option_map}
+use Rattle.std.proofs.Common.{◌≡◌, ℕ, suc, ◌+◌, Bool, true, false, Option, None, Some, List, [], ◌∷◌, ◌++◌, drop, length, map, refl, ap, ◌∙◌, sym, arith, append_assoc, append-nil, option_map}
 use Rattle.std.specs.Prelude.{if◌then◌else◌}
 use Rattle.hwdb_spec_commands.specs.Lookups.{Question, is_walked, string_of, strings_from}
 use Rattle.hwdb_spec_commands.specs.Sysfs.{Ancestor, is_usb_device}
@@ -10,6 +10,13 @@ pub no_strings : (subsystem prefix : List ℕ) (place : ℕ) (is_last : Bool) {A
 unfolding strings_from
 no_strings subsystem prefix place is_last f [] h = refl
 no_strings subsystem prefix place is_last f (x ∷ list) h = absurd (omega arith)
+
+-- a device without parents has no strings of theirs
+pub no_parents : (subsystem prefix : List ℕ) (place : ℕ) (is_last : Bool) {A : Type 0} (f : A → Ancestor) (list : List A) (old : List Question) → length list ≡ 0
+    → old ≡ old ++ strings_from subsystem prefix place is_last (drop 1 (map f list))
+unfolding strings_from
+no_parents subsystem prefix place is_last f [] old h = sym (append-nil old)
+no_parents subsystem prefix place is_last f (x ∷ list) old h = absurd (omega arith)
 
 module _ (subsystem prefix : List ℕ) (place : ℕ) (is_last : Bool) (a : Ancestor) (more : List Ancestor) where
   pub passed_by : is_walked subsystem a ≡ false → strings_from subsystem prefix place is_last (a ∷ more) ≡ strings_from subsystem prefix (suc place) is_last more

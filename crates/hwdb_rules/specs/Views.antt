@@ -1,5 +1,5 @@
 -- What the types of this crate mean.
-use Rattle.std.specs.Prelude.{List, map}
+use Rattle.std.specs.Prelude.{List, flat_map, map}
 use Rattle.hwdb_sysfs.specs.Views.{ancestor_of}
 use Rattle.hwdb_spec_commands.specs.Inputs.{Kinds}
 use Rattle.hwdb_spec_commands.specs.Lookups.{Lookup, Question, Scene}
@@ -31,3 +31,7 @@ plan_of p = record { rule = p.rule.now; questions = questions_of p.questions.ite
 -- strings of rules files
 abbrev pub plans_of : List Plan → List Lookup
 plans_of plans = map plan_of plans
+
+-- the strings that are asked
+abbrev pub strings_in : List Lookup → List Question
+strings_in lookups = flat_map (λ (l : Lookup). l.questions) lookups

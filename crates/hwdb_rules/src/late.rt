@@ -1,7 +1,8 @@
 //! The rules from 70-camera to 78-sound-card.
-ghost use Rattle.std.specs.Prelude.{◌≡◌, ◌++◌, codes, option_map, IfOk, OnOk};
+ghost use Rattle.std.specs.Prelude.{◌≡◌, ◌++◌, [], codes, option_map, IfOk, OnOk};
 ghost use Rattle.hwdb_spec_commands.specs.Lookups;
-ghost use Rattle.hwdb_rules.specs.Views.{kinds_of, plans_of, questions_of, scene_of};
+ghost use Rattle.hwdb_rules.specs.Views.{kinds_of, plans_of, questions_of, scene_of, strings_in};
+ghost use Rattle.hwdb_sysfs.specs.Views.{ancestor_of};
 ghost use Rattle.hwdb_rules.specs.Internal.{camera_plan, found_at, is_video};
 
 use crate::ancestors::{
@@ -14,6 +15,7 @@ use crate::scene::{Scene, bus_of, itself, other_bus_of, push_ids_and_name, push_
 use crate::values::same;
 use crate::walks::{Modaliases, add_walk, push_upper};
 use hwdb_properties::before;
+use hwdb_sysfs::Ancestor;
 use std::alloc::{AllocError, Global};
 
 /// The string of a camera. The only error, here and below, is `AllocError`.
@@ -342,6 +344,42 @@ fn address_text(alloc: Global, digits: &[u8]) -> Result<Vec<u8>, AllocError>
     text.extend_from_slice(b"OUI:")?;
     text.extend_from_slice(digits)?;
     Ok(text)
+}
+
+/// One string of the device itself, if udev runs its lookup.
+fn own_string(alloc: Global, scene: &Scene<'_>, text: Vec<u8>) -> Result<Vec<Question>, AllocError>
+    ensures { IfOk result (λ q. questions_of q.items
+        ≡ Lookups.question_at (Lookups.itself (scene_of scene.now)) text.items) }
+{
+    let mut questions = Vec::new(alloc);
+    ask(&mut questions, itself(scene), text)?;
+    Ok(questions)
+}
+
+/// The string of a network device's address, which the builtin net_id asks; none if it has no address of its own.
+///
+/// # Errors
+///
+/// `AllocError` at any allocation that fails.
+pub fn address_strings(alloc: Global, own: &Ancestor) -> Result<Vec<Question>, AllocError>
+    ensures { IfOk result (λ q. questions_of q.items ≡ strings_in (Lookups.address_rule
+        (record { own = ancestor_of own.now; chain = []; machine = [] }))) }
+{
+    let scene = Scene {
+        own,
+        chain: &[],
+        machine: b"",
+    };
+    if !has_own_address(&scene) {
+        return Ok(Vec::new(alloc));
+    }
+    let digits = address_digits(alloc, &scene)?;
+    if !is_owned(&digits) {
+        return Ok(Vec::new(alloc));
+    }
+    let text = address_text(alloc, &digits)?;
+    let questions = own_string(alloc, &scene, text)?;
+    Ok(questions)
 }
 
 /// The address of a network device.

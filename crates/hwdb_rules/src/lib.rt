@@ -34,9 +34,10 @@ pub use ancestors::{attribute, first_text, has_some_events, is_in, is_usb_device
 pub use early::{early_rules, input_id_rules};
 pub use hwdb_spec_commands::ATTRIBUTES;
 pub use inputs::{Kinds, kinds_by_bits, kinds_seen};
-pub use late::late_rules;
+pub use late::{address_strings, late_rules};
 pub use laws::lookup_rows;
 pub use middle::middle_rules;
 pub use plans::{Plan, Question};
 pub use scene::{Scene, machine_text};
-pub use walks::strings_of;
+pub use values::is_run;
+pub use walks::{Modaliases, add_parents, is_walked, made_of, strings_of};

@@ -209,7 +209,7 @@ pub(crate) fn push_cut(text: &mut Vec<u8>, value: &[u8]) -> Result<(), AllocErro
 }
 
 /// Whether udev runs a lookup with this text: no value in it is too long.
-pub(crate) fn is_run(text: &[u8]) -> bool
+pub fn is_run(text: &[u8]) -> bool
     ensures { result ≡ Sysfs.is_run text.now }
 {
     !text.contains(&0)

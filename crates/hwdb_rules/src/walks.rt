@@ -1,5 +1,5 @@
 //! Walks: the strings of a device and its parents, from it up.
-ghost use Rattle.std.specs.Prelude.{◌≡◌, ◌++◌, ◌+◌, ◌<◌, ◌^◌, false, true, if◌then◌else◌, length, map, option_map, IfOk, OnOk};
+ghost use Rattle.std.specs.Prelude.{◌≡◌, ◌++◌, ◌+◌, ◌<◌, ◌^◌, drop, false, true, if◌then◌else◌, length, map, option_map, IfOk, OnOk};
 ghost use Rattle.hwdb_spec_commands.specs.Sysfs;
 ghost use Rattle.hwdb_spec_commands.specs.Lookups;
 ghost use Rattle.hwdb_spec_commands.specs.Lookups.{strings_from, upper, walk, when};
@@ -50,7 +50,11 @@ fn usb_text(alloc: Global, vendor: &[u8], id: &[u8], product: &[u8]) -> Result<V
 }
 
 /// The string that is made of a device, if it is on USB itself and tells its numbers.
-fn made_of(alloc: Global, ancestor: &Ancestor) -> Result<Option<Vec<u8>>, AllocError>
+///
+/// # Errors
+///
+/// `AllocError` at any allocation that fails.
+pub fn made_of(alloc: Global, ancestor: &Ancestor) -> Result<Option<Vec<u8>>, AllocError>
     ensures { IfOk result
         (λ t. option_map (λ v. v.items) t ≡ Lookups.made_of (ancestor_of ancestor.now)) }
 {
@@ -88,7 +92,7 @@ fn string_of(alloc: Global, ancestor: &Ancestor) -> Result<Option<Vec<u8>>, Allo
 }
 
 /// Whether a walk looks at a device: it is in the subsystem, if one is given.
-fn is_walked(ancestor: &Ancestor, subsystem: &[u8]) -> bool
+pub fn is_walked(ancestor: &Ancestor, subsystem: &[u8]) -> bool
     ensures { result ≡ Lookups.is_walked subsystem.now (ancestor_of ancestor.now) }
 {
     subsystem.is_empty() || is_in(ancestor, subsystem)
@@ -187,11 +191,39 @@ pub fn strings_of(
 
 /// Whose MODALIAS a walk asks, and after which prefix.
 #[derive(Clone, Copy)]
-pub(crate) struct Modaliases<'a> {
+pub struct Modaliases<'a> {
     /// The subsystem of the devices; none if each device counts.
-    pub(crate) subsystem: &'a [u8],
+    pub subsystem: &'a [u8],
     /// What is before a MODALIAS.
-    pub(crate) prefix: &'a [u8],
+    pub prefix: &'a [u8],
+}
+
+/// Adds the strings of a device's parents, as a walk asks them after the device's own; `is_last` says that the next string is the last.
+///
+/// # Errors
+///
+/// `AllocError` at any allocation that fails.
+pub fn add_parents(
+    alloc: Global,
+    questions: &mut Vec<Question>,
+    of: Modaliases<'_>,
+    is_last: bool,
+    chain: &[Ancestor],
+) -> Result<(), AllocError>
+    ensures { OnOk result (questions_of questions.new.items ≡ questions_of questions.old.items
+        ++ strings_from of.entry.subsystem.now of.entry.prefix.now 1 is_last
+        (drop 1 (map ancestor_of chain.now))) }
+{
+    let Some((_, parents)) = chain.split_first() else {
+        return Ok(());
+    };
+    let walk = ParentWalk {
+        subsystem: of.subsystem,
+        prefix: of.prefix,
+        place: 1,
+        is_last,
+    };
+    add_strings(alloc, questions, walk, parents)
 }
 
 /// Adds a walk.

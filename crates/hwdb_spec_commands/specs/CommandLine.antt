@@ -154,6 +154,10 @@ from_rule = record (new_rule (codes "from")) { value_names = 1; long = Some (cod
 abbrev pub udev_rule : Rule
 udev_rule = record (new_rule (codes "udev")) { value_names = 1; long = Some (codes "udev"); action = Some Set }
 
+-- `--why`
+abbrev pub why_rule : Rule
+why_rule = record (new_rule (codes "why")) { long = Some (codes "why"); action = Some SetTrue }
+
 -- a device's path or name, or none
 abbrev pub path_rule : Rule
 path_rule = record (new_rule (codes "DEVICE")) { action = Some Set }
@@ -202,10 +206,14 @@ list_app = with_rule (with_rule (with_rule (with_range (with_shared (new_app (co
 abbrev pub near_app : App
 near_app = with_rule (with_rule (with_rule (with_rule (with_shared (new_app (codes "near"))) limit_rule) text_rule) json_rule) devices_rule
 
+-- where a device is looked for, and whose rules count
+abbrev pub with_sources : App → App
+with_sources a = with_rule (with_rule a from_rule) udev_rule
+
 -- `device`
 abbrev pub device_app : App
 device_app =
-    with_rule (with_rule (with_rule (with_rule (with_rule (with_rule (with_rule (with_rule (with_shared (new_app (codes "device"))) from_rule) udev_rule) text_rule) strings_rule) json_rule) pattern_rule) all_rule)
+    with_rule (with_rule (with_rule (with_rule (with_rule (with_rule (with_rule (with_sources (with_shared (new_app (codes "device")))) why_rule) text_rule) strings_rule) json_rule) pattern_rule) all_rule)
     path_rule
 
 -- `check`

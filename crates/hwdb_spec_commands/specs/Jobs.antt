@@ -61,7 +61,7 @@ IsTask name inner (Near n) = (name ≡ codes "near") × (n.json ≡ has_flag (co
     × IsLimit (one_of (codes "limit") inner) n.limit
 IsTask name inner (Device d) = (name ≡ codes "device") × (option_map string_bytes d.path ≡ first_of (codes "DEVICE") inner) × (d.strings ≡ has_flag (codes "strings") inner)
     × (d.json ≡ has_flag (codes "json") inner) × (d.pattern ≡ has_flag (codes "pattern") inner) × (d.all ≡ has_flag (codes "all") inner) × (option_map string_bytes d.from ≡ first_of (codes "from") inner)
-    × (option_map string_bytes d.udev ≡ first_of (codes "udev") inner)
+    × (option_map string_bytes d.udev ≡ first_of (codes "udev") inner) × (d.why ≡ has_flag (codes "why") inner)
 IsTask name inner (Check c) = (name ≡ codes "check") × AreAnyValues (codes "FILE") inner (map string_bytes c.files.items)
     × AreAnyValues (codes "allow") inner (map string_bytes c.allowed.items) × (c.json ≡ has_flag (codes "json") inner)
     × (option_map string_bytes c.format ≡ first_of (codes "format") inner) × (option_map string_bytes c.name ≡ first_of (codes "name") inner)

@@ -124,6 +124,8 @@ pub struct DeviceArgs {
     pub from: Option<String>,
     /// Whose rules count: the machine's own ones, or those that are built in.
     pub udev: Option<String>,
+    /// Whether what decides over each line that asks is printed.
+    pub why: bool,
 }
 
 /// What the words of `diff` ask for.

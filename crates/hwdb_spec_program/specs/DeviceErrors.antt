@@ -1,8 +1,8 @@
 -- What `device` asks sysfs, and its errors. Our choice.
-use Rattle.std.specs.Prelude.{◌≡◌, ◌⊎◌, ◌∷◌, List, [], None, Option, Some, is_some, true, ℕ}
+use Rattle.std.specs.Prelude.{◌≡◌, ◌⊎◌, ◌∷◌, List, [], None, Option, Some, ℕ}
 use Rattle.hwdb_spec_commands.specs.DeviceAsked.{missing_text, no_sysfs_text, unread_text}
 use Rattle.hwdb_spec_commands.specs.DeviceFound.{places_meant, several_text}
-use Rattle.hwdb_spec_commands.specs.DeviceTree.{Sight, missing_folder, sysfs_below, unread_for}
+use Rattle.hwdb_spec_commands.specs.DeviceTree.{Sight, missing_folder, unread_for}
 use Rattle.hwdb_spec.specs.Failures.{IsOneLine}
 use Rattle.hwdb_spec.specs.Lines.{is, pieces}
 use Rattle.hwdb_spec_commands.specs.declared.attributes.TheConstants.{ATTRIBUTES}
@@ -61,8 +61,3 @@ abbrev pub IsNoDevice : (root sys given : List ℕ) → Sight → Refusal → Ty
 IsNoDevice root sys given sight refusal =
     (refusal ≡ Plain Memory)
     ⊎ (SaysUnread root sys given sight refusal ⊎ (SaysNoDevice root sys given sight refusal ⊎ SaysSeveral root sys given sight refusal))
-
--- there is no sysfs, or no device in it
-abbrev pub IsUnmeant : (root given : List ℕ) → Sight → Refusal → Type 0
-IsUnmeant root given sight refusal =
-    IsNoSysfs root sight refusal ⊎ ((sys : List ℕ) × (sysfs_below sight root ≡ Some sys) × IsNoDevice root sys given sight refusal)

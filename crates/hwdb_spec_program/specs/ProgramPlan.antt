@@ -31,6 +31,7 @@ use Rattle.hwdb_plan.specs.Ask.{lone_answer}
 use Rattle.hwdb_plan.specs.Check.{asked_request, said_of}
 use Rattle.hwdb_plan.specs.Device.{own_search, search_of}
 use Rattle.hwdb_spec_rules.specs.RuleAnswers.{wants_rules}
+use Rattle.hwdb_spec_rules.specs.declared.forms.RulesForm.{RulesForm}
 use Rattle.hwdb_plan.specs.Diff.{change_of, changes_request}
 use Rattle.hwdb_plan.specs.Dump.{text_form}
 use Rattle.hwdb_plan.specs.Ended.{Outs, ShowsEnd, outs, outs_of}
@@ -94,7 +95,7 @@ near_of root rows =
 abbrev pub device_of : Sight → (root : List ℕ) → List Row → Search
 device_of sight root rows =
     search_of sight asked_names root (device_form (has_flag (codes "strings") rows) (has_flag (codes "json") rows) (has_flag (codes "pattern") rows))
-    (has_flag (codes "all") rows) (first_of (codes "DEVICE") rows)
+    (first_of (codes "udev") rows) (has_flag (codes "all") rows) (first_of (codes "DEVICE") rows)
 
 -- the same over an export of udev's database
 abbrev pub report_of : (root : List ℕ) → List Row → (from : Text) → Request
@@ -108,16 +109,23 @@ abbrev pub device_from : Sight → (root : List ℕ) → List Row → (from : Op
 device_from sight root rows None = OfDevices (device_of sight root rows)
 device_from sight root rows (Some from) = OfFiles (report_of root rows from)
 
--- by the machine's own rules
+-- what is told by rules, and in which form
+abbrev pub rules_form : List Row → RulesForm
+rules_form rows =
+    record {
+      why = has_flag (codes "why") rows;
+      form = device_form (has_flag (codes "strings") rows) (has_flag (codes "json") rows) (has_flag (codes "pattern") rows);
+    }
+
+-- by the machine's own rules alone
 abbrev pub rules_of : Sight → (root : List ℕ) → List Row → (from : Option Text) → Command
 rules_of sight root rows from =
-    OfDevices (own_search sight root (device_form (has_flag (codes "strings") rows) (has_flag (codes "json") rows) (has_flag (codes "pattern") rows))
-    (first_of (codes "udev") rows) (first_of (codes "DEVICE") rows) (has_flag (codes "all") rows || is_some from))
+    OfDevices (own_search sight asked_names root (rules_form rows) (first_of (codes "udev") rows) (first_of (codes "DEVICE") rows) (has_flag (codes "all") rows) (is_some from))
 
--- by these, or by those that are built in
+-- by these, or by those that count else
 abbrev pub device_command : Sight → (root : List ℕ) → List Row → (from : Option Text) → Command
 device_command sight root rows from =
-    if wants_rules (first_of (codes "udev") rows) then rules_of sight root rows from else device_from sight root rows from
+    if wants_rules (has_flag (codes "why") rows) (first_of (codes "udev") rows) then rules_of sight root rows from else device_from sight root rows from
 
 -- `check`
 abbrev pub check_of : (root : List ℕ) (strict : Bool) → List Row → Request

@@ -1,5 +1,5 @@
 //! Worked rows of the definitions. These functions do nothing: what each of them ensures is so.
-ghost use Rattle.hwdb_spec_rules.specs.Rows.{AskedRows, NameRows, SightRows, WordRows};
+ghost use Rattle.hwdb_spec_rules.specs.Rows.{AskedRows, NameRows, SightRows, WhyRows, WordRows};
 
 /// The names that rules read.
 #[tactic(auto, using(crate::proofs::ComputedRows::name_rows_hold))]
@@ -17,6 +17,12 @@ pub fn sight_rows()
 #[tactic(auto, using(crate::proofs::ComputedRows::asked_rows_hold))]
 pub fn asked_rows()
     ensures { AskedRows }
+{}
+
+/// Why lines ask, may ask, or don't.
+#[tactic(auto, using(crate::proofs::ComputedRows::why_rows_hold))]
+pub fn why_rows()
+    ensures { WhyRows }
 {}
 
 /// Words that ask for the machine's own rules.

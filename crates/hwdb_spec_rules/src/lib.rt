@@ -5,11 +5,15 @@
 //! | `RuleNames` | which attributes rules read |
 //! | `RuleSights` | what sysfs tells before any rule is tried |
 //! | `DeviceCommands` | what is known of builtins and programs |
+//! | `RuleReasons` | what is said of why a line asks, may ask, or doesn't |
+//! | `RuleWhys` | what `device --why` prints |
 //! | `RuleStrings` | the strings that rules ask, in their order |
-//! | `RuleAnswers` | what is printed of them, and what is said of words that don't fit |
+//! | `RuleAnswers` | what is printed of these, and what is said of words that don't fit |
 //! | `Rows` | worked rows of all of these |
 #![tactic(auto)]
 
+mod forms;
 mod laws;
 
-pub use laws::{asked_rows, name_rows, sight_rows, word_rows};
+pub use forms::{RulesForm, Whose};
+pub use laws::{asked_rows, name_rows, sight_rows, why_rows, word_rows};

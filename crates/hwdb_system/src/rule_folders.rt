@@ -172,6 +172,22 @@ pub struct RulesRead {
     pub texts: Vec<Vec<u8>>,
 }
 
+impl RulesRead {
+    /// Whether there are none.
+    #[tactic(auto, unfolding(hwdb_plan::specs::OwnRules::has_none, hwdb_plan::specs::OwnRules::sources_of))]
+    pub fn is_empty(&self) -> bool
+        ensures { result ≡ plan.has_none (sources_in self.now) }
+    {
+        let Some(_) = self.paths.split_first() else {
+            return true;
+        };
+        let Some(_) = self.texts.split_first() else {
+            return true;
+        };
+        false
+    }
+}
+
 /// Chooses among the machine's own rules files below the root, and reads the chosen ones: a masked one isn't read.
 ///
 /// Errors are a folder that can't be listed, a rules file's name that isn't UTF-8, and a chosen file that can't be read.

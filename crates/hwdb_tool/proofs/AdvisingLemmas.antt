@@ -12,7 +12,6 @@ use Rattle.hwdb_spec_commands.specs.DeviceTree.{Sight}
 use Rattle.hwdb_spec_commands.specs.Jobs.{IsJobOf, has_flag, text_taker}
 use Rattle.hwdb_spec_commands.specs.Runs.{HasTaken, Told, WasCut}
 use Rattle.hwdb_spec_commands.specs.Told.{Reads, stop_of}
-use Rattle.hwdb_spec_commands.specs.declared.form.Form.TheVariants as form
 use Rattle.hwdb_spec_commands.specs.declared.job.Job.{Job}
 use Rattle.hwdb_spec_commands.specs.declared.job.Task.{Task}
 use Rattle.hwdb_spec_commands.specs.declared.refusals.Refusal.{Refusal}

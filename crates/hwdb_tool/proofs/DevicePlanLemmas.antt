@@ -1,22 +1,25 @@
 -- Ends of `device`, from what its calls promise.
-use Rattle.std.proofs.Common.{◌≡◌, ◌∙◌, ◌⊎◌, inl, inr, ap, refl, sym, subst, Bool, List, Option, None, Some, Result, Ok, Err, ℕ, [], ◌∷◌, ◌++◌}
+use Rattle.std.proofs.Common.{◌≡◌, ◌∙◌, ◌⊎◌, inl, inr, ap, refl, sym, subst, Bool, true, false, List, Option, None, Some, Result, Ok, Err, ℕ, [], ◌∷◌, ◌++◌}
 use Rattle.std.specs.Option.{option_map_or}
-use Rattle.std.specs.Prelude.{codes, option_map}
+use Rattle.std.specs.Prelude.{if◌then◌else◌, codes, option_map}
 use Rattle.std.specs.Result.{IsErrAnd}
 use Rattle.hwdb_spec.specs.declared.errors.ToolError.{ToolError}
 use Rattle.hwdb_spec.specs.declared.errors.ToolError.TheVariants as error
 use Rattle.hwdb_spec_commands.specs.DatabaseErrors.{IsDatabaseRefusal}
 use Rattle.hwdb_spec_commands.specs.Databases.{IsTextOf}
-use Rattle.hwdb_spec_commands.specs.AllStrings.{all_strings_text, unread_lines}
-use Rattle.hwdb_spec_commands.specs.DeviceAsked.{device_list, device_meant, missing_text, no_sysfs_text, unread_text}
+use Rattle.hwdb_spec_commands.specs.AllStrings.{unread_lines}
+use Rattle.hwdb_spec_commands.specs.DeviceAsked.{device_list, missing_text, no_sysfs_text, unread_text}
 use Rattle.hwdb_spec_commands.specs.DeviceFound.{only, places_meant, several_text}
 use Rattle.hwdb_spec_commands.specs.DeviceTexts.{device_text, found_form, told_by}
 use Rattle.hwdb_spec_commands.specs.NearAsked.{database_patterns}
 use Rattle.hwdb_spec.specs.Folders.{Source}
 use Rattle.hwdb_spec.specs.Tree.{Tree}
-use Rattle.hwdb_spec_rules.specs.RuleAnswers.{files_of, needs_device, rules_misuse}
-use Rattle.hwdb_spec_rules.specs.RuleStrings.{RulesFile, found_by_rules}
-use Rattle.hwdb_spec_commands.specs.DeviceTree.{Sight, device_at, missing_folder, sysfs_below, unread_for}
+use Rattle.hwdb_spec_rules.specs.RuleAnswers.{all_asked_text, files_of, needs_device, rules_misuse}
+use Rattle.hwdb_spec_rules.specs.RuleStrings.{RulesFile, found_by_rules, whys_by_rules}
+use Rattle.hwdb_spec_rules.specs.RuleWhys.{whys_form}
+use Rattle.hwdb_spec_rules.specs.declared.forms.RulesForm.{RulesForm}
+use Rattle.hwdb_spec_rules.specs.declared.forms.Whose.{Whose}
+use Rattle.hwdb_spec_commands.specs.DeviceTree.{Sight, missing_folder, sysfs_below, unread_for}
 use Rattle.hwdb_spec_commands.specs.Refusals.{IsInWords}
 use Rattle.hwdb_spec_commands.specs.Sysfs.{Device}
 use Rattle.hwdb_spec_commands.specs.Told.{IsStop, Reads, stop_of}
@@ -24,9 +27,9 @@ use Rattle.hwdb_spec_commands.specs.Told.Stop.{Says}
 use Rattle.hwdb_spec_commands.specs.declared.devices.DeviceForm.{DeviceForm}
 use Rattle.hwdb_spec_commands.specs.declared.refusals.Refusal.{Refusal}
 use Rattle.hwdb_spec_commands.specs.declared.refusals.Refusal.TheVariants as refusal
-use Rattle.hwdb_spec_program.specs.DeviceErrors.{IsNoDevice, IsNoSysfs, IsUnmeant, asked_names}
-use Rattle.hwdb_plan.specs.Asking.{asked}
-use Rattle.hwdb_plan.specs.Device.{all_misuse, by_rules_plan, device_answer, devices_plan, every_plan, meant_plan, own_plan, rules_answer, rules_found, strings_answer, strings_plan}
+use Rattle.hwdb_spec_program.specs.DeviceErrors.{IsNoDevice, IsNoSysfs, asked_names}
+use Rattle.hwdb_plan.specs.Device.{all_misuse, asks, by_built_in, by_files, by_files_first, by_rules, by_rules_plan, device_answer, devices_plan, every_plan, meant_plan, own_plan, rules_answer, strings_answer, strings_plan}
+use Rattle.hwdb_plan.specs.OwnRules.{has_none}
 use Rattle.hwdb_plan.specs.OverText.{if_fit}
 use Rattle.hwdb_plan.specs.Sysfs.{OfCause, folder_of, none_there, one_of, place_of, says, sysfs_of}
 use Rattle.hwdb_plan.specs.Dump.{database_stop}
@@ -173,68 +176,73 @@ module _ {Y : Type 0} (end_of : Y → End) (w : Reads) (sight : Sight) (root : L
         (in_words [] (several_text sight asked_names sys given (many.one ∷ many.other ∷ many.more)) many.said
         (several_ends w sight [] root asked_names given sys (next [] sys) many.one many.other many.more many.are))
 
-  pub unmeant_follows : (given : List ℕ) (form : DeviceForm) (r : Refusal) (result : Result Y Refusal) → IsUnmeant root given sight r → IsErrAnd result (λ x. x ≡ r)
-      → OfCause (λ cause. Follows end_of w (meant_plan sight cause asked_names root given form) result)
-  unmeant_follows given form r result (inl none) is =
-      handed_on (λ cause. meant_plan sight cause asked_names root given form) r result
-      (no_sysfs (λ cause sys. place_of sight cause asked_names root given sys (λ place. asked root (device_answer form (device_at sight asked_names sys place)))) r none) is
-  unmeant_follows given form r result (inr (sys, below, none)) is =
-      handed_on (λ cause. meant_plan sight cause asked_names root given form) r result
-      (no_device given sys (λ cause s place. asked root (device_answer form (device_at sight asked_names s place))) r below none) is
-
-  -- ---- by the machine's own rules
-  module _ (given : List ℕ) (form : DeviceForm) where
+  -- ---- the device that is meant, by the rules that count
+  module _ (given : List ℕ) (whose : Whose) where
     abbrev AtPlace : (sys place : List ℕ) → Plan
-    AtPlace sys place = rules_found sight root sys place form
+    AtPlace sys place = by_rules sight asked_names root whose sys (Some place)
 
-    abbrev ByRules : Result Y Refusal → Type 0
-    ByRules result = OfCause (λ cause. Follows end_of w (by_rules_plan sight cause asked_names root form (Some given)) result)
+    abbrev Meant : Result Y Refusal → Type 0
+    Meant result = OfCause (λ cause. Follows end_of w (meant_plan sight cause asked_names root given whose) result)
 
-    pub no_sysfs_for_rules : (r : Refusal) (result : Result Y Refusal) → IsNoSysfs root sight r → IsErrAnd result (λ x. x ≡ r) → ByRules result
-    no_sysfs_for_rules r result none is =
-        handed_on (λ cause. by_rules_plan sight cause asked_names root form (Some given)) r result
+    pub no_sysfs_for : (r : Refusal) (result : Result Y Refusal) → IsNoSysfs root sight r → IsErrAnd result (λ x. x ≡ r) → Meant result
+    no_sysfs_for r result none is =
+        handed_on (λ cause. meant_plan sight cause asked_names root given whose) r result
         (no_sysfs (λ cause sys. place_of sight cause asked_names root given sys (λ place. AtPlace sys place)) r none) is
 
-    pub no_device_for_rules : (sys : List ℕ) (r : Refusal) (result : Result Y Refusal) → sysfs_below sight root ≡ Some sys → IsNoDevice root sys given sight r → IsErrAnd result (λ x. x ≡ r) → ByRules result
-    no_device_for_rules sys r result below none is =
-        handed_on (λ cause. by_rules_plan sight cause asked_names root form (Some given)) r result (no_device given sys (λ cause s place. AtPlace s place) r below none) is
+    pub no_device_for : (sys : List ℕ) (r : Refusal) (result : Result Y Refusal) → sysfs_below sight root ≡ Some sys → IsNoDevice root sys given sight r → IsErrAnd result (λ x. x ≡ r) → Meant result
+    no_device_for sys r result below none is =
+        handed_on (λ cause. meant_plan sight cause asked_names root given whose) r result (no_device given sys (λ cause s place. AtPlace s place) r below none) is
 
-    rules_end : (sys place : List ℕ) (e : End) → sysfs_below sight root ≡ Some sys → only (places_meant sight asked_names root sys given) ≡ Some place → Ends w (AtPlace sys place) e
-        → Ends w (by_rules_plan sight [] asked_names root form (Some given)) e
-    rules_end sys place e below meant ends =
+    place_ends : (sys place : List ℕ) (e : End) → sysfs_below sight root ≡ Some sys → only (places_meant sight asked_names root sys given) ≡ Some place → Ends w (AtPlace sys place) e
+        → Ends w (meant_plan sight [] asked_names root given whose) e
+    place_ends sys place e below meant ends =
         below_ends w sight [] root (λ s. place_of sight [] asked_names root given s (λ p. AtPlace s p)) sys e below
         (there_ends w sight [] root asked_names given sys (λ p. AtPlace sys p) place e meant ends)
 
     pub place_follows : (sys place : List ℕ) (result : Result Y Refusal) → sysfs_below sight root ≡ Some sys → only (places_meant sight asked_names root sys given) ≡ Some place
-        → Follows end_of w (AtPlace sys place) result → ByRules result
+        → Follows end_of w (AtPlace sys place) result → Meant result
     place_follows sys place (Ok y) below meant ends =
-        whatever (λ cause. Follows end_of w (by_rules_plan sight cause asked_names root form (Some given)) (Ok y)) (rules_end sys place (end_of y) below meant ends)
-    place_follows sys place (Err r) below meant (inl memory) = whatever (λ cause. Follows end_of w (by_rules_plan sight cause asked_names root form (Some given)) (Err r)) (inl memory)
+        whatever (λ cause. Follows end_of w (meant_plan sight cause asked_names root given whose) (Ok y)) (place_ends sys place (end_of y) below meant ends)
+    place_follows sys place (Err r) below meant (inl memory) = whatever (λ cause. Follows end_of w (meant_plan sight cause asked_names root given whose) (Err r)) (inl memory)
     place_follows sys place (Err r) below meant (inr ends) =
-        whatever (λ cause. Follows end_of w (by_rules_plan sight cause asked_names root form (Some given)) (Err r)) (inr (rules_end sys place (Stops (stop_of r)) below meant ends))
+        whatever (λ cause. Follows end_of w (meant_plan sight cause asked_names root given whose) (Err r)) (inr (place_ends sys place (Stops (stop_of r)) below meant ends))
+
+  -- by rules files, or if there are none by the rules that are built in
+  module _ (form : DeviceForm) (sys : List ℕ) (place : Option (List ℕ)) (sources : List Source) (result : Result Y Refusal) where
+    abbrev First : Type 0
+    First = Follows end_of w (by_files_first sight asked_names root form sys place sources) result
+
+    abbrev Choice : Bool → Plan
+    Choice b = if b then by_built_in sight asked_names root form sys place else by_files sight root (asks form) sys place sources
+
+    pub none_follows : has_none sources ≡ true → Follows end_of w (by_built_in sight asked_names root form sys place) result → First
+    none_follows none follows = subst (λ (b : Bool). Follows end_of w (Choice b) result) (sym none) follows
+
+    pub files_follow : has_none sources ≡ false → Follows end_of w (by_files sight root (asks form) sys place sources) result → First
+    files_follow some follows = subst (λ (b : Bool). Follows end_of w (Choice b) result) (sym some) follows
 
   -- no device is named
-  pub unnamed_follows : (form : DeviceForm) (r : Refusal) (result : Result Y Refusal) → IsInWords needs_device r → IsErrAnd result (λ x. x ≡ r)
-      → OfCause (λ cause. Follows end_of w (by_rules_plan sight cause asked_names root form None) result)
+  pub unnamed_follows : (form : RulesForm) (r : Refusal) (result : Result Y Refusal) → IsInWords (needs_device form.why) r → IsErrAnd result (λ x. x ≡ r)
+      → OfCause (λ cause. Follows end_of w (by_rules_plan sight cause asked_names root form false None) result)
   unfolding Ends
   unnamed_follows form r result said same =
-      handed_on (λ cause. by_rules_plan sight cause asked_names root form None) r result
-      (whatever (λ cause. EndsIn w (says needs_device) r) (error_ends w (says needs_device) needs_device r said refl)) same
+      handed_on (λ cause. by_rules_plan sight cause asked_names root form false None) r result
+      (whatever (λ cause. EndsIn w (says (needs_device form.why)) r) (error_ends w (says (needs_device form.why)) (needs_device form.why) r said refl)) same
 
   -- words that don't fit
-  module _ (form : DeviceForm) (udev given : Option (List ℕ)) (others : Bool) where
-    pub own_misused : (text : List ℕ) (r : Refusal) (result : Result Y Refusal) → rules_misuse udev given others ≡ Some text → IsInWords text r → IsErrAnd result (λ x. x ≡ r)
-        → OfCause (λ cause. Follows end_of w (own_plan sight cause asked_names root form udev given others) result)
+  module _ (form : RulesForm) (udev given : Option (List ℕ)) (all from : Bool) where
+    pub own_misused : (text : List ℕ) (r : Refusal) (result : Result Y Refusal) → rules_misuse form udev given all from ≡ Some text → IsInWords text r → IsErrAnd result (λ x. x ≡ r)
+        → OfCause (λ cause. Follows end_of w (own_plan sight cause asked_names root form udev given all from) result)
     unfolding Ends
     own_misused text r result is said same =
-        handed_on (λ cause. own_plan sight cause asked_names root form udev given others) r result
-        (whatever (λ cause. EndsIn w (own_plan sight cause asked_names root form udev given others) r)
-        (subst (λ (o : Option (List ℕ)). EndsIn w (if_fit o (by_rules_plan sight [] asked_names root form given)) r) (sym is) (error_ends w (says text) text r said refl))) same
+        handed_on (λ cause. own_plan sight cause asked_names root form udev given all from) r result
+        (whatever (λ cause. EndsIn w (own_plan sight cause asked_names root form udev given all from) r)
+        (subst (λ (o : Option (List ℕ)). EndsIn w (if_fit o (by_rules_plan sight [] asked_names root form all given)) r) (sym is) (error_ends w (says text) text r said refl))) same
 
-    pub own_fits : (result : Result Y Refusal) → rules_misuse udev given others ≡ None → OfCause (λ cause. Follows end_of w (by_rules_plan sight cause asked_names root form given) result)
-        → OfCause (λ cause. Follows end_of w (own_plan sight cause asked_names root form udev given others) result)
+    pub own_fits : (result : Result Y Refusal) → rules_misuse form udev given all from ≡ None → OfCause (λ cause. Follows end_of w (by_rules_plan sight cause asked_names root form all given) result)
+        → OfCause (λ cause. Follows end_of w (own_plan sight cause asked_names root form udev given all from) result)
     own_fits result is (cause, one_line, follows) =
-        (cause, one_line, subst (λ (o : Option (List ℕ)). Follows end_of w (if_fit o (by_rules_plan sight cause asked_names root form given)) result) (sym is) follows)
+        (cause, one_line, subst (λ (o : Option (List ℕ)). Follows end_of w (if_fit o (by_rules_plan sight cause asked_names root form all given)) result) (sym is) follows)
 
   module _ (names : List (List ℕ)) where
     -- ---- all devices
@@ -252,58 +260,36 @@ module _ {Y : Type 0} (end_of : Y → End) (w : Reads) (sight : Sight) (root : L
     memory_listed (Err r) is = whatever (λ cause. Follows end_of w (devices_plan sight cause names root) (Err r)) (inl is)
 
     -- ---- the strings of all devices
-    pub unsaid_follows : (r : Refusal) (result : Result Y Refusal) → IsNoSysfs root sight r → IsErrAnd result (λ x. x ≡ r) → OfCause (λ cause. Follows end_of w (strings_plan sight cause names root) result)
-    unsaid_follows r result none is = handed_on (λ cause. strings_plan sight cause names root) r result (no_sysfs (λ cause sys. asked root (strings_answer sight names sys)) r none) is
+    module _ (whose : Whose) where
+      abbrev AllBelow : (sys : List ℕ) → Plan
+      AllBelow sys = by_rules sight names root whose sys None
 
-    pub strings_follow : (sys : List ℕ) (result : Result Y Refusal) → sysfs_below sight root ≡ Some sys → Follows end_of w (asked root (strings_answer sight names sys)) result
-        → OfCause (λ cause. Follows end_of w (strings_plan sight cause names root) result)
-    strings_follow sys (Ok y) below ends =
-        whatever (λ cause. Follows end_of w (strings_plan sight cause names root) (Ok y)) (below_ends w sight [] root (λ s. asked root (strings_answer sight names s)) sys (end_of y) below ends)
-    strings_follow sys (Err r) below (inl memory) = whatever (λ cause. Follows end_of w (strings_plan sight cause names root) (Err r)) (inl memory)
-    strings_follow sys (Err r) below (inr ends) =
-        whatever (λ cause. Follows end_of w (strings_plan sight cause names root) (Err r))
-        (inr (below_ends w sight [] root (λ s. asked root (strings_answer sight names s)) sys (Stops (stop_of r)) below ends))
+      abbrev Every : Result Y Refusal → Type 0
+      Every result = OfCause (λ cause. Follows end_of w (strings_plan sight cause names root whose) result)
 
-    -- words that don't fit
-    pub misused_follows : (form : DeviceForm) (given : Option (List ℕ)) (text : List ℕ) (r : Refusal) (result : Result Y Refusal) → all_misuse form given ≡ Some text → IsInWords text r
-        → IsErrAnd result (λ x. x ≡ r) → OfCause (λ cause. Follows end_of w (every_plan sight cause names root form given) result)
-    unfolding Ends
-    misused_follows form given text r result is said same =
-        handed_on (λ cause. every_plan sight cause names root form given) r result
-        (whatever (λ cause. EndsIn w (every_plan sight cause names root form given) r)
-        (subst (λ (o : Option (List ℕ)). EndsIn w (if_fit o (strings_plan sight [] names root)) r) (sym is) (error_ends w (says text) text r said refl))) same
+      pub unsaid_follows : (r : Refusal) (result : Result Y Refusal) → IsNoSysfs root sight r → IsErrAnd result (λ x. x ≡ r) → Every result
+      unsaid_follows r result none is = handed_on (λ cause. strings_plan sight cause names root whose) r result (no_sysfs (λ cause sys. AllBelow sys) r none) is
 
-    pub fits_follow : (form : DeviceForm) (given : Option (List ℕ)) (result : Result Y Refusal) → all_misuse form given ≡ None → OfCause (λ cause. Follows end_of w (strings_plan sight cause names root) result)
-        → OfCause (λ cause. Follows end_of w (every_plan sight cause names root form given) result)
-    fits_follow form given result is (cause, one_line, follows) =
-        (cause, one_line, subst (λ (o : Option (List ℕ)). Follows end_of w (if_fit o (strings_plan sight cause names root)) result) (sym is) follows)
+      pub strings_follow : (sys : List ℕ) (result : Result Y Refusal) → sysfs_below sight root ≡ Some sys → Follows end_of w (AllBelow sys) result → Every result
+      strings_follow sys (Ok y) below ends =
+          whatever (λ cause. Follows end_of w (strings_plan sight cause names root whose) (Ok y)) (below_ends w sight [] root (λ s. AllBelow s) sys (end_of y) below ends)
+      strings_follow sys (Err r) below (inl memory) = whatever (λ cause. Follows end_of w (strings_plan sight cause names root whose) (Err r)) (inl memory)
+      strings_follow sys (Err r) below (inr ends) =
+          whatever (λ cause. Follows end_of w (strings_plan sight cause names root whose) (Err r)) (inr (below_ends w sight [] root (λ s. AllBelow s) sys (Stops (stop_of r)) below ends))
 
-    -- ---- one device
-    module _ (given : List ℕ) (form : DeviceForm) where
-      abbrev Meant : Result Y Refusal → Type 0
-      Meant result = OfCause (λ cause. Follows end_of w (meant_plan sight cause names root given form) result)
+      -- words that don't fit
+      pub misused_follows : (form : DeviceForm) (given : Option (List ℕ)) (text : List ℕ) (r : Refusal) (result : Result Y Refusal) → all_misuse form given ≡ Some text → IsInWords text r
+          → IsErrAnd result (λ x. x ≡ r) → OfCause (λ cause. Follows end_of w (every_plan sight cause names root form whose given) result)
+      unfolding Ends
+      misused_follows form given text r result is said same =
+          handed_on (λ cause. every_plan sight cause names root form whose given) r result
+          (whatever (λ cause. EndsIn w (every_plan sight cause names root form whose given) r)
+          (subst (λ (o : Option (List ℕ)). EndsIn w (if_fit o (strings_plan sight [] names root whose)) r) (sym is) (error_ends w (says text) text r said refl))) same
 
-      meant_ends : (device : Device) (e : End) → device_meant sight names root given ≡ Some device → Ends w (asked root (device_answer form device)) e → Ends w (meant_plan sight [] names root given form) e
-      meant_ends device e meant ends = at (sysfs_below sight root) refl meant
-        where
-          next : (sys : List ℕ) (place : List ℕ) → Plan
-          next sys place = asked root (device_answer form (device_at sight names sys place))
-
-          in_sysfs : (sys : List ℕ) (p : Option (List ℕ)) → sysfs_below sight root ≡ Some sys → only (places_meant sight names root sys given) ≡ p → option_map (device_at sight names sys) p ≡ Some device → Ends w (meant_plan sight [] names root given form) e
-          in_sysfs sys None below for is = absurd cc
-          in_sysfs sys (Some place) below for is =
-              let same : device_at sight names sys place ≡ device = cc in
-              below_ends w sight [] root (λ s. place_of sight [] names root given s (next s)) sys e below
-              (there_ends w sight [] root names given sys (next sys) place e for (subst (λ (d : Device). Ends w (asked root (device_answer form d)) e) (sym same) ends))
-
-          at : (o : Option (List ℕ)) → sysfs_below sight root ≡ o → option_map_or (λ sys. option_map (device_at sight names sys) (only (places_meant sight names root sys given))) o None ≡ Some device → Ends w (meant_plan sight [] names root given form) e
-          at None below is = absurd cc
-          at (Some sys) below is = in_sysfs sys (only (places_meant sight names root sys given)) below refl is
-
-      pub meant_follows : (device : Device) (result : Result Y Refusal) → device_meant sight names root given ≡ Some device → Follows end_of w (asked root (device_answer form device)) result → Meant result
-      meant_follows device (Ok y) meant ends = whatever (λ cause. Follows end_of w (meant_plan sight cause names root given form) (Ok y)) (meant_ends device (end_of y) meant ends)
-      meant_follows device (Err r) meant (inl memory) = whatever (λ cause. Follows end_of w (meant_plan sight cause names root given form) (Err r)) (inl memory)
-      meant_follows device (Err r) meant (inr ends) = whatever (λ cause. Follows end_of w (meant_plan sight cause names root given form) (Err r)) (inr (meant_ends device (Stops (stop_of r)) meant ends))
+      pub fits_follow : (form : DeviceForm) (given : Option (List ℕ)) (result : Result Y Refusal) → all_misuse form given ≡ None → Every result
+          → OfCause (λ cause. Follows end_of w (every_plan sight cause names root form whose given) result)
+      fits_follow form given result is (cause, one_line, follows) =
+          (cause, one_line, subst (λ (o : Option (List ℕ)). Follows end_of w (if_fit o (strings_plan sight cause names root whose)) result) (sym is) follows)
 
 -- ---- the bytes of a database
 pub answers_are : (status : ℕ) (err out text : List ℕ) → status ≡ 0 → err ≡ [] → out ≡ text → Answers status err out ≡ Answers 0 [] text
@@ -331,10 +317,12 @@ no_text_ends w form device path bytes error.Memory r is (inr says) = inl (plainl
 no_text_ends w form device path bytes _ r is (inr says) = absurd is
 
 -- ---- by the machine's own rules
-abbrev pub RulesText : DeviceForm → List RulesFile → Device → Tree → List ℕ
-RulesText form files device t = found_form form device (database_patterns t) (found_by_rules (told_by t) files device)
+abbrev pub RulesText : RulesForm → List RulesFile → Device → Tree → List ℕ
+RulesText form files device t =
+    if form.why then whys_form form.form (whys_by_rules (told_by t) files device)
+    else found_form form.form device (database_patterns t) (found_by_rules (told_by t) files device)
 
-pub rules_text_ends : (w : Reads) (form : DeviceForm) (sources : List Source) (files : List RulesFile) (device : Device) (path bytes : List ℕ) (status : ℕ) (err out : List ℕ) → files ≡ files_of sources
+pub rules_text_ends : (w : Reads) (form : RulesForm) (sources : List Source) (files : List RulesFile) (device : Device) (path bytes : List ℕ) (status : ℕ) (err out : List ℕ) → files ≡ files_of sources
     → status ≡ 0 → err ≡ [] → IsTextOf (RulesText form files device) bytes out → Ends w (rules_answer form sources device path bytes) (Answers status err out)
 unfolding Ends
 rules_text_ends w form sources files device path bytes status err out are zero none is = inl (is.tree, is.database, same)
@@ -345,7 +333,7 @@ rules_text_ends w form sources files device path bytes status err out are zero n
     same : Answers status err out ≡ Answers 0 [] (RulesText form (files_of sources) device is.tree)
     same = cc
 
-pub no_rules_text_ends : (w : Reads) (form : DeviceForm) (sources : List Source) (device : Device) (path bytes : List ℕ) (e : ToolError) (r : Refusal) → IsDatabaseRefusal bytes e → IsStop (database_stop path e) r
+pub no_rules_text_ends : (w : Reads) (form : RulesForm) (sources : List Source) (device : Device) (path bytes : List ℕ) (e : ToolError) (r : Refusal) → IsDatabaseRefusal bytes e → IsStop (database_stop path e) r
     → (r ≡ refusal.Plain error.Memory) ⊎ Ends w (rules_answer form sources device path bytes) (Stops (stop_of r))
 unfolding Ends
 no_rules_text_ends w form sources device path bytes e r is (inl memory) = inl memory
@@ -354,24 +342,25 @@ no_rules_text_ends w form sources device path bytes error.Memory r is (inr says)
 no_rules_text_ends w form sources device path bytes _ r is (inr says) = absurd is
 
 -- ---- the strings of all devices
-pub strings_end : (w : Reads) (sight : Sight) (names : List (List ℕ)) (sys path bytes : List ℕ) (status : ℕ) (err out : List ℕ) → status ≡ 0 → err ≡ unread_lines sight sys
-    → IsTextOf (all_strings_text sight names sys) bytes out → Ends w (strings_answer sight names sys path bytes) (Answers status err out)
-unfolding Ends
-strings_end w sight names sys path bytes status err out zero told is = inl (is.tree, is.database, same)
-  where
-    text : out ≡ all_strings_text sight names sys is.tree
-    text = is.is
+module _ (w : Reads) (sight : Sight) (files : Option (List RulesFile)) (names : List (List ℕ)) (sys path bytes : List ℕ) where
+  pub strings_end : (status : ℕ) (err out : List ℕ) → status ≡ 0 → err ≡ unread_lines sight sys → IsTextOf (all_asked_text files sight names sys) bytes out
+      → Ends w (strings_answer sight files names sys path bytes) (Answers status err out)
+  unfolding Ends
+  strings_end status err out zero told is = inl (is.tree, is.database, same)
+    where
+      text : out ≡ all_asked_text files sight names sys is.tree
+      text = is.is
 
-    same : Answers status err out ≡ Answers 0 (unread_lines sight sys) (all_strings_text sight names sys is.tree)
-    same = cc
+      same : Answers status err out ≡ Answers 0 (unread_lines sight sys) (all_asked_text files sight names sys is.tree)
+      same = cc
 
-pub no_strings_end : (w : Reads) (sight : Sight) (names : List (List ℕ)) (sys path bytes : List ℕ) (e : ToolError) (r : Refusal) → IsDatabaseRefusal bytes e → IsStop (database_stop path e) r
-    → (r ≡ refusal.Plain error.Memory) ⊎ Ends w (strings_answer sight names sys path bytes) (Stops (stop_of r))
-unfolding Ends
-no_strings_end w sight names sys path bytes e r is (inl memory) = inl memory
-no_strings_end w sight names sys path bytes (error.BadDatabase f) r none (inr says) = inr (inr (f, none, ap Stops says))
-no_strings_end w sight names sys path bytes error.Memory r is (inr says) = inl (plainly r says)
-no_strings_end w sight names sys path bytes _ r is (inr says) = absurd is
+  pub no_strings_end : (e : ToolError) (r : Refusal) → IsDatabaseRefusal bytes e → IsStop (database_stop path e) r
+      → (r ≡ refusal.Plain error.Memory) ⊎ Ends w (strings_answer sight files names sys path bytes) (Stops (stop_of r))
+  unfolding Ends
+  no_strings_end e r is (inl memory) = inl memory
+  no_strings_end (error.BadDatabase f) r none (inr says) = inr (inr (f, none, ap Stops says))
+  no_strings_end error.Memory r is (inr says) = inl (plainly r says)
+  no_strings_end _ r is (inr says) = absurd is
 
 -- there was no memory
 pub memory_follows : {Y : Type 0} (end_of : Y → End) (w : Reads) (p : Plan) (result : Result Y Refusal) → IsErrAnd result (λ x. x ≡ refusal.Plain error.Memory) → Follows end_of w p result

@@ -1,5 +1,5 @@
 -- Words that ask for an update, by the job that they ask for; and what a run of them does.
-use Rattle.std.proofs.Common.{◌≡◌, ◌∙◌, ◌⊎◌, ⊎_elim, inl, inr, ap, refl, subst, sym, true≢false, Bool, List, Option, None, Some, Result, ℕ, [], true, false}
+use Rattle.std.proofs.Common.{◌≡◌, ◌∙◌, ◌⊎◌, ⊎_elim, inl, inr, ap, refl, subst, sym, true≢false, Bool, List, Option, None, Some, Result, ℕ, [], true}
 use Rattle.std.specs.Prelude.{◌&&◌, ◌||◌, codes, if◌then◌else◌, not}
 use Rattle.std.specs.Str.{bytes_eq}
 use Rattle.clap.specs.Simple.{matches_of, subcommand_of}

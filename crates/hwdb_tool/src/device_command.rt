@@ -1,29 +1,34 @@
 //! `device`: what udev asks for a device, and what that gets; or a line for each device. Nothing is written.
 ghost use Rattle.std.specs.Prelude.{◌≡◌, ◌++◌, [], Some, option_map, IfErr, IfOk, OnOk};
 ghost use Rattle.std.specs.Option.{option_map_or};
+ghost use Rattle.hwdb_spec.specs.Lines.{is, pieces};
 ghost use Rattle.hwdb_spec_commands.specs.Databases.{IsTextOf};
 ghost use Rattle.hwdb_spec_commands.specs.DeviceAsked as spec;
-ghost use Rattle.hwdb_spec_commands.specs.DeviceAsked.{device_list, device_meant, link_row, unread_row};
+ghost use Rattle.hwdb_spec_commands.specs.DeviceAsked.{device_list, link_row, unread_row};
 ghost use Rattle.hwdb_spec_commands.specs.DeviceTexts as texts;
 ghost use Rattle.hwdb_spec_commands.specs.DeviceTree as tree;
 ghost use Rattle.hwdb_spec_commands.specs.SysfsAnswers.{sight_by};
 ghost use Rattle.hwdb_sysfs.specs.Views.{device_of};
 ghost use Rattle.hwdb_spec_commands.specs.DatabaseErrors.{IsDatabaseRefusal};
-ghost use Rattle.hwdb_spec_program.specs.DeviceErrors.{IsUnmeant, IsWorded, asked_names};
+ghost use Rattle.hwdb_spec_program.specs.DeviceErrors.{asked_names};
 ghost use Rattle.hwdb_plan.specs.Asking.{asked};
-ghost use Rattle.hwdb_plan.specs.Device.{device_answer, device_plan, devices_plan, meant_plan};
+ghost use Rattle.hwdb_plan.specs.Device as plan;
 ghost use Rattle.hwdb_plan.specs.Sysfs.{OfCause};
 ghost use Rattle.hwdb_plan.specs.Plans.{Follows};
 ghost use Rattle.hwdb_tool.specs.Views.{end_of};
 
 use crate::answer::Answer;
 use crate::databases::{asked, refused_database};
+use crate::every_device::strings_shown;
 use crate::missing::{for_rules, place_meant, sysfs_of};
+use crate::rules_device::{by_own, by_own_first};
 use hwdb_answers::ToolError;
 use hwdb_device::{DeviceForm, device_row, device_text};
 use hwdb_reader::check;
+use hwdb_spec_rules::Whose;
 use hwdb_sysfs::{
-    Device, DeviceFiles, device_of_path, kernel_name, list_links, read_device, unread_of_path,
+    Device, DeviceFiles, Sysfs, device_of_path, kernel_name, list_links, read_device,
+    unread_of_path,
 };
 use hwdb_system::{Machine, Refusal, System};
 use std::alloc::{AllocError, Global};
@@ -43,23 +48,23 @@ pub fn device_form(strings: bool, json: bool, pattern: bool) -> DeviceForm
     }
 }
 
-/// What udev asks for the device that a path or a name means below the root, and what the database there gives it. If none is
-/// given, a line for each device that something is asked for. The status is 0.
+/// What udev asks for the device that a path or a name means below the root, by the rules that count, and what the database there gives
+/// it. If none is given, a line for each device that something is asked for. The status is 0.
 pub fn device<D: Machine>(
     alloc: Global,
     root: &str,
     given: Option<&str>,
-    form: DeviceForm,
+    whose: Whose,
     system: &D,
 ) -> Result<Answer, Refusal>
     ensures status { IfOk result (λ a. a.status ≡ 0) }
     ensures follows { D.Store.tells → OfCause (λ cause. Follows end_of
-        (D.System.reads system.now) (device_plan (sight_by D.answers system.now) cause
-        asked_names root.now form (option_map (λ t. t.now) given.entry)) result) }
+        (D.System.reads system.now) (plan.device_plan (sight_by D.answers system.now) cause
+        asked_names root.now whose (option_map (λ t. t.now) given.entry)) result) }
 {
     match given {
         None => listed(alloc, root, system),
-        Some(given) => shown(alloc, root, given.as_bytes(), form, system),
+        Some(given) => meant(alloc, root, given.as_bytes(), whose, system),
     }
 }
 
@@ -73,7 +78,7 @@ fn listed<D: Machine>(alloc: Global, root: &str, system: &D) -> Result<Answer, R
     ensures status { IfOk result (λ a. a.status ≡ 0) }
     ensures follows { D.Store.tells → OfCause (λ cause. Follows end_of
         (D.System.reads system.now)
-        (devices_plan (sight_by D.answers system.now) cause asked_names root.now) result) }
+        (plan.devices_plan (sight_by D.answers system.now) cause asked_names root.now) result) }
 {
     devices_are_told(system);
     let sys = sysfs_of(alloc, root, system)?;
@@ -168,41 +173,96 @@ fn push_device<F: DeviceFiles>(
     Ok(())
 }
 
-/// What is printed of the device that is meant.
-fn shown<D: Machine>(
+/// Where devices are looked for, and who looks.
+#[derive(Drop)]
+pub struct Below<'b, D> {
+    /// The folder in whose place `/` stands.
+    pub root: &'b str,
+    /// Where sysfs is.
+    pub sys: &'b [u8],
+    /// The system.
+    pub system: &'b D,
+}
+
+/// What is printed of the device that is meant, by the rules that count.
+pub(crate) fn meant<D: Machine>(
     alloc: Global,
     root: &str,
     given: &[u8],
-    form: DeviceForm,
+    whose: Whose,
     system: &D,
 ) -> Result<Answer, Refusal>
     ensures status { IfOk result (λ a. a.status ≡ 0) }
     ensures follows { D.Store.tells → OfCause (λ cause. Follows end_of
-        (D.System.reads system.now) (meant_plan (sight_by D.answers system.now) cause
-        asked_names root.now given.now form) result) }
+        (D.System.reads system.now) (plan.meant_plan (sight_by D.answers system.now) cause
+        asked_names root.now given.now whose) result) }
 {
     devices_are_told(system);
-    let device = device_read(alloc, root, given, system)?;
-    answered(alloc, root, &device, form, system)
+    let sys = sysfs_of(alloc, root, system)?;
+    let place = place_meant(alloc, root, &sys, given, system)?;
+    let below = Below {
+        root,
+        sys: &sys,
+        system,
+    };
+    by_rules(alloc, &below, Some(&place), whose)
 }
 
-/// The device that is meant.
-fn device_read<F: DeviceFiles>(
+/// The same of the device at a place, or without a place of all devices.
+pub(crate) fn by_rules<D: Machine>(
+    alloc: Global,
+    below: &Below<'_, D>,
+    place: Option<&[u8]>,
+    whose: Whose,
+) -> Result<Answer, Refusal>
+    ensures status { IfOk result (λ a. a.status ≡ 0) }
+    ensures follows { D.Store.tells → Follows end_of (D.System.reads below.now.system.now)
+        (plan.by_rules (sight_by D.answers below.now.system.now) asked_names below.now.root.now
+        whose below.now.sys.now (option_map (λ p. p.now) place.entry)) result }
+{
+    match whose {
+        Whose::Own(form) => by_own(alloc, below, place, form),
+        Whose::OwnFirst(form) => by_own_first(alloc, below, place, form),
+        Whose::BuiltIn(form) => by_built_in(alloc, below, place, form),
+    }
+}
+
+/// The same by the rules that are built in.
+pub(crate) fn by_built_in<D: Machine>(
+    alloc: Global,
+    below: &Below<'_, D>,
+    place: Option<&[u8]>,
+    form: DeviceForm,
+) -> Result<Answer, Refusal>
+    ensures status { IfOk result (λ a. a.status ≡ 0) }
+    ensures follows { D.Store.tells → Follows end_of (D.System.reads below.now.system.now)
+        (plan.by_built_in (sight_by D.answers below.now.system.now) asked_names
+        below.now.root.now form below.now.sys.now (option_map (λ p. p.now) place.entry)) result }
+{
+    let sysfs = for_rules(below.system, below.sys);
+    match place {
+        Some(place) => device_shown(alloc, below.root, &sysfs, place, form),
+        None => strings_shown(alloc, below.root, &sysfs, None),
+    }
+}
+
+/// The same of one device.
+fn device_shown<D: Machine>(
     alloc: Global,
     root: &str,
-    given: &[u8],
-    files: &F,
-) -> Result<Device, Refusal>
-    ensures meant { F.tells → IfOk result (λ d. device_meant (sight_by F.answers files.now)
-        asked_names root.now given.now ≡ Some (device_of d)) }
-    ensures refused { F.tells → IfErr result
-        (IsUnmeant root.now given.now (sight_by F.answers files.now)) }
-    ensures worded { IfErr result IsWorded }
+    sysfs: &Sysfs<'_, D>,
+    place: &[u8],
+    form: DeviceForm,
+) -> Result<Answer, Refusal>
+    ensures status { IfOk result (λ a. a.status ≡ 0) }
+    ensures follows { D.Store.tells → Follows end_of (D.System.reads sysfs.now.files.now)
+        (asked root.now (plan.device_answer form (tree.device_at
+        (sight_by D.answers sysfs.now.files.now) (pieces (is 10) sysfs.now.names.now)
+        sysfs.now.folder.now place.now))) result }
 {
-    let sys = sysfs_of(alloc, root, files)?;
-    let place = place_meant(alloc, root, &sys, given, files)?;
-    let device = read_device(alloc, &for_rules(files, &sys), &place)?;
-    Ok(device)
+    devices_are_told(sysfs.files);
+    let device = read_device(alloc, sysfs, place)?;
+    answered(alloc, root, &device, form, sysfs.files)
 }
 
 /// What is printed of a device, over the database below the root.
@@ -215,7 +275,7 @@ fn answered<D: System>(
 ) -> Result<Answer, Refusal>
     ensures status { IfOk result (λ a. a.status ≡ 0) }
     ensures follows { D.Store.tells → Follows end_of (D.System.reads system.now)
-        (asked root.now (device_answer form (device_of device.now))) result }
+        (asked root.now (plan.device_answer form (device_of device.now))) result }
 {
     let found = asked(alloc, root, system)?;
     match text_over(alloc, &found.bytes, device, form) {

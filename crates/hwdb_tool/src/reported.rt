@@ -1,5 +1,5 @@
 //! `device --from`: an export of udev's database in place of sysfs. Nothing is written.
-ghost use Rattle.std.specs.Prelude.{◌≡◌, ◌++◌, ◌||◌, [], List, Some, ℕ, codes, false, if◌then◌else◌, is_some, option_map, string_bytes, IfErr, IfOk};
+ghost use Rattle.std.specs.Prelude.{◌≡◌, ◌++◌, [], List, Some, ℕ, codes, false, if◌then◌else◌, is_some, option_map, string_bytes, IfErr, IfOk};
 ghost use Rattle.hwdb_plan.specs.Asking.{asked};
 ghost use Rattle.hwdb_plan.specs.Device.{all_misuse, own_plan};
 ghost use Rattle.hwdb_plan.specs.Files.{OfInput};
@@ -22,7 +22,7 @@ ghost use Rattle.hwdb_spec_program.specs.Program.{root_of};
 ghost use Rattle.hwdb_spec_rules.specs.RuleAnswers.{wants_rules};
 ghost use Rattle.hwdb_sysfs.specs.Finding.{IsUnfound};
 ghost use Rattle.hwdb_exports.specs.Reports.{bytes_of};
-ghost use Rattle.hwdb_tool.specs.Reported.{FollowsFrom, IsUnfoundIn, given_in, report_of};
+ghost use Rattle.hwdb_tool.specs.Reported.{FollowsFrom, IsUnfoundIn, given_in, report_of, rules_asked, udev_in};
 ghost use Rattle.hwdb_tool.specs.Views.{end_of};
 ghost use Rattle.hwdb_spec_commands.specs.declared.job.Task.TheVariants.{Device};
 
@@ -33,7 +33,7 @@ use crate::every_device::{all_misuse, devices, strings_over};
 use crate::given::{INPUT, is_dash, read};
 use crate::missing::{for_rules, no_device, only_meant};
 use crate::over_text::misused;
-use crate::rules_device::{own_device, wants_rules};
+use crate::rules_device::{RulesQuestion, own_device, wants_rules};
 use crate::verb::{Verb, root_of, text_of};
 use hwdb_cli::{DeviceArgs, Job};
 use hwdb_device::{DeviceForm, unread_lines};
@@ -41,6 +41,7 @@ use hwdb_exports::{Export, is_export};
 use hwdb_io::Source;
 use hwdb_rules::ATTRIBUTES;
 use hwdb_show::push_name;
+use hwdb_spec_rules::RulesForm;
 use hwdb_sysfs::{Sysfs, Unfound, find_device, read_device};
 use hwdb_system::{Machine, Refusal, System};
 use std::alloc::{AllocError, Global};
@@ -57,6 +58,8 @@ pub struct DeviceQuestion<'w> {
     pub given: Option<&'w str>,
     /// What is printed of it.
     pub form: DeviceForm,
+    /// Whose rules count; None if the words don't say.
+    pub udev: Option<&'w str>,
     /// Whether the strings of all devices are printed.
     pub all: bool,
 }
@@ -80,8 +83,8 @@ pub fn devices_from<D: Machine, I: Source>(
     ensures unread { names_input (option_map (λ t. t.now) from.entry) ≡ false
         → input.new ≡ input.old }
     ensures follows { D.Store.tells → FollowsFrom (option_map (λ t. t.now) from.entry)
-        question.entry.root.now question.entry.form question.entry.all (given_in question.entry)
-        (sight_by D.answers system.now) (D.System.reads system.now)
+        question.entry.root.now question.entry.form (udev_in question.entry) question.entry.all
+        (given_in question.entry) (sight_by D.answers system.now) (D.System.reads system.now)
         (I.left input.old) (I.failures input.old) (I.failures input.new) result }
 {
     match from {
@@ -330,7 +333,8 @@ fn all_strings<D: System>(
 {
     let found = asked(alloc, question.root, system)?;
     let told = told_besides(alloc, report)?;
-    match strings_over(alloc, &found.bytes, SYS, &report.export) {
+    let sysfs = for_rules(&report.export, SYS);
+    match strings_over(alloc, &found.bytes, &sysfs, None) {
         Ok(text) => Ok(Answer::with_error(told, text, 0)),
         Err(error) => Err(refused_database(alloc, error, found.path.as_bytes())),
     }
@@ -354,23 +358,43 @@ fn question_of<'w>(args: &'w DeviceArgs, job: &'w Job) -> DeviceQuestion<'w>
     ensures given { given_in result ≡ option_map string_bytes args.now.path }
     ensures form { result.form
         ≡ device.device_form args.now.strings args.now.json args.now.pattern }
+    ensures udev { udev_in result ≡ option_map string_bytes args.now.udev }
     ensures all { result.all ≡ args.now.all }
 {
     DeviceQuestion {
         root: root_of(job),
         given: text_of(&args.path),
         form: device_form(args.strings, args.json, args.pattern),
+        udev: text_of(&args.udev),
         all: args.all,
     }
 }
 
-/// Whether other words are given that choose devices.
-fn has_others(all: bool, from: &Option<String>) -> bool
-    ensures { result ≡ (all || is_some (option_map string_bytes from.now)) }
+/// Whether a word is given.
+fn is_given(word: &Option<String>) -> bool
+    ensures { result ≡ is_some (option_map string_bytes word.now) }
 {
-    match from {
+    match word {
         Some(_) => true,
-        None => all,
+        None => false,
+    }
+}
+
+/// What the words ask of the machine's own rules.
+fn rules_question<'w>(args: &'w DeviceArgs, job: &'w Job) -> RulesQuestion<'w>
+    ensures root { result.root.now ≡ root_of job.now }
+    ensures given { option_map (λ t. t.now) result.given ≡ option_map string_bytes args.now.path }
+    ensures all { result.all ≡ args.now.all }
+    ensures form { result.form ≡ rules_asked args.now }
+{
+    RulesQuestion {
+        root: root_of(job),
+        given: text_of(&args.path),
+        all: args.all,
+        form: RulesForm {
+            why: args.why,
+            form: device_form(args.strings, args.json, args.pattern),
+        },
     }
 }
 
@@ -383,16 +407,16 @@ fn by_rules<D: Machine>(
 ) -> Result<Answer, Refusal>
     ensures { D.Store.tells → OfCause (λ cause. Follows end_of (D.System.reads system.now)
         (own_plan (sight_by D.answers system.now) cause asked_names (root_of job.now)
-        (device.device_form args.now.strings args.now.json args.now.pattern)
+        (rules_asked args.now)
         (option_map string_bytes args.now.udev) (option_map string_bytes args.now.path)
-        (args.now.all || is_some (option_map string_bytes args.now.from))) result) }
+        args.now.all (is_some (option_map string_bytes args.now.from))) result) }
 {
     let udev = text_of(&args.udev);
-    let others = has_others(args.all, &args.from);
-    own_device(alloc, udev, others, question_of(args, job), system)
+    let from = is_given(&args.from);
+    own_device(alloc, udev, from, rules_question(args, job), system)
 }
 
-/// What the words ask for, by the rules that are built in.
+/// What the words ask for else.
 fn by_table<D: Machine, I: Source>(
     alloc: Global,
     args: &DeviceArgs,
@@ -404,7 +428,8 @@ fn by_table<D: Machine, I: Source>(
         → input.new ≡ input.old }
     ensures follows { D.Store.tells → FollowsFrom (option_map string_bytes args.now.from)
         (root_of job.now) (device.device_form args.now.strings args.now.json args.now.pattern)
-        args.now.all (option_map string_bytes args.now.path)
+        (option_map string_bytes args.now.udev) args.now.all
+        (option_map string_bytes args.now.path)
         (sight_by D.answers system.now) (D.System.reads system.now)
         (I.left input.old) (I.failures input.old) (I.failures input.new) result }
 {
@@ -414,9 +439,9 @@ fn by_table<D: Machine, I: Source>(
 
 /// Whether the words ask for the machine's own rules.
 fn is_by_rules(args: &DeviceArgs) -> bool
-    ensures { result ≡ wants_rules (option_map string_bytes args.now.udev) }
+    ensures { result ≡ wants_rules args.now.why (option_map string_bytes args.now.udev) }
 {
-    wants_rules(text_of(&args.udev))
+    wants_rules(args.why, text_of(&args.udev))
 }
 
 impl<D: Machine, I: Source> Verb<D, I> for DeviceArgs {

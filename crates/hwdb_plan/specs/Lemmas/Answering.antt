@@ -17,18 +17,21 @@ use Rattle.hwdb_spec_commands.specs.Told.{Reads, Unlisted, rules_told}
 use Rattle.hwdb_rulefiles.specs.RuleFolders.{choice as choice_of}
 use Rattle.hwdb_rulefiles.specs.declared.choice.Folder.{Folder as Folder_}
 use Rattle.hwdb_rulefiles.specs.declared.choice.Folder.TheVariants.{Etc, Local, Run, Usr}
-use Rattle.hwdb_spec_rules.specs.RuleAnswers.{rules_names}
+use Rattle.hwdb_spec_rules.specs.RuleAnswers.{files_of, rules_names, whose}
 use Rattle.hwdb_spec_commands.specs.declared.devices.DeviceForm.{DeviceForm}
 use Rattle.hwdb_spec_commands.specs.declared.form.Form.{Form}
 use Rattle.hwdb_spec_commands.specs.declared.unread.Unread.{Unread}
 use Rattle.hwdb_plan.specs.Answers.{answer_plan, answered}
 use Rattle.hwdb_plan.specs.Asking.{asked, if_read, if_there}
-use Rattle.hwdb_plan.specs.Device.{all_misuse, device_answer, device_asked, own_plan, own_search, rules_answer, rules_search, search_of, strings_answer}
+use Rattle.hwdb_spec_rules.specs.declared.forms.RulesForm.{RulesForm}
+use Rattle.hwdb_spec_rules.specs.declared.forms.Whose.{Whose}
+use Rattle.hwdb_spec_rules.specs.declared.forms.Whose.TheVariants.{BuiltIn, Own, OwnFirst}
+use Rattle.hwdb_plan.specs.Device.{all_misuse, asks, by_built_in, by_files, by_files_first, by_rules, device_answer, device_asked, own_plan, own_search, rules_answer, rules_search, search_of, strings_answer}
 use Rattle.hwdb_plan.specs.Files.{ask_file, given_files, if_input, is_word, read_files, source_at}
 use Rattle.hwdb_plan.specs.Folders.{Texts, choose, if_listed, paths_of, read_texts, texts_of_folders, with_texts}
 use Rattle.hwdb_plan.specs.Given.{given_at}
 use Rattle.hwdb_plan.specs.Near.{near_database, near_plan}
-use Rattle.hwdb_plan.specs.OwnRules.{own_rules, rules_in, sources_of}
+use Rattle.hwdb_plan.specs.OwnRules.{has_none, own_rules, rules_in, sources_of}
 use Rattle.hwdb_plan.specs.OverText.{basis_of, from_basis, if_fit, is_first, said_after, text_plan, with_after}
 use Rattle.hwdb_plan.specs.Plans.{End, Ends, Next, Plan, over}
 use Rattle.hwdb_plan.specs.Plans.End.{Answers, Stops}
@@ -214,16 +217,6 @@ unfolding OnlyAnswers
 only_near told [] root f = only_asked root (near_database f) (λ path bytes t. tt)
 only_near told (path ∷ more) root f = only_given (path ∷ more) told (path ∷ more) _ (λ sources. tt)
 
-searched : (sight : Sight) (names : List (List ℕ)) (root : List ℕ) (f : DeviceForm) (all : Bool) (given : Option (List ℕ)) → OnlyFound (search_of sight names root f all given)
-unfolding OnlyAnswers OnlyFound
-searched sight own root f true given = λ sys. only_asked root (strings_answer sight own sys) (λ path bytes t. tt)
-searched sight own root f false None = λ sys. tt
-searched sight own root f false (Some given) = λ sys place. only_asked root (device_answer f (device_at sight own sys place)) (λ path bytes t. tt)
-
-pub only_device : (sight : Sight) (cause : List ℕ) (names : List (List ℕ)) (root : List ℕ) (f : DeviceForm) (all : Bool) (given : Option (List ℕ))
-    → OnlyAnswers (device_asked sight cause names root f all given)
-only_device sight cause names root f all given = only_search sight names cause (search_of sight names root f all given) (searched sight names root f all given)
-
 -- the machine's own rules files
 only_rules_in : (root : List ℕ) (f : Folder_) (next : List (List ℕ) → Plan) → ((names : List (List ℕ)) → OnlyAnswers (next names)) → OnlyAnswers (rules_in root f next)
 unfolding OnlyAnswers
@@ -234,20 +227,49 @@ only_own root next only =
     only_rules_in root Etc _ (λ etc. only_rules_in root Run _ (λ run. only_rules_in root Local _ (λ local. only_rules_in root Usr _
     (λ usr. only_texts _ [] _ (λ texts. only (sources_of (map rules_path (choice_of etc run local usr)) texts))))))
 
-rules_searched : (sight : Sight) (root : List ℕ) (f : DeviceForm) (given : Option (List ℕ)) → OnlyFound (rules_search sight root f given)
+-- the device at a place, by the rules that count
+only_built_in : (sight : Sight) (names : List (List ℕ)) (root : List ℕ) (f : DeviceForm) (sys : List ℕ) (place : Option (List ℕ)) → OnlyAnswers (by_built_in sight names root f sys place)
+unfolding OnlyAnswers
+only_built_in sight names root f sys None = only_asked root (strings_answer sight None names sys) (λ path bytes t. tt)
+only_built_in sight names root f sys (Some place) = only_asked root (device_answer f (device_at sight names sys place)) (λ path bytes t. tt)
+
+only_by_files : (sight : Sight) (root : List ℕ) (f : RulesForm) (sys : List ℕ) (place : Option (List ℕ)) (sources : List Source) → OnlyAnswers (by_files sight root f sys place sources)
+unfolding OnlyAnswers
+only_by_files sight root f sys None sources = only_asked root (strings_answer sight (Some (files_of sources)) (rules_names sources) sys) (λ path bytes t. tt)
+only_by_files sight root f sys (Some place) sources = only_asked root (rules_answer f sources (device_at sight (rules_names sources) sys place)) (λ path bytes t. tt)
+
+only_by_rules : (sight : Sight) (names : List (List ℕ)) (root : List ℕ) (rules : Whose) (sys : List ℕ) (place : Option (List ℕ)) → OnlyAnswers (by_rules sight names root rules sys place)
+only_by_rules sight names root (Own f) sys place = only_own root (by_files sight root f sys place) (only_by_files sight root f sys place)
+only_by_rules sight names root (OwnFirst f) sys place =
+    only_own root (by_files_first sight names root f sys place)
+    (λ sources. only_choice (has_none sources) _ _ (only_built_in sight names root f sys place) (only_by_files sight root (asks f) sys place sources))
+only_by_rules sight names root (BuiltIn f) sys place = only_built_in sight names root f sys place
+
+-- what words ask for
+searched : (sight : Sight) (names : List (List ℕ)) (root : List ℕ) (f : DeviceForm) (udev : Option (List ℕ)) (all : Bool) (given : Option (List ℕ)) → OnlyFound (search_of sight names root f udev all given)
 unfolding OnlyAnswers OnlyFound
-rules_searched sight root f None = tt
-rules_searched sight root f (Some given) = λ sys place.
-    only_own root (λ (sources : List Source). asked root (rules_answer f sources (device_at sight (rules_names sources) sys place))) (λ sources. only_asked root (rules_answer f sources (device_at sight (rules_names sources) sys place)) (λ path bytes t. tt))
+searched sight own root f udev true given = λ sys. only_by_rules sight own root (whose udev f) sys None
+searched sight own root f udev false None = λ sys. tt
+searched sight own root f udev false (Some given) = λ sys place. only_by_rules sight own root (whose udev f) sys (Some place)
 
-own_searched : (sight : Sight) (root : List ℕ) (f : DeviceForm) (udev given : Option (List ℕ)) (others : Bool) → OnlyFound (own_search sight root f udev given others)
+pub only_device : (sight : Sight) (cause : List ℕ) (names : List (List ℕ)) (root : List ℕ) (f : DeviceForm) (udev : Option (List ℕ)) (all : Bool) (given : Option (List ℕ))
+    → OnlyAnswers (device_asked sight cause names root f udev all given)
+only_device sight cause names root f udev all given = only_search sight names cause (search_of sight names root f udev all given) (searched sight names root f udev all given)
+
+rules_searched : (sight : Sight) (names : List (List ℕ)) (root : List ℕ) (f : RulesForm) (all : Bool) (given : Option (List ℕ)) → OnlyFound (rules_search sight names root f all given)
+unfolding OnlyAnswers OnlyFound
+rules_searched sight names root f true given = λ sys. only_by_rules sight names root (Own f) sys None
+rules_searched sight names root f false None = tt
+rules_searched sight names root f false (Some given) = λ sys place. only_by_rules sight names root (Own f) sys (Some place)
+
+own_searched : (sight : Sight) (names : List (List ℕ)) (root : List ℕ) (f : RulesForm) (udev given : Option (List ℕ)) (all from : Bool) → OnlyFound (own_search sight names root f udev given all from)
 unfolding OnlyFound
-own_searched sight root f udev given others = rules_searched sight root f given
+own_searched sight names root f udev given all from = rules_searched sight names root f all given
 
-pub only_own_device : (sight : Sight) (cause : List ℕ) (names : List (List ℕ)) (root : List ℕ) (f : DeviceForm) (udev given : Option (List ℕ)) (others : Bool)
-    → OnlyAnswers (own_plan sight cause names root f udev given others)
-only_own_device sight cause names root f udev given others =
-    only_search sight names cause (own_search sight root f udev given others) (own_searched sight root f udev given others)
+pub only_own_device : (sight : Sight) (cause : List ℕ) (names : List (List ℕ)) (root : List ℕ) (f : RulesForm) (udev given : Option (List ℕ)) (all from : Bool)
+    → OnlyAnswers (own_plan sight cause names root f udev given all from)
+only_own_device sight cause names root f udev given all from =
+    only_search sight names cause (own_search sight names root f udev given all from) (own_searched sight names root f udev given all from)
 
 -- an export
 only_found_given : (r : Report) (f : DeviceForm) (given : Option (List ℕ)) → OnlyAnswers (found_given r f given)

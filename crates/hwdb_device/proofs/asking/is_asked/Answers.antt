@@ -1,5 +1,5 @@
-use Rattle.std.proofs.Common.{◌≡◌, ◌∙◌, ◌==◌, ◌∷◌, [], ap, arith, length, map, ne_eqb, refl, vec_len, Global, List, Vec, ℕ}
-use Rattle.std.specs.Prelude.{false, not}
+use Rattle.std.proofs.Common.{◌≡◌, ◌∙◌, ◌==◌, ◌∷◌, [], ap, arith, length, map, ne_eqb, vec_len, Global, List, Vec, ℕ}
+use Rattle.std.specs.Prelude.{not}
 use Rattle.hwdb_spec.specs.Lines.{is_none}
 use Rattle.hwdb_ruleasks.specs.Views.{found_of}
 use Rattle.hwdb_ruleasks.specs.declared.answers.Found.{Found}

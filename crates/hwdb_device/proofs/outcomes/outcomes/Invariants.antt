@@ -1,4 +1,4 @@
-use Rattle.std.proofs.Common.{◌≡◌, ◌++◌, filter, length, map, take}
+use Rattle.std.proofs.Common.{◌≡◌, ◌++◌, length, map}
 use Rattle.hwdb_spec_commands.specs.DeviceTexts
 use Rattle.hwdb_device.specs.Views.{gifts_in, outcomes_in}
 use Rattle.hwdb_device.proofs.outcomes.outcomes.Given as goal

@@ -1,4 +1,4 @@
-use Rattle.std.proofs.Common.{◌≡◌, ◌++◌, filter, length, map, take}
+use Rattle.std.proofs.Common.{◌≡◌, map, take}
 use Rattle.hwdb_spec_commands.specs.DeviceTexts
 use Rattle.hwdb_query.specs.Views.{pairs_bytes}
 use Rattle.hwdb_device.specs.Views.{outcomes_in}

@@ -1,13 +1,15 @@
 use Rattle.std.proofs.Common.{◌≡◌, ◌++◌, map, drop}
-use Rattle.std.specs.Prelude.{flat_map}
+use Rattle.std.specs.Prelude.{filter, flat_map}
+use Rattle.hwdb_ruleevents.specs.ReasonViews.{reason_of}
 use Rattle.hwdb_ruleevents.specs.TellViews.{told_of}
 use Rattle.hwdb_sysfs.specs.Views.{ancestor_of}
 use Rattle.hwdb_spec_rules.specs.RuleStrings
+use Rattle.hwdb_ruleasks.specs.SettingViews.{account_of}
 use Rattle.hwdb_ruleasks.specs.Views.{file_of, found_of, tells_of}
 use Rattle.hwdb_ruleasks.proofs.strings.all_found.Given as goal
 
 abbrev pub invariant-loop-one : goal.invariant-loop-one
 invariant-loop-one l =
-    map found_of l.found.items
-    ++ flat_map (RuleStrings.found_of (tells_of l.asking.db) (map file_of l.asking.files.now) (map ancestor_of l.asking.chain.now)) (map told_of (drop l.one-index l.told))
-    ≡ flat_map (RuleStrings.found_of (tells_of l.asking.db) (map file_of l.asking.files.now) (map ancestor_of l.asking.chain.now)) (map told_of l.told)
+    let f = RuleStrings.found_of (tells_of l.asking.db) (map file_of l.asking.files.now) (map ancestor_of l.asking.chain.now) (map reason_of l.changed.reasons.items) in
+    map found_of l.found.items ++ flat_map f (filter (RuleStrings.is_new (map told_of l.added.told.items)) (map told_of (drop l.one-index l.changed.told.items)))
+    ≡ RuleStrings.found_in (tells_of l.asking.db) (map file_of l.asking.files.now) (map ancestor_of l.asking.chain.now) (account_of l.added) (account_of l.changed)

@@ -1,7 +1,9 @@
-use Rattle.std.proofs.Common.{◌≡◌, map, drop}
+use Rattle.std.proofs.Common.{◌≡◌, ◌++◌, map, drop}
 use Rattle.hwdb_rulefiles.specs.TokenViews.{token_of}
 use Rattle.hwdb_rulerun.specs.Causes
+use Rattle.hwdb_rulerun.specs.CauseViews.{token_in}
 use Rattle.hwdb_rulerun.proofs.causes.parents_cause.Given as goal
 
 abbrev pub invariant-loop-token : goal.invariant-loop-token
-invariant-loop-token l = Causes.parents_cause (map token_of (drop l.token-index l.tokens)) ≡ Causes.parents_cause (map token_of l.tokens)
+invariant-loop-token l =
+    map token_in l.found.items ++ Causes.parents_cause (map token_of (drop l.token-index l.tokens)) ≡ Causes.parents_cause (map token_of l.tokens)

@@ -1,8 +1,7 @@
-use Rattle.std.proofs.Common.{◌≡◌, ◌∙◌, ap, map, string_bytes, subst, sym, Err, Global, List, Option, Result, String, ℕ}
+use Rattle.std.proofs.Common.{◌≡◌, ◌∙◌, ap, map, string_bytes, subst, sym, Err, Global, List, Option, String, ℕ}
 use Rattle.std.specs.Prelude.{option_map}
 use Rattle.hwdb_spec_commands.specs.Checks.{names_other, other_named, rules_name}
 use Rattle.hwdb_spec_commands.specs.declared.formats.Format.{Format}
-use Rattle.hwdb_spec_commands.specs.declared.unread.Unread.{Unread}
 use Rattle.hwdb_spec_commands.specs.declared.unread.Unread.TheVariants as unread
 use Rattle.hwdb_plan.specs.Check.{checked_plan, said_of}
 use Rattle.hwdb_plan.specs.Files.{OfInput}

@@ -1,4 +1,4 @@
-use Rattle.std.proofs.Common.{◌∙◌, sym, string_bytes, List, ℕ}
+use Rattle.std.proofs.Common.{◌∙◌, sym, string_bytes}
 use Rattle.std.specs.Prelude.{is_some, option_map}
 use Rattle.hwdb_spec_commands.specs.Checks.{nothing_named}
 use Rattle.hwdb_plan.specs.Baseline.{over_baseline}

@@ -1,4 +1,4 @@
-use Rattle.std.proofs.Common.{◌≡◌, map, string_bytes, subst, sym, Global, List, Option, Result, String, Vec, ℕ}
+use Rattle.std.proofs.Common.{map, string_bytes, subst, Global, List, Option, String, Vec, ℕ}
 use Rattle.std.specs.Prelude.{option_map}
 use Rattle.hwdb_spec_commands.specs.declared.formats.Format.{Format}
 use Rattle.hwdb_plan.specs.Baseline.{over_baseline}

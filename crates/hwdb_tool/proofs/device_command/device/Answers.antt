@@ -13,7 +13,7 @@ returns-in-Some-clause-follows g c = λ tells.
     let w = g.D.System.reads c.args.system.now in
     let sight = sight_by g.D.DeviceFiles.answers c.args.system.now in
     let root = c.args.root.now in
-    let form = c.args.form in
-    let result = c.shown.result in
-    subst (λ (o : Option (Bor (List ℕ))). OfCause (λ cause. Follows end_of w (device_plan sight cause asked_names root form (option_map (λ t. t.now) o)) result)) (sym c.in-Some.is)
-    (subst (λ (given : List ℕ). OfCause (λ cause. Follows end_of w (meant_plan sight cause asked_names root given form) result)) c.as_bytes.ensures.value (c.shown.ensures.follows tells))
+    let whose = c.args.whose in
+    let result = c.meant.result in
+    subst (λ (o : Option (Bor (List ℕ))). OfCause (λ cause. Follows end_of w (device_plan sight cause asked_names root whose (option_map (λ t. t.now) o)) result)) (sym c.in-Some.is)
+    (subst (λ (given : List ℕ). OfCause (λ cause. Follows end_of w (meant_plan sight cause asked_names root given whose) result)) c.as_bytes.ensures.value (c.meant.ensures.follows tells))

@@ -1,6 +1,5 @@
-use Rattle.std.proofs.Common.{Bool, IfOk, List, if◌then◌else◌, map, subst, sym, ℕ}
+use Rattle.std.proofs.Common.{Bool, IfOk, if◌then◌else◌, map, subst, sym}
 use Rattle.hwdb_check.specs.Checks.{source_of}
-use Rattle.hwdb_spec.specs.Tree.{Tree}
 use Rattle.hwdb_spec_commands.specs.Comparisons.{comparison_form, comparison_said, devices_named, has_changed}
 use Rattle.hwdb_spec_commands.specs.Databases.{IsDiffText, IsDifferent}
 use Rattle.hwdb_spec_commands.specs.Reviews.{review_in}

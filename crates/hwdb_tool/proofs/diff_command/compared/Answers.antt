@@ -1,4 +1,4 @@
-use Rattle.std.proofs.Common.{◌≡◌, Bool, List, map, subst, sym, ◌∙◌, ℕ, Err, Ok, Result, ap}
+use Rattle.std.proofs.Common.{◌≡◌, Bool, List, map, subst, sym, ℕ, Err, Ok, Result, ap}
 use Rattle.hwdb_check.specs.Checks.{source_of}
 use Rattle.hwdb_spec_commands.specs.SampleDevices.{told_changed, told_form, told_said}
 use Rattle.hwdb_spec_commands.specs.Databases.{IsDiffText, IsDifferent}

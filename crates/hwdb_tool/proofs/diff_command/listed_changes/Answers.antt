@@ -1,6 +1,5 @@
-use Rattle.std.proofs.Common.{ap, map, subst, sym, ℕ, IfOk, List, None, Option, ◌≡◌, ◌∙◌}
-use Rattle.hwdb_check.specs.Checks.{source_of}
-use Rattle.hwdb_spec_commands.specs.Comparisons.{comparison_form, comparison_said, devices_named, has_changed}
+use Rattle.std.proofs.Common.{ap, map, subst, sym, ℕ, IfOk, List, Option, ◌∙◌}
+use Rattle.hwdb_spec_commands.specs.Comparisons.{comparison_form, comparison_said, has_changed}
 use Rattle.hwdb_spec_commands.specs.Databases.{IsDiffText, IsDifferent}
 use Rattle.hwdb_spec_commands.specs.Reviews.{review_in}
 use Rattle.hwdb_tool.proofs.ComparisonLemmas.{all_named, none_named}

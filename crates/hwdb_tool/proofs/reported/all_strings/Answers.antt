@@ -1,7 +1,10 @@
 use Rattle.std.proofs.Common.{Err, List, Ok, string_bytes, subst, sym, ◌∙◌, ℕ}
+use Rattle.hwdb_exports.specs.declared.export.Export.{Export}
 use Rattle.hwdb_spec_commands.specs.AllStrings.{all_strings_text}
+use Rattle.hwdb_spec.specs.Lines.{is, pieces}
 use Rattle.hwdb_spec_commands.specs.DatabaseErrors.{IsDatabaseRefusal}
 use Rattle.hwdb_spec_commands.specs.Databases.{IsTextOf}
+use Rattle.hwdb_spec_commands.specs.Exports.{export_sight}
 use Rattle.hwdb_spec_commands.specs.Told.{IsStop}
 use Rattle.hwdb_spec_program.specs.DeviceErrors.{asked_names}
 use Rattle.hwdb_plan.specs.Asking.{asked}
@@ -34,10 +37,15 @@ returns-in-Ok-clause-follows g c = λ tells.
     let path = string_bytes c.in_ok-found.found.path in
     let bytes = c.in_ok-found.found.bytes.items in
     let a = c.with_error.result in
+    let sysfs = c.for_rules-sysfs.result in
     goes_on end_of w (asked root) (found_strings r) path bytes (Ok a) (c.in_ok-found.ensures.follows tells)
     (strings_ends w r path bytes a.status a.err.items a.out.items c.with_error.ensures.status (c.with_error.ensures.err ∙ c.in_ok-told.ensures)
     (subst (λ (t : List ℕ). IsTextOf (all_strings_text r.sight asked_names sys) bytes t) (sym c.with_error.ensures.out)
-    (subst (λ (b : List ℕ). IsTextOf (all_strings_text r.sight asked_names sys) b c.in-Ok.text.items) c.deref.ensures.value (c.in-Ok.ensures.text tt))))
+    (subst (λ (b : List ℕ). IsTextOf (all_strings_text r.sight asked_names sys) b c.in-Ok.text.items) c.deref.ensures.value
+    (subst (λ (f : List ℕ). IsTextOf (all_strings_text r.sight asked_names f) c.deref.result.now c.in-Ok.text.items) c.for_rules-sysfs.ensures.folder
+    (subst (λ (n : List (List ℕ)). IsTextOf (all_strings_text r.sight n sysfs.folder.now) c.deref.result.now c.in-Ok.text.items) c.for_rules-sysfs.ensures.names
+    (subst (λ (e : Export). IsTextOf (all_strings_text (export_sight e.bytes.now) (pieces (is 10) sysfs.names.now) sysfs.folder.now) c.deref.result.now c.in-Ok.text.items) c.for_rules-sysfs.ensures.files
+    (c.in-Ok.ensures.text tt)))))))
 
 pub returns-clause-follows : goal.returns-clause-follows
 returns-clause-follows g c = λ tells.

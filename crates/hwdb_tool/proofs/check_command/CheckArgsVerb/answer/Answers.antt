@@ -1,4 +1,4 @@
-use Rattle.std.proofs.Common.{map, string_bytes, subst, List, Result, ℕ}
+use Rattle.std.proofs.Common.{map, string_bytes, subst, List, ℕ}
 use Rattle.std.specs.Prelude.{option_map}
 use Rattle.hwdb_plan.specs.Check.{asked_plan}
 use Rattle.hwdb_plan.specs.Files.{OfInput}

@@ -1,4 +1,4 @@
-use Rattle.std.proofs.Common.{◌≡◌, ◌∙◌, false, true, subst, sym}
+use Rattle.std.proofs.Common.{◌∙◌, false, true, subst, sym}
 use Rattle.hwdb_plan.specs.Plans.{Follows, Plan}
 use Rattle.hwdb_spec_commands.specs.Jobs.{IsTask}
 use Rattle.hwdb_spec_commands.specs.Runs.{told_by}
