@@ -4,6 +4,7 @@ pub mod PartLemmas
 pub mod TrailLemmas
 pub mod SpellingLemmas
 pub mod WalkLemmas
+pub mod BeginningLemmas
 pub mod OrderLemmas
 pub mod MergeLemmas
 pub mod PairLemmas

@@ -1,4 +1,5 @@
 pub mod Views
+pub mod Beginnings
 pub mod Laws
 pub mod Rows
 pub mod Internal

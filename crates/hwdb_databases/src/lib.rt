@@ -29,13 +29,14 @@
 //! | `members` | the assignments of a database, one after another while it is walked |
 //! | `meeting` | two databases, walked side by side, and what changed; `abreast`: how far their ways are the same |
 //! | `trail` | the way to a node, as segments; `spelling`: its bytes, as far as they were read |
-//! | `walk` | all assignments of a database, by pattern and key |
+//! | `walk` | all assignments of a database, by pattern and key; `beginnings`: those whose pattern begins with a byte |
 //! | `laws` | laws of the map of a database, and of its dump |
 #![tactic(auto)]
 
 mod abreast;
 mod alike;
 mod amounts;
+mod beginnings;
 mod counting;
 mod counts_text;
 mod depths;
@@ -73,6 +74,7 @@ mod verification;
 mod walk;
 
 pub use amounts::{Amount, amount_of};
+pub use beginnings::assignments_from;
 pub use depths::depth_of;
 pub use difference::{Changes, diff, diff_samples};
 pub use freshness::{Standing, State, standing_of};

@@ -7,7 +7,7 @@
 //! A node's own assignments are those of `hwdb_query`, by one call. The loop isn't: the descent there keeps at each open node what
 //! is known of the device, and passes over what can't match. That takes memory. This one enters all nodes and counts how deep they
 //! are.
-ghost use Rattle.std.specs.Prelude.{◌≡◌, ◌<◌, ◌≤◌, ◌+◌, ◌++◌, ◌^◌, ℕ, All, List, [], None, map, max, reverse, length, is_some, true, IfNone, IfOk, IsSomeAnd, OnOk};
+ghost use Rattle.std.specs.Prelude.{◌≡◌, ◌<◌, ◌≤◌, ◌+◌, ◌++◌, ◌^◌, ◌∷◌, ℕ, All, List, [], None, map, max, reverse, length, is_some, true, IfNone, IfOk, IsSomeAnd, OnOk};
 ghost use Rattle.hwdb_spec.specs.Tree.{Tree, members_under, prefix_of};
 ghost use Rattle.hwdb_reader.specs.Unread.{file_at};
 ghost use Rattle.hwdb_reader.specs.Views.{tree_of, entered_tree};
@@ -96,6 +96,24 @@ impl<'a> Walk<'a> {
         root.law_tree();
         let mut walk = Walk::new(alloc, copies);
         walk.enter(None, root)?;
+        Ok(walk)
+    }
+
+    /// The same over the tree of a node that a byte leads to, if the path above it is empty.
+    pub(crate) fn start_below(
+        alloc: Global,
+        byte: u8,
+        node: Node<'a>,
+    ) -> Result<Walk<'a>, AllocError>
+        ensures walk { IfOk result (λ walk. IsWalkOf (tree_of node.entry) walk) }
+        ensures all { IfOk result (λ walk. own_of (path_of walk.trail) walk.at ++ rest_of walk
+            ≡ members_under (byte ∷ []) (tree_of node.entry)) }
+        ensures end { IfOk result (λ walk. IfNone walk.at (walk.stack.items ≡ [])) }
+        ensures copied { IfOk result (λ walk. IsCopied walk.trail) }
+    {
+        node.law_tree();
+        let mut walk = Walk::new(alloc, true);
+        walk.enter(Some(byte), node)?;
         Ok(walk)
     }
 
@@ -225,6 +243,25 @@ impl<'a> Walk<'a> {
     }
 }
 
+/// Adds what the nodes assign that a walk is at, or hasn't entered.
+pub(crate) fn push_rest<'a>(
+    alloc: Global,
+    walk: &mut Walk<'a>,
+    found: &mut Vec<StoredAssignment<'a>>,
+) -> Result<(), AllocError>
+    requires walk { (t : Tree) × IsWalkOf t walk.old }
+    requires end { IfNone walk.old.at (walk.old.stack.items ≡ []) }
+    requires copied { IsCopied walk.old.trail }
+    ensures { OnOk result (map assignment_of found.new.items ≡ map assignment_of found.old.items
+        ++ (own_of (path_of walk.old.trail) walk.old.at ++ rest_of walk.old)) }
+{
+    'nodes: while let Some(inside) = walk.at {
+        push_answers(alloc, inside, walk.trail.path(), found)?;
+        walk.next()?;
+    }
+    Ok(())
+}
+
 /// All that the database assigns, by pattern and then by key. Keys, values and paths are parts of the database's bytes.
 ///
 /// The time grows with the number of nodes and with the bytes of the patterns. The memory is a record for each
@@ -234,9 +271,6 @@ pub fn assignments<'a>(alloc: Global, db: &Db<'a>) -> Result<Vec<StoredAssignmen
 {
     let mut walk = Walk::start(alloc, true, db)?;
     let mut found = Vec::new(alloc);
-    'nodes: while let Some(inside) = walk.at {
-        push_answers(alloc, inside, walk.trail.path(), &mut found)?;
-        walk.next()?;
-    }
+    push_rest(alloc, &mut walk, &mut found)?;
     Ok(found)
 }

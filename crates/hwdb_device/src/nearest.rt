@@ -3,12 +3,10 @@ ghost use Rattle.std.specs.Prelude.{◌≡◌, ◌++◌, ◌∷◌, [], IfOk, On
 ghost use Rattle.hwdb_spec_commands.specs.DeviceTexts;
 ghost use Rattle.hwdb_spec_commands.specs.NearAsked.{database_patterns};
 ghost use Rattle.hwdb_spec_commands.specs.NearPrefixes.{prefix_report};
-ghost use Rattle.hwdb_near.specs.Views.{pattern_at};
 ghost use Rattle.hwdb_device.specs.Views.{all_found};
 ghost use Rattle.hwdb_ruleasks.specs.Views.{found_of};
 
-use hwdb_databases::assignments;
-use hwdb_near::{PatternAt, patterns_of, push_prefix_report};
+use hwdb_near::push_prefix_report;
 use hwdb_reader::Db;
 use hwdb_ruleasks::Found;
 use std::alloc::{AllocError, Global};
@@ -36,35 +34,19 @@ fn wanting<'f>(alloc: Global, found: &'f [Found<'_>]) -> Result<Vec<&'f [u8]>, A
     Ok(texts)
 }
 
-/// For each prefix that people set properties at the report of the pattern that is nearest to one of some texts, if there is one.
-fn prefix_reports(
-    alloc: Global,
-    patterns: &[PatternAt<'_>],
-    texts: &[&[u8]],
-) -> Result<Vec<u8>, AllocError>
+/// For each prefix that people set properties at the report of the pattern of a database that is nearest to one of some texts, if there is
+/// one.
+fn prefix_reports(alloc: Global, db: &Db<'_>, texts: &[&[u8]]) -> Result<Vec<u8>, AllocError>
     ensures { IfOk result (λ reports. reports.items ≡ flat_map
-        (prefix_report (map pattern_at patterns.now) (map (λ t. t.now) texts.now))
+        (prefix_report (database_patterns db.now) (map (λ t. t.now) texts.now))
         DeviceTexts.set_prefixes) }
 {
     let mut reports = Vec::new(alloc);
-    push_prefix_report(alloc, &mut reports, patterns, texts, b"evdev:")?;
-    push_prefix_report(alloc, &mut reports, patterns, texts, b"sensor:")?;
-    push_prefix_report(alloc, &mut reports, patterns, texts, b"mouse:")?;
-    push_prefix_report(alloc, &mut reports, patterns, texts, b"touchpad:")?;
-    push_prefix_report(alloc, &mut reports, patterns, texts, b"joystick:")?;
-    Ok(reports)
-}
-
-/// The same of the patterns of a database.
-fn reports(alloc: Global, db: &Db<'_>, found: &[Found<'_>]) -> Result<Vec<u8>, AllocError>
-    ensures { IfOk result (λ reports. reports.items ≡ flat_map
-        (prefix_report (database_patterns db.now) (DeviceTexts.wanting (all_found found.now)))
-        DeviceTexts.set_prefixes) }
-{
-    let texts = wanting(alloc, found)?;
-    let all = assignments(alloc, db)?;
-    let patterns = patterns_of(alloc, &all)?;
-    let reports = prefix_reports(alloc, &patterns, &texts)?;
+    push_prefix_report(alloc, &mut reports, db, texts, b"evdev:")?;
+    push_prefix_report(alloc, &mut reports, db, texts, b"sensor:")?;
+    push_prefix_report(alloc, &mut reports, db, texts, b"mouse:")?;
+    push_prefix_report(alloc, &mut reports, db, texts, b"touchpad:")?;
+    push_prefix_report(alloc, &mut reports, db, texts, b"joystick:")?;
     Ok(reports)
 }
 
@@ -91,6 +73,7 @@ pub(crate) fn push_nearest(
     ensures { OnOk result (text.new.items ≡ text.old.items
         ++ DeviceTexts.nearest_text (database_patterns db.now) (all_found found.now)) }
 {
-    let reports = reports(alloc, db, found)?;
+    let texts = wanting(alloc, found)?;
+    let reports = prefix_reports(alloc, db, &texts)?;
     push_part(text, &reports)
 }

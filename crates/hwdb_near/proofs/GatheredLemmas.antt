@@ -1,7 +1,6 @@
 -- Patterns of assignments, gathered from the last to the first.
-use Rattle.std.proofs.Common.{◌≡◌, ◌∙◌, ap, sym, refl, ℕ, ◌+◌, ◌<◌, Bool, true, false, List, [], ◌∷◌, ◌++◌, drop, length, map, get_or, reverse, cond, arith}
-use Rattle.std.proofs.lemmas.List.{drop_all, drop_more, map-append, reverse-append, reverse-reverse}
-use Rattle.hwdb_spec.specs.Assignment.{Assignment}
+use Rattle.std.proofs.Common.{◌≡◌, ◌∙◌, ap, sym, ℕ, ◌+◌, ◌<◌, Bool, true, false, List, [], ◌∷◌, ◌++◌, drop, length, map, get_or, reverse, cond, arith}
+use Rattle.std.proofs.lemmas.List.{drop_all, drop_more, map-append, reverse-append}
 use Rattle.hwdb_spec.specs.Folders.{same}
 use Rattle.hwdb_spec_commands.specs.Near.{PatternAt}
 use Rattle.hwdb_spec_commands.specs.NearAsked.{gather, gathered, is_before, pattern_of}

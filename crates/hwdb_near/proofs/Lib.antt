@@ -1,5 +1,6 @@
 pub mod ComputedLemmas
 mod PrefixLemmas
+mod FromLemmas
 pub mod OrderedLemmas
 pub mod NearestLemmas
 pub mod FileLemmas

@@ -54,7 +54,6 @@ mod wanted;
 
 pub use asked::{near_in_database, near_in_files};
 pub use counted::count_given;
-pub use databases::patterns_of;
 pub use found::PatternAt;
 pub use fronts::{Stop, stops};
 pub use hwdb_spec::NearError;

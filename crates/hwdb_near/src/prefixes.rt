@@ -1,13 +1,19 @@
 //! Of some texts with a prefix and of some patterns with it the two that are nearest.
 ghost use Rattle.std.specs.Prelude.{◌≡◌, ◌++◌, ◌∷◌, [], filter, map, option_map, IfOk, OnOk};
+ghost use Rattle.hwdb_spec_commands.specs.NearAsked.{database_patterns, gathered, pattern_of};
 ghost use Rattle.hwdb_spec_commands.specs.NearPrefixes as spec;
+ghost use Rattle.hwdb_query.specs.Views.{assignment_of_answer};
 ghost use Rattle.hwdb_near.specs.Views.{pattern_at};
 ghost use Rattle.hwdb_near.specs.Internal.Closest.{close_of};
 ghost use Rattle.hwdb_near.specs.Internal.Ratings.{rated_of};
 
+use crate::databases::patterns_of;
 use crate::found::{PatternAt, Rated};
 use crate::nearest::nearest_of;
 use crate::reports::push_near;
+use hwdb_databases::{assignments, assignments_from, members_are_the_map};
+use hwdb_query::StoredAssignment;
+use hwdb_reader::Db;
 use std::alloc::{AllocError, Global};
 
 /// A text, and the nearest pattern to it.
@@ -133,21 +139,60 @@ fn push_closest(
     }
 }
 
-/// Adds the report of the nearest pattern to one of some texts, among the patterns and texts that begin with a prefix. It adds
-/// nothing if there are none. Patterns that match aren't told.
+/// What a database assigns, as far as its patterns begin with the first byte of a prefix; all, if the prefix is empty.
+fn assigned_below<'a>(
+    alloc: Global,
+    db: &Db<'a>,
+    prefix: &[u8],
+) -> Result<Vec<StoredAssignment<'a>>, AllocError>
+    ensures { IfOk result (λ found. filter (spec.is_below prefix.now)
+        (gathered (map pattern_of (map assignment_of_answer found.items)))
+        ≡ filter (spec.is_below prefix.now) (database_patterns db.now)) }
+{
+    members_are_the_map();
+    db.root().law_tree();
+    match prefix.split_first() {
+        None => assignments(alloc, db),
+        Some((first, _)) => Ok(assignments_from(alloc, db, *first)?),
+    }
+}
+
+/// Adds the report of the closest pattern of a database with a prefix to one of some texts, if there is one.
+fn push_closest_below(
+    alloc: Global,
+    report: &mut Vec<u8>,
+    db: &Db<'_>,
+    texts: &[&[u8]],
+    prefix: &[u8],
+) -> Result<(), AllocError>
+    ensures { OnOk result (report.new.items ≡ report.old.items ++ spec.closest_report
+        (filter (spec.is_below prefix.now) (database_patterns db.now))
+        (map (λ t. t.now) texts.now)) }
+{
+    let found = assigned_below(alloc, db, prefix)?;
+    let patterns = patterns_of(alloc, &found)?;
+    let there = patterns_below(alloc, &patterns, prefix)?;
+    push_closest(alloc, report, &there, texts)
+}
+
+/// Adds the report of the nearest pattern to one of some texts, among the texts and the database's patterns that begin with a prefix. It
+/// adds nothing if there are none. Patterns that match aren't told.
 ///
-/// The only error is `AllocError`. For each such text the patterns are gone through once.
+/// The only error is `AllocError`. Of the database it walks what begins with the prefix's first byte, if a text has the prefix. For each
+/// such text these patterns are gone through once.
 pub fn push_prefix_report(
     alloc: Global,
     report: &mut Vec<u8>,
-    patterns: &[PatternAt<'_>],
+    db: &Db<'_>,
     texts: &[&[u8]],
     prefix: &[u8],
 ) -> Result<(), AllocError>
     ensures report { OnOk result (report.new.items ≡ report.old.items ++ spec.prefix_report
-        (map pattern_at patterns.now) (map (λ t. t.now) texts.now) prefix.now) }
+        (database_patterns db.now) (map (λ t. t.now) texts.now) prefix.now) }
 {
-    let texts_there = texts_below(alloc, texts, prefix)?;
-    let patterns_there = patterns_below(alloc, patterns, prefix)?;
-    push_closest(alloc, report, &patterns_there, &texts_there)
+    let there = texts_below(alloc, texts, prefix)?;
+    if there.is_empty() {
+        return Ok(());
+    }
+    push_closest_below(alloc, report, db, &there, prefix)
 }

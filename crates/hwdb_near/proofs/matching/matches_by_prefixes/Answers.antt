@@ -1,4 +1,4 @@
-use Rattle.std.proofs.Common.{◌≡◌, ◌∙◌, ◌↔◌, IsTrue, List, [], ℕ, subst}
+use Rattle.std.proofs.Common.{◌∙◌, ◌↔◌, IsTrue, List, [], ℕ, subst}
 use Rattle.hwdb_spec.specs.Patterns.{Matches, tokens}
 use Rattle.hwdb_near.proofs.MatchingLemmas.{is_hit}
 use Rattle.hwdb_near.proofs.matching.matches_by_prefixes.Goals as goal
