@@ -131,6 +131,7 @@ check: kit
 
 # `make check-edits SHARE=3/10` tries the third tenth of all wrong bodies, whatever their crates.
 check-edits:
+	tests/proofs/compiled
 ifneq ($(SHARE),)
 	tests/proofs/wrong-bodies --share $(SHARE)
 else
